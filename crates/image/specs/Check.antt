@@ -1,0 +1,76 @@
+-- What checking and reading an image give (document 01, "Named refusals" 1 to 4 and 8).
+use Prim.Native.Nat.{ℕ, _/_}
+use mathlib.Core.List.{List, [], _∷_}
+use mathlib.Core.Bool.{Bool, true, false}
+use mathlib.Core.Option.{Option, none, some}
+use lib.ListN.{length}
+use lib.Dec.{ltb}
+use Rattle.lists.specs.Each.{each}
+use Rattle.lists.specs.Laid.{laid}
+use Rattle.refusal.specs.declared.Refusal.{Refusal}
+use Rattle.refusal.specs.declared.Refusal.the-variants as refusal
+use Rattle.image.specs.Header.{versionOf, rangeCount, entryCount, lengthRight, headerRight}
+use Rattle.image.specs.Ranges.{rangeAt, rangeWords, firstBadRange, classIn}
+use Rattle.image.specs.Profile.{pointAt, roleAt, firstBadEntry, profileOf, noProfile, roleOf, afterRole, isMedial}
+use Rattle.image.specs.declared.Answer.{Answer}
+use Rattle.image.specs.declared.Answer.the-variants as answer
+use Rattle.image.specs.declared.Checked.{Checked}
+
+abbrev pub pickRefusal : Bool → Option Refusal → Option Refusal → Option Refusal
+pickRefusal true a b = a
+pickRefusal false a b = b
+
+-- the refusal of an index, where it is below the count
+abbrev pub refuseAt : (ℕ → Refusal) → ℕ → ℕ → Option Refusal → Option Refusal
+refuseAt f i n other = pickRefusal (ltb i n) (some (f i)) other
+
+-- the first in number order of 1 to 4 that applies; none: the image is accepted
+unfoldable pub refusalOf : List ℕ → Option Refusal
+refusalOf s =
+    pickRefusal (lengthRight s)
+    (pickRefusal (headerRight s)
+    (refuseAt refusal.Range (firstBadRange (rangeAt s) (rangeCount s)) (rangeCount s)
+    (refuseAt refusal.Entry (firstBadEntry (pointAt s) (roleAt s) (entryCount s)) (entryCount s) none))
+    (some refusal.Header))
+    (some refusal.Length)
+
+-- what an accepted image gives: version, number of ranges, and the profile
+abbrev pub acceptedOf : List ℕ → Checked
+acceptedOf s = record { answer = answer.Accepted (versionOf s) (rangeCount s); profile = profileOf s }
+
+abbrev pub refusedBy : Refusal → Checked
+refusedBy r = record { answer = answer.Refused r; profile = noProfile }
+
+abbrev pub checkBy : List ℕ → Option Refusal → Checked
+checkBy s none = acceptedOf s
+checkBy s (some r) = refusedBy r
+
+-- the answer of the check
+unfoldable pub checkOf : List ℕ → Checked
+checkOf s = checkBy s (refusalOf s)
+
+-- refusals 1 to 4, then 8 with the records needed, for a buffer of `words` words
+abbrev pub readRefusal : List ℕ → ℕ → Option Refusal → Option Refusal
+readRefusal s words none = pickRefusal (ltb (words / 3) (rangeCount s)) (some (refusal.Room (rangeCount s))) none
+readRefusal s words (some r) = some r
+
+-- the answer of reading, and what the buffer then holds: the ranges, three words each, and past them what was there
+unfoldable pub readOf : List ℕ → ℕ → Checked
+readOf s words = checkBy s (readRefusal s words (refusalOf s))
+
+abbrev pub wordsBy : List ℕ → List ℕ → Option Refusal → List ℕ
+wordsBy s out none = laid out 0 (each (λ (i : ℕ). rangeWords (rangeAt s i)) (rangeCount s))
+wordsBy s out (some r) = out
+
+unfoldable pub wordsAfter : List ℕ → List ℕ → List ℕ
+wordsAfter s out = wordsBy s out (readRefusal s (length out) (refusalOf s))
+
+-- the class of x in the ranges of an image, and its class after the profile; whether it is a medial
+unfoldable pub rangeClass : List ℕ → ℕ → ℕ
+rangeClass s x = classIn (rangeAt s) (rangeCount s) x
+
+unfoldable pub classOf : List ℕ → ℕ → ℕ
+classOf s x = afterRole (roleOf (profileOf s) x) (rangeClass s x)
+
+unfoldable pub medialOf : List ℕ → ℕ → Bool
+medialOf s x = isMedial (profileOf s) x

@@ -1,0 +1,53 @@
+-- The header of a class image: eight numbers in 32 bytes (document 01, "The class image"; refusals 1 and 2).
+use Prim.Native.Nat.{ℕ, _+_, _*_}
+use mathlib.Core.List.{List}
+use mathlib.Core.Bool.{Bool, true, false, _&&_}
+use lib.ListN.{length}
+use lib.Dec.{leb, eqb}
+use Rattle.image.specs.Word.{wordAt}
+use Rattle.image.specs.Limits.{maxRanges, maxEntries, headerBytes, rangeBytes, entryBytes, maxImage}
+
+abbrev pub formatOf : List ℕ → ℕ
+formatOf s = wordAt s 0
+
+abbrev pub versionOf : List ℕ → ℕ
+versionOf s = wordAt s 4
+
+abbrev pub totalOf : List ℕ → ℕ
+totalOf s = wordAt s 8
+
+abbrev pub rangeCount : List ℕ → ℕ
+rangeCount s = wordAt s 12
+
+abbrev pub rangeOffset : List ℕ → ℕ
+rangeOffset s = wordAt s 16
+
+abbrev pub entryCount : List ℕ → ℕ
+entryCount s = wordAt s 20
+
+abbrev pub entryOffset : List ℕ → ℕ
+entryOffset s = wordAt s 24
+
+abbrev pub zeroWord : List ℕ → ℕ
+zeroWord s = wordAt s 28
+
+-- where the profile entries begin after n ranges, and where an image of n ranges and m entries ends
+abbrev pub entriesAt : ℕ → ℕ
+entriesAt n = headerBytes + rangeBytes * n
+
+abbrev pub imageEnd : ℕ → ℕ → ℕ
+imageEnd n m = entriesAt n + entryBytes * m
+
+-- not refusal 1
+unfoldable pub lengthRight : List ℕ → Bool
+lengthRight s = leb headerBytes (length s) && (leb (length s) maxImage && eqb (totalOf s) (length s))
+
+-- not refusal 2
+unfoldable pub headerRight : List ℕ → Bool
+headerRight s =
+    eqb (formatOf s) 1
+    && (eqb (zeroWord s) 0
+    && (leb (rangeCount s) maxRanges
+    && (leb (entryCount s) maxEntries
+    && (eqb (rangeOffset s) headerBytes
+    && (eqb (entryOffset s) (entriesAt (rangeCount s)) && eqb (totalOf s) (imageEnd (rangeCount s) (entryCount s)))))))

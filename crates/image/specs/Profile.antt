@@ -1,0 +1,59 @@
+-- Profiles: code points with roles (document 01, "The class image"; refusal 4).
+use Prim.Native.Nat.{ℕ, zero, suc, _+_, _-_, _*_}
+use mathlib.Core.List.{List, [], _∷_}
+use mathlib.Core.Bool.{Bool, true, false, not, _&&_, _||_}
+use lib.Dec.{leb, ltb, eqb}
+use lib.ListN.{getD, replicate}
+use Rattle.lists.specs.First.{pickN, firstWhere}
+use Rattle.lists.specs.Each.{column}
+use Rattle.utf8.specs.Scalar.{isScalar}
+use Rattle.image.specs.Word.{wordAt}
+use Rattle.image.specs.Limits.{maxEntries, entryBytes}
+use Rattle.image.specs.Header.{rangeCount, entryCount, entriesAt}
+use Rattle.image.specs.declared.Profile.{Profile}
+
+-- the code point and the role of entry i of an image
+unfoldable pub pointAt : List ℕ → ℕ → ℕ
+pointAt s i = wordAt s (entriesAt (rangeCount s) + entryBytes * i)
+
+unfoldable pub roleAt : List ℕ → ℕ → ℕ
+roleAt s i = wordAt s (entriesAt (rangeCount s) + entryBytes * i + 4)
+
+-- the code point and the role of entry i of a record
+abbrev pub pointIn : Profile → ℕ → ℕ
+pointIn p i = getD (p .points) i 0
+
+abbrev pub roleIn : Profile → ℕ → ℕ
+roleIn p i = getD (p .roles) i 0
+
+-- a scalar value, a role of 1 to 4, and a code point above that of the entry before
+unfoldable pub goodEntry : (ℕ → ℕ) → (ℕ → ℕ) → ℕ → Bool
+goodEntry point role i =
+    isScalar (point i) && (leb 1 (role i) && (leb (role i) 4 && (eqb i 0 || ltb (point (i - 1)) (point i))))
+
+-- the index of the first bad entry of m, or m
+unfoldable pub firstBadEntry : (ℕ → ℕ) → (ℕ → ℕ) → ℕ → ℕ
+firstBadEntry point role m = firstWhere (λ (i : ℕ). not (goodEntry point role i)) m
+
+-- the record of an image's profile: its entries, and zeros past them
+unfoldable pub profileOf : List ℕ → Profile
+profileOf s =
+    record { points = column maxEntries (pointAt s) (entryCount s); roles = column maxEntries (roleAt s) (entryCount s); used = entryCount s }
+
+-- the record that stands beside a refusal: no entries, all zeros
+unfoldable pub noProfile : Profile
+noProfile = record { points = replicate maxEntries 0; roles = replicate maxEntries 0; used = 0 }
+
+-- the role of x: that of the entry with this code point; 0 where there is none
+unfoldable pub roleOf : Profile → ℕ → ℕ
+roleOf p x =
+    let i = firstWhere (λ (i : ℕ). eqb (pointIn p i) x) (p .used) in
+    pickN (ltb i (p .used)) (roleIn p i) 0
+
+-- the class after the profile: role 1 makes Start, 2 Nonstart, 4 Other; 3 keeps the class
+unfoldable pub afterRole : ℕ → ℕ → ℕ
+afterRole role class = pickN (eqb role 1) 1 (pickN (eqb role 2) 2 (pickN (eqb role 4) 5 class))
+
+-- role 3 marks a medial
+unfoldable pub isMedial : Profile → ℕ → Bool
+isMedial p x = eqb (roleOf p x) 3

@@ -1,0 +1,4 @@
+pub mod BoolLaws
+pub mod FirstLaws
+pub mod LaidLaws
+pub mod EachLaws

@@ -1,0 +1,50 @@
+-- Document 01, "Named refusals": the number of each refusal and what it carries.
+use Prim.Native.Nat.{ℕ}
+use mathlib.Core.List.{List, [], _∷_}
+use Rattle.refusal.specs.declared.Refusal.{Refusal}
+use Rattle.refusal.specs.declared.Refusal.the-variants.{
+  Length,
+  Header,
+  Range,
+  Entry,
+  TextLength,
+  IllFormed,
+  Characters,
+  Room,
+  NotScalar,
+  Change,
+  Profiles,
+  Buffer,
+  Shape,
+}
+
+abbrev pub numberOf : Refusal → ℕ
+numberOf Length = 1
+numberOf Header = 2
+numberOf (Range i) = 3
+numberOf (Entry i) = 4
+numberOf TextLength = 5
+numberOf (IllFormed p) = 6
+numberOf (Characters p) = 7
+numberOf (Room n) = 8
+numberOf (NotScalar x) = 9
+numberOf (Change x) = 10
+numberOf Profiles = 11
+numberOf (Buffer n) = 12
+numberOf Shape = 13
+
+-- what a refusal carries, in the table's order
+abbrev pub carriedBy : Refusal → List ℕ
+carriedBy Length = []
+carriedBy Header = []
+carriedBy (Range i) = i ∷ []
+carriedBy (Entry i) = i ∷ []
+carriedBy TextLength = []
+carriedBy (IllFormed p) = p ∷ []
+carriedBy (Characters p) = p ∷ []
+carriedBy (Room n) = n ∷ []
+carriedBy (NotScalar x) = x ∷ []
+carriedBy (Change x) = x ∷ []
+carriedBy Profiles = []
+carriedBy (Buffer n) = n ∷ []
+carriedBy Shape = []

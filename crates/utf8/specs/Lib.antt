@@ -1,0 +1,5 @@
+pub mod Scalar
+pub mod Table
+pub mod Head
+pub mod Lead
+pub mod Text

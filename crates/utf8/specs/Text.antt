@@ -1,0 +1,66 @@
+-- A text as characters, up to the first place at which no well-formed sequence begins.
+use Prim.Native.Nat.{ℕ, zero, suc, _+_}
+use mathlib.Core.List.{List, [], _∷_, _++_}
+use mathlib.Core.Path.{_≡_}
+use lib.ListN.{length, drop}
+use Rattle.utf8.specs.declared.Step.{Step}
+use Rattle.utf8.specs.declared.Step.the-variants.{Scalar, IllFormed, End}
+use Rattle.utf8.specs.declared.Text.{Text}
+use Rattle.utf8.specs.declared.Text.the-variants as text
+use Rattle.utf8.specs.Table.{Sequence, codePoint}
+use Rattle.utf8.specs.Head.{stepOf}
+
+-- a code point and the number of its bytes
+pub record Character : Type 0 where
+  pub code : ℕ
+  pub width : ℕ
+
+-- the characters of a text, and its bytes from the first ill-formed place on
+pub record Decoded : Type 0 where
+  pub characters : List Character
+  pub rest : List ℕ
+
+abbrev pub ended : List ℕ → Decoded
+ended s = record { characters = []; rest = s }
+
+abbrev pub before : Character → Decoded → Decoded
+before c d = record { characters = c ∷ d .characters; rest = d .rest }
+
+-- the bytes that follow where the step t stands at the head of s; f decodes what follows
+abbrev pub decodeBy : (List ℕ → Decoded) → List ℕ → Step → Decoded
+decodeBy f s (Scalar x n) = before (record { code = x; width = n }) (f (drop n s))
+decodeBy f s IllFormed = ended s
+decodeBy f s End = ended s
+
+-- at most k characters
+unfoldable pub decodeIn : ℕ → List ℕ → Decoded
+decodeIn zero s = ended s
+decodeIn (suc k) s = decodeBy (decodeIn k) s (stepOf s)
+
+-- a text has no more characters than bytes
+unfoldable pub decode : List ℕ → Decoded
+decode s = decodeIn (length s) s
+
+-- the bytes of characters
+abbrev pub widthOf : List Character → ℕ
+widthOf [] = 0
+widthOf (c ∷ cs) = c .width + widthOf cs
+
+-- whether a text is well-formed, or the first place at which no well-formed sequence begins
+abbrev pub textBy : ℕ → List ℕ → Text
+textBy p [] = text.WellFormed
+textBy p (b ∷ r) = text.IllFormed p
+
+unfoldable pub textOf : List ℕ → Text
+textOf s = textBy (widthOf (decode s .characters)) (decode s .rest)
+
+-- what `decode` means: well-formed sequences one after the other, up to the place where none begins
+abbrev pub NoSequence : List ℕ → Type 0
+NoSequence s = (q r : List ℕ) → s ≡ q ++ r → Sequence q → ⊥
+
+abbrev pub characterOf : List ℕ → Character
+characterOf q = record { code = codePoint q; width = length q }
+
+pub data Encoded : List ℕ → List Character → List ℕ → Type 0 where
+  ends : {s : List ℕ} → NoSequence s → Encoded s [] s
+  takes : {s : List ℕ} {cs : List Character} {rest : List ℕ} (q r : List ℕ) → s ≡ q ++ r → Sequence q → Encoded r cs rest → Encoded s (characterOf q ∷ cs) rest
