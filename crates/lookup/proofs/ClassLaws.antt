@@ -165,13 +165,13 @@ module _ (at : ℕ → Range) (n : ℕ) (good : GoodRanges at n) where
         (k : ℕ) → Finds k → (lo hi : ℕ) → hi - lo ≤ suc k → lo < hi → hi ≤ n → (0 < lo → at (lo - 1) .last < x) → (hi < n → x < at hi .first)
         → Dec (x < at ((lo + hi) / 2) .first) → Dec (at ((lo + hi) / 2) .last < x) → seekOf at lo hi x .class ≡ classIn at n x
     finds-step k f lo hi h l u p q (yes a) d =
-        ap (λ (t : Probe). t .class) (seek-low at x lo hi l a) ∙ f lo ((lo + hi) / 2) (omega arith) (omega arith) (omega arith) p (λ _. a)
+        ap (λ (t : Probe). t .class) (sym (seek-low at x lo hi _ refl l _ refl a)) ∙ f lo ((lo + hi) / 2) (omega arith) (omega arith) (omega arith) p (λ _. a)
     finds-step k f lo hi h l u p q (no a) (yes b) =
         let m = (lo + hi) / 2 in
         let z : m ≡ m + 1 - 1 = omega arith in
-        ap (λ (t : Probe). t .class) (seek-high at x lo hi l (omega arith) b) ∙ f (m + 1) hi (omega arith) (omega arith) u (λ _. rw z at b) q
+        ap (λ (t : Probe). t .class) (sym (seek-high at x lo hi _ refl l _ refl (omega arith) b)) ∙ f (m + 1) hi (omega arith) (omega arith) u (λ _. rw z at b) q
     finds-step k f lo hi h l u p q (no a) (no b) =
-        ap (λ (t : Probe). t .class) (seek-here at x lo hi l (omega arith) (omega arith))
+        ap (λ (t : Probe). t .class) (sym (seek-here at x lo hi _ refl l (omega arith) (omega arith)))
         ∙ sym (class-held ((lo + hi) / 2) x (omega arith) (omega arith) (omega arith))
 
     finds : (k : ℕ) → Finds k

@@ -52,16 +52,22 @@ module _ (at : ℕ → Range) (x : ℕ) where
       ∙ ap (λ (t : Bool). pickProbe t nothing (look (λ a b. seekIn k at a b x) at x lo hi m)) (lt-leb hi lo h)
       ∙ look-same (λ a b. seekIn k at a b x) (λ a b. seekIn (b - a) at a b x) lo hi m (enough k (m - lo) lo m (omega arith) (omega arith)) (enough k (hi - (m + 1)) (m + 1) hi (omega arith) (omega arith))
 
-  module _ (lo hi : ℕ) (some : lo < hi) where
-    pub seek-low : x < at ((lo + hi) / 2) .first → seekOf at lo hi x ≡ more (seekOf at lo ((lo + hi) / 2) x)
-    seek-low a = seek-step lo hi some ∙ simp (lt-leb _ _ a, lt-ltb _ _ a)
+  -- one step, by the range r that it looks at and the search p in the half that remains
+  module _ (lo hi : ℕ) (r : Range) (is : r ≡ at ((lo + hi) / 2)) (some : lo < hi) where
+    pub seek-low : (p : Probe) → p ≡ seekOf at lo ((lo + hi) / 2) x → x < r .first → more p ≡ seekOf at lo hi x
+    seek-low p e a = let b = rw is at a in ap more e ∙ sym (seek-step lo hi some ∙ simp (lt-leb _ _ b, lt-ltb _ _ b))
 
-    pub seek-high : at ((lo + hi) / 2) .first ≤ x → at ((lo + hi) / 2) .last < x → seekOf at lo hi x ≡ more (seekOf at ((lo + hi) / 2 + 1) hi x)
-    seek-high a b = seek-step lo hi some ∙ simp (le-leb _ _ a, lt-leb _ _ b, le-ltb _ _ a)
+    pub seek-high : (p : Probe) → p ≡ seekOf at ((lo + hi) / 2 + 1) hi x → r .first ≤ x → r .last < x → more p ≡ seekOf at lo hi x
+    seek-high p e a b =
+        let c = rw is at a in
+        let d = rw is at b in
+        ap more e ∙ sym (seek-step lo hi some ∙ simp (le-leb _ _ c, lt-leb _ _ d, le-ltb _ _ c))
 
-    pub seek-here :
-        at ((lo + hi) / 2) .first ≤ x → x ≤ at ((lo + hi) / 2) .last → seekOf at lo hi x ≡ record { class = at ((lo + hi) / 2) .class; count = 1 }
-    seek-here a b = seek-step lo hi some ∙ simp (le-leb _ _ a, le-leb _ _ b)
+    pub seek-here : r .first ≤ x → x ≤ r .last → record { class = r .class; count = 1 } ≡ seekOf at lo hi x
+    seek-here a b =
+        let c = rw is at a in
+        let d = rw is at b in
+        rw is (sym (seek-step lo hi some ∙ simp (le-leb _ _ c, le-leb _ _ d)))
 
   steps : (k j lo hi : ℕ) → hi - lo < 2 ^ j → seekIn k at lo hi x .count ≤ j
   steps zero j lo hi h = omega arith
@@ -79,6 +85,10 @@ module _ (at : ℕ → Range) (x : ℕ) where
   pub seek-count : (j lo hi : ℕ) → hi - lo < 2 ^ j → seekOf at lo hi x .count ≤ j
   unfolding seekOf
   seek-count j lo hi h = steps (hi - lo) j lo hi h
+
+  -- a count of steps fits a number of 64 bits, with one more
+  pub seek-fits : (lo hi : ℕ) (p : Probe) → p ≡ seekOf at lo hi x → hi < 2 ^ 64 → p .count ≤ 64
+  seek-fits lo hi p e h = rw e (seek-count 64 lo hi (omega arith))
 
   -- at most 13 steps in at most 4,096 ranges
   pub seek-thirteen : (n : ℕ) → n ≤ 4096 → seekOf at 0 n x .count ≤ 13
