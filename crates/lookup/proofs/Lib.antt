@@ -1,3 +1,4 @@
 pub mod HalvingLaws
 pub mod ClassLaws
 pub mod RoleLaws
+pub mod StretchLaws

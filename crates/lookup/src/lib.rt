@@ -1,12 +1,13 @@
 // Looking up the class of a code point in a class image, and stretches of code points with one class.
 ghost use mathlib.Core.Path.{_≡_};
-ghost use Prim.Native.Nat.{_+_, _*_, _≤_};
+ghost use Prim.Native.Nat.{_+_, _-_, _*_, _≤_, _<_};
 ghost use lib.ListN.{length};
 ghost use Rattle.image.specs.Limits.{headerBytes, rangeBytes, maxEntries};
 ghost use Rattle.image.specs.Ranges.{rangeAt};
 ghost use Rattle.image.specs.Profile.{roleOf, afterRole};
 ghost use Rattle.lookup.specs.Halving.{seekOf};
 ghost use Rattle.lookup.specs.Lookup.{profileBy};
+ghost use Rattle.lookup.specs.Stretch.{GoodRanges, Passed, Placed, StretchOf};
 use image::MAX_ENTRIES;
 use refusal::Refusal;
 
@@ -97,4 +98,90 @@ pub fn after_role(role: u32, class: u32) -> u32
         4 => 5,
         _ => class,
     }
+}
+
+// The place of x among the first n ranges of an image, by halving.
+pub fn place_of(image: &[u8], n: usize, x: u32) -> usize
+    requires { ⌜ headerBytes + rangeBytes * n ≤ length (now image) ⌝ }
+    ensures { λ r. ⌜ Placed (rangeAt (now (image .entry))) n r x ⌝ }
+{
+    let mut lo = 0;
+    let mut hi = n;
+    while lo < hi {
+        let mid = (lo + hi) / 2;
+        let r = image::range_at(image, mid);
+        if r.last < x {
+            lo = mid + 1;
+            continue;
+        }
+        hi = mid;
+    }
+    lo
+}
+
+// The place of x among the first n ranges of an image, from range i on, one range at a time.
+pub fn skip_ranges(image: &[u8], n: usize, i: usize, x: u32) -> usize
+    requires { ⌜ headerBytes + rangeBytes * n ≤ length (now image) ⌝ }
+    requires { ⌜ Passed (rangeAt (now image)) n i x ⌝ }
+    ensures { λ r. ⌜ Placed (rangeAt (now (image .entry))) n r x ⌝ }
+{
+    let mut k = i;
+    while k < n {
+        let r = image::range_at(image, k);
+        if x <= r.last {
+            return k;
+        }
+        k += 1;
+    }
+    k
+}
+
+// The first number after the range before range i.
+fn gap_start(image: &[u8], i: usize, x: u32) -> u32
+    requires { ⌜ headerBytes + rangeBytes * i ≤ length (now image) ⌝ }
+    requires { ⌜ (0 < i → rangeAt (now image) (i - 1) .last < x) ⌝ }
+    ensures { λ r. ⌜ (r ≤ x) × (0 < i → rangeAt (now (image .entry)) (i - 1) .last < r) ⌝ }
+{
+    if i == 0 {
+        return 0;
+    }
+    let r = image::range_at(image, i - 1);
+    r.last + 1
+}
+
+// The stretch of x, whose place among the first n ranges of an image is i.
+pub fn stretch_from(image: &[u8], n: usize, i: usize, x: u32) -> Stretch
+    requires { ⌜ headerBytes + rangeBytes * n ≤ length (now image) ⌝ }
+    requires { ⌜ Placed (rangeAt (now image)) n i x ⌝ }
+    ensures { λ r. ⌜ (GoodRanges (rangeAt (now (image .entry))) n → StretchOf (rangeAt (now (image .entry))) n x r) ⌝ }
+{
+    if n <= i {
+        return Stretch {
+            first: gap_start(image, i, x),
+            last: 0xFFFFFFFF,
+            class: 0,
+        };
+    }
+    let r = image::range_at(image, i);
+    if x < r.first {
+        return Stretch {
+            first: gap_start(image, i, x),
+            last: r.first - 1,
+            class: 0,
+        };
+    }
+    Stretch {
+        first: r.first,
+        last: r.last,
+        class: r.class,
+    }
+}
+
+// The stretch of x in the first n ranges of an image.
+pub fn find_stretch(image: &[u8], n: usize, x: u32) -> Stretch
+    requires { ⌜ headerBytes + rangeBytes * n ≤ length (now image) ⌝ }
+    ensures { λ r. ⌜ (GoodRanges (rangeAt (now (image .entry))) n → StretchOf (rangeAt (now (image .entry))) n x r) ⌝ }
+{
+    let i = place_of(image, n, x);
+    stretch_from(image, n, i, x)
 }
