@@ -2,3 +2,4 @@ pub mod HalvingLaws
 pub mod ClassLaws
 pub mod RoleLaws
 pub mod StretchLaws
+pub mod LookupLaws
