@@ -8,6 +8,7 @@ ghost use Rattle.image.specs.Profile.{roleOf, afterRole};
 ghost use Rattle.lookup.specs.Halving.{seekOf};
 ghost use Rattle.lookup.specs.Lookup.{profileBy};
 ghost use Rattle.lookup.specs.Stretch.{GoodRanges, Passed, Placed, StretchOf};
+ghost use Rattle.lookup.specs.Reach.{CutBy, CutOf, ReachOf};
 use image::MAX_ENTRIES;
 use refusal::Refusal;
 
@@ -28,6 +29,14 @@ pub struct Stretch {
     pub first: u32,
     pub last: u32,
     pub class: u32,
+}
+
+// Code points from `first` to `last` that have one role and one class after the profile.
+pub struct Reach {
+    pub first: u32,
+    pub last: u32,
+    pub class: u32,
+    pub role: u32,
 }
 
 // The halving search for x in the ranges lo to hi of an image.
@@ -184,4 +193,78 @@ pub fn find_stretch(image: &[u8], n: usize, x: u32) -> Stretch
 {
     let i = place_of(image, n, x);
     stretch_from(image, n, i, x)
+}
+
+// The part around x of the stretch s that doesn't hold p, if p isn't x.
+fn cut(s: Stretch, p: u32, x: u32) -> Stretch
+    requires { ⌜ (s .first ≤ x) × (x ≤ s .last) ⌝ }
+    ensures { λ r. ⌜ CutBy p x s r ⌝ }
+{
+    if p < s.first {
+        return s;
+    }
+    if s.last < p {
+        return s;
+    }
+    if p < x {
+        return Stretch {
+            first: p + 1,
+            last: s.last,
+            class: s.class,
+        };
+    }
+    if x < p {
+        return Stretch {
+            first: s.first,
+            last: p - 1,
+            class: s.class,
+        };
+    }
+    s
+}
+
+// The part around x of the stretch s that holds none of the first `used` code points, except x.
+fn cut_all(points: &[u32; MAX_ENTRIES], used: usize, x: u32, s: Stretch) -> Stretch
+    requires { ⌜ used ≤ maxEntries ⌝ }
+    requires { ⌜ (s .first ≤ x) × (x ≤ s .last) ⌝ }
+    ensures { λ r. ⌜ CutOf (now (points .entry)) used x s r ⌝ }
+{
+    let mut r = s;
+    let mut i = 0;
+    while i < used {
+        let p = points[i];
+        r = cut(r, p, x);
+        i += 1;
+    }
+    r
+}
+
+// The part around x of its stretch s on which every code point has the role of x in a profile.
+pub fn narrow<'a>(
+    points: &'a [u32; MAX_ENTRIES],
+    roles: &'a [u32; MAX_ENTRIES],
+    used: usize,
+    x: u32,
+    s: Stretch,
+) -> Reach
+    requires { ⌜ used ≤ maxEntries ⌝ }
+    requires { ⌜ (s .first ≤ x) × (x ≤ s .last) ⌝ }
+    ensures { λ r. ⌜ ReachOf (profileBy (now (points .entry)) (now (roles .entry)) used) x s r ⌝ }
+{
+    let role = role_of(points, roles, used, x);
+    if role != 0 {
+        return Reach {
+            first: x,
+            last: x,
+            class: after_role(role, s.class),
+            role,
+        };
+    }
+    let r = cut_all(points, used, x, s);
+    Reach {
+        first: r.first,
+        last: r.last,
+        class: r.class,
+        role: 0,
+    }
 }
