@@ -1,3 +1,5 @@
 pub mod ScanLaws
 pub mod DivisionLaws
 pub mod GrammarLaws
+pub mod Stability
+pub mod KindsStable

@@ -4,3 +4,5 @@ pub mod Division
 pub mod Meaning
 pub mod Grammar
 pub mod Kinds
+pub mod Permitted
+pub mod Firm
