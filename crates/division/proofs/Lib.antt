@@ -3,3 +3,5 @@ pub mod DivisionLaws
 pub mod GrammarLaws
 pub mod Stability
 pub mod KindsStable
+pub mod RoleLaws
+pub mod CasesHold

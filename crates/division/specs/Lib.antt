@@ -6,3 +6,7 @@ pub mod Grammar
 pub mod Kinds
 pub mod Permitted
 pub mod Firm
+pub mod Outcome
+pub mod Record
+pub mod Reading
+pub mod Cases
