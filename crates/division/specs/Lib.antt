@@ -10,3 +10,4 @@ pub mod Outcome
 pub mod Record
 pub mod Reading
 pub mod Cases
+pub mod Divided
