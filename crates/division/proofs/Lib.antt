@@ -9,3 +9,4 @@ pub mod RecordLaws
 pub mod OutcomeLaws
 pub mod AnswerLaws
 pub mod Demand2
+pub mod Demand3

@@ -11,3 +11,4 @@ pub mod Record
 pub mod Reading
 pub mod Cases
 pub mod Divided
+pub mod Promise
