@@ -20,7 +20,7 @@ use Rattle.division.specs.Grammar.{Kind, Token}
 use Rattle.division.specs.Outcome.{Outcome, given, refused, outcomeMap}
 use Rattle.division.specs.Record.{roomOf, tokensWidth, listedWords}
 use Rattle.division.specs.Reading.{meaningOf, readingOf, judged, outcomeOf, countOf, roomed, writtenOf, listOf, laidBy, listWords}
-use Rattle.division.specs.Divided.{Readable, Divided, Stopped}
+use Rattle.division.specs.Divided.{Readable, Divided, Stopped, NoDivision}
 use Rattle.division.proofs.DivisionLaws.{division-covers}
 use Rattle.division.proofs.GrammarLaws.{tokens-divide, tokens-unique}
 use Rattle.division.proofs.RecordLaws.{tokens-width}
@@ -92,20 +92,17 @@ module _ (s text : List ℕ) where
           outcome-passed h ∙ rw (← u .0, ← u .1, t .place)
 
   -- a well-formed text within the limit is refused for its characters exactly where there is no division that leaves nothing
-  abbrev NoDivision : Type 0
-  NoDivision = (ts : List (Tok Character Kind)) → Divided s text ts [] → ⊥
-
-  pub refused-exactly : {cs : List Character} → Readable s text cs → ((p : ℕ) × (outcomeOf s text ≡ refused (refusal.Characters p))) ↔ NoDivision
+  pub refused-exactly : {cs : List Character} → Readable s text cs → ((p : ℕ) × (outcomeOf s text ≡ refused (refusal.Characters p))) ↔ NoDivision s text
   refused-exactly q = (to, λ n. let h = readable-passed q in from h n (readingOf s text .tokens) (readingOf s text .left) (reading-divides h) (outcome-passed h))
     where
-      to : (p : ℕ) × (outcomeOf s text ≡ refused (refusal.Characters p)) → NoDivision
+      to : (p : ℕ) × (outcomeOf s text ≡ refused (refusal.Characters p)) → NoDivision s text
       to e ts d =
           let f = given-iff ts .1 d in
           let g = e .1 in
           let z : _≡_ {A = ℕ} 0 1 = cc in
           omega arith
 
-      from : Passed s text → NoDivision → (ts : List (Tok Character Kind)) (left : List Character) → Divided s text ts left →
+      from : Passed s text → NoDivision s text → (ts : List (Tok Character Kind)) (left : List Character) → Divided s text ts left →
           outcomeOf s text ≡ judged ts left → (p : ℕ) × (outcomeOf s text ≡ refused (refusal.Characters p))
       from h n ts [] d e = absurd (n ts d)
       from h n ts (c ∷ r) d e = (tokensWidth ts, e)
@@ -133,7 +130,7 @@ module _ (s text : List ℕ) where
   unfolding countOf
   count-refused r = (counts-refused (outcomeOf s text) r, ap (outcomeMap length))
 
-  pub count-exactly : {cs : List Character} → Readable s text cs → ((p : ℕ) × (countOf s text ≡ refused (refusal.Characters p))) ↔ NoDivision
+  pub count-exactly : {cs : List Character} → Readable s text cs → ((p : ℕ) × (countOf s text ≡ refused (refusal.Characters p))) ↔ NoDivision s text
   count-exactly q = (
     λ e. refused-exactly q .0 (e .0, count-refused (refusal.Characters (e .0)) .0 (e .1)),
     λ n. let e = refused-exactly q .1 n in (e .0, count-refused (refusal.Characters (e .0)) .1 (e .1)),
@@ -184,7 +181,7 @@ module _ (s text : List ℕ) where
             let k : length (g .0) ≡ n = cc (g .2) in
             (g .0, given-iff (g .0) .0 (g .1), k, rw k at (g .3))
 
-    pub list-exactly : {cs : List Character} → Readable s text cs → ((p : ℕ) × (listOf s text words ≡ refused (refusal.Characters p))) ↔ NoDivision
+    pub list-exactly : {cs : List Character} → Readable s text cs → ((p : ℕ) × (listOf s text words ≡ refused (refusal.Characters p))) ↔ NoDivision s text
     list-exactly q = (
       λ e. refused-exactly q .0 (e .0, list-refused (refusal.Characters (e .0)) (omega arith) .0 (e .1)),
       λ n. let e = refused-exactly q .1 n in (e .0, list-refused (refusal.Characters (e .0)) (omega arith) .1 (e .1)),

@@ -3,7 +3,7 @@ use Prim.Native.Nat.{ℕ, _+_, _*_}
 use mathlib.Core.Path.{_≡_, refl, sym, ap, _∙_}
 use mathlib.Core.Bool.{Bool, true, false}
 use mathlib.Core.List.{List, [], _∷_, _++_}
-use mathlib.Core.Logic.{_⊎_, inl, inr}
+use mathlib.Core.Logic.{_⊎_, inl, inr, ⊎-map}
 use mathlib.Core.Option.{Option, none, some}
 use native.Mathlib.Nat.{add-zero}
 use native.Mathlib.Omega.{arith}
@@ -30,12 +30,14 @@ use Rattle.division.specs.Firm.{Allowed, Firm, Changed, Touched}
 use Rattle.division.specs.Outcome.{Outcome, given, refused, outcomeMap}
 use Rattle.division.specs.Record.{recordSize, roomOf, tokensWidth, listedWords}
 use Rattle.division.specs.Reading.{meaningOf, readingOf, lengthRefusal, formRefusal, judged, outcomeOf, countOf, roomed, writtenOf, listOf, laidBy, listWords}
+use Rattle.division.specs.Divided.{Divided, Stopped}
 use Rattle.division.specs.Promise.{Later, StandsAt, AnotherClass, NextChanged, Excepted, Promise, listIn, Demand3}
 use Rattle.division.proofs.RoleLaws.{after-role}
 use Rattle.division.proofs.KindsStable.{firm-or-touched, reading-stable}
 use Rattle.division.proofs.OutcomeLaws.{left-at}
 use Rattle.division.proofs.RecordLaws.{length-listed}
 use Rattle.division.proofs.AnswerLaws.{counts-given, roomed-given}
+use Rattle.division.proofs.Demand2.{given-iff, refused-iff}
 
 -- the first character of a text is the code point whose bytes begin it
 first-step : (s : List ℕ) (c : Character) (r : List Character) → decode s .characters ≡ c ∷ r → stepOf s ≡ Scalar (c .code) (c .width)
@@ -163,6 +165,19 @@ module _ (older newer text : List ℕ) (L : Later older newer) where
       go (inl f) = f ∙ e
       go (inr k) = let f = k .1 in let z : _≡_ {A = ℕ} 0 1 = cc in absurd (omega arith)
 
+  stopped-same : (p : ℕ) → outcomeOf older text ≡ refused (Characters p) → (outcomeOf newer text ≡ refused (Characters p)) ⊎ Excepted older newer text p
+  stopped-same p e = go kept
+    where
+      go : Kept → (outcomeOf newer text ≡ refused (Characters p)) ⊎ Excepted older newer text p
+      go (inl f) = inl (f ∙ e)
+      go (inr k) = let f = k .1 in let q : k .0 ≡ p = cc in inr (rw q at (k .2))
+
+  division : (ts : List (Tok Character Kind)) → Divided older text ts [] → Divided newer text ts []
+  division ts d = given-iff newer text ts .0 (accepted-same ts (given-iff older text ts .1 d))
+
+  stopped : (p : ℕ) → Stopped older text p → Stopped newer text p ⊎ Excepted older newer text p
+  stopped p d = ⊎-map (refused-iff newer text p .0) (λ x. x) (stopped-same p (refused-iff older text p .1 d))
+
   module _ (out newOut : List ℕ) (room : roomOf (length newOut) ≡ roomOf (length out)) where
     roomed-alike : (o : Outcome (List (Tok Character Kind))) → roomed (length newOut) o ≡ roomed (length out) o
     roomed-alike (given ts) = rw room
@@ -190,6 +205,8 @@ module _ (older newer text : List ℕ) (L : Later older newer) where
 pub demand-3 : (older newer : List ℕ) → Later older newer → (text out newOut : List ℕ) → roomOf (length newOut) ≡ roomOf (length out) → Demand3 older newer text out newOut
 demand-3 older newer L text out newOut room =
     record {
+      division = division older newer text L;
+      stopped = stopped older newer text L;
       counting = counting older newer text L;
       writing = writing older newer text L out newOut room;
       sameList = same-list older newer text L out newOut room;

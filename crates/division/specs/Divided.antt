@@ -31,3 +31,7 @@ pub record Stopped (s text : List ℕ) (p : ℕ) : Type 0 where
   pub others : List Character
   pub divided : Divided s text tokens (first ∷ others)
   pub place : p ≡ tokensWidth tokens
+
+-- no run of longest tokens reaches the text's end
+abbrev pub NoDivision : List ℕ → List ℕ → Type 0
+NoDivision s text = (ts : List (Tok Character Kind)) → Divided s text ts [] → ⊥

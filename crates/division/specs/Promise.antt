@@ -2,7 +2,7 @@
 use Prim.Native.Nat.{ℕ, _+_, _*_}
 use mathlib.Core.Path.{_≡_}
 use mathlib.Core.Bool.{true}
-use mathlib.Core.List.{List}
+use mathlib.Core.List.{List, []}
 use mathlib.Core.Logic.{_⊎_}
 use mathlib.Core.Option.{none}
 use lib.ListN.{length, take, drop}
@@ -15,10 +15,14 @@ use Rattle.utf8.specs.Head.{stepOf}
 use Rattle.image.specs.Class.{classNamed}
 use Rattle.image.specs.Profile.{profileOf}
 use Rattle.image.specs.Check.{refusalOf, rangeClass, classOf, medialOf}
+use Rattle.utf8.specs.Text.{Character}
+use Rattle.division.specs.Scan.{Tok}
+use Rattle.division.specs.Grammar.{Kind}
 use Rattle.division.specs.Permitted.{Permitted}
 use Rattle.division.specs.Outcome.{Outcome, given, refused}
 use Rattle.division.specs.Record.{recordSize}
 use Rattle.division.specs.Reading.{countOf, listOf, listWords}
+use Rattle.division.specs.Divided.{Divided, Stopped}
 
 -- two accepted images with equal profiles, the newer differing only by permitted changes:
 -- at every scalar value the two classes in the ranges are equal, or the change is permitted
@@ -65,9 +69,12 @@ module _ (older newer text : List ℕ) where
 abbrev pub listIn : ℕ → List ℕ → List ℕ
 listIn n out = take (recordSize * n) out
 
--- demand 3 for counting a text's tokens and for writing their list into the buffers `out` and `newOut`
+-- demand 3 for a text, and for counting its tokens and writing their list into the buffers `out` and `newOut`
 pub record Demand3 (older newer text out newOut : List ℕ) : Type 0 where
+  -- of demand 2's division itself
+  pub division : (ts : List (Tok Character Kind)) → Divided older text ts [] → Divided newer text ts []
+  pub stopped : (p : ℕ) → Stopped older text p → Stopped newer text p ⊎ Excepted older newer text p
+  -- of the answers, and word for word of the list
   pub counting : Promise older newer text (countOf older text) (countOf newer text)
   pub writing : Promise older newer text (listOf older text (length out)) (listOf newer text (length newOut))
-  -- word for word the same list
   pub sameList : (n : ℕ) → listOf older text (length out) ≡ given n → listIn n (listWords newer text newOut) ≡ listIn n (listWords older text out)
