@@ -1,13 +1,10 @@
 -- Demand 2 for tokens: counting and writing give the one division of a text into longest tokens, and 7 exactly where there is none. Assumes nothing.
 use Prim.Native.Nat.{ℕ, _≤_, _<_}
 use mathlib.Core.Path.{_≡_, refl, sym, ap, _∙_}
-use mathlib.Core.Bool.{Bool, true, false}
-use mathlib.Core.List.{List, [], _∷_, _++_, append-nil}
+use mathlib.Core.List.{List, [], _∷_, append-nil}
 use mathlib.Core.Logic.{_↔_, _⊎_, inl, inr}
 use native.Mathlib.Omega.{arith}
 use lib.ListN.{length, drop, length-drop}
-use lib.Dec.{ltb}
-use borrow.Author.Tests.{ltb-true, ltb-false, lt-ltb, le-ltb}
 use Rattle.lists.specs.Laid.{laid}
 use Rattle.refusal.specs.declared.Refusal.{Refusal}
 use Rattle.refusal.specs.declared.Refusal.the-variants as refusal
@@ -15,9 +12,8 @@ use Rattle.refusal.specs.Refusal.{numberOf}
 use Rattle.utf8.specs.Text.{Character, decode, widthOf}
 use Rattle.utf8.proofs.TextLaws.{encoded-unique, covers}
 use Rattle.division.specs.Scan.{Tok, unitsOf}
-use Rattle.division.specs.Division.{Division}
 use Rattle.division.specs.Grammar.{Kind, Token}
-use Rattle.division.specs.Outcome.{Outcome, given, refused, outcomeMap}
+use Rattle.division.specs.Outcome.{given, refused, outcomeMap}
 use Rattle.division.specs.Record.{roomOf, tokensWidth, listedWords}
 use Rattle.division.specs.Reading.{meaningOf, readingOf, judged, outcomeOf, countOf, roomed, writtenOf, listOf, laidBy, listWords}
 use Rattle.division.specs.Divided.{Readable, Divided, Stopped, NoDivision}

@@ -1,15 +1,13 @@
 -- Demand 3: what counting and writing the list answer under an older image and under a newer one. Assumes nothing.
 use Prim.Native.Nat.{ℕ, _+_, _*_}
 use mathlib.Core.Path.{_≡_, refl, sym, ap, _∙_}
-use mathlib.Core.Bool.{Bool, true, false}
-use mathlib.Core.List.{List, [], _∷_, _++_}
+use mathlib.Core.Bool.{true}
+use mathlib.Core.List.{List, [], _∷_}
 use mathlib.Core.Logic.{_⊎_, inl, inr, ⊎-map}
 use mathlib.Core.Option.{Option, none, some}
-use native.Mathlib.Nat.{add-zero}
 use native.Mathlib.Omega.{arith}
 use lib.ListN.{length, take, drop}
 use lib.Seq.{drop-drop, take-at}
-use Rattle.lists.specs.Laid.{laid}
 use Rattle.refusal.specs.declared.Refusal.{Refusal}
 use Rattle.refusal.specs.declared.Refusal.the-variants.{Characters}
 use Rattle.refusal.specs.Refusal.{numberOf}
@@ -17,21 +15,20 @@ use Rattle.utf8.specs.declared.Step.{Step}
 use Rattle.utf8.specs.declared.Step.the-variants.{Scalar, IllFormed, End}
 use Rattle.utf8.specs.Scalar.{isScalar}
 use Rattle.utf8.specs.Head.{stepOf}
-use Rattle.utf8.specs.Text.{Character, decode, widthOf}
+use Rattle.utf8.specs.Text.{Character, decode}
 use Rattle.utf8.proofs.TextLaws.{decode-scalar, decode-ill, decode-end, AllScalar, scalars}
-use Rattle.image.specs.Class.{Class, classNamed, class-discrete}
+use Rattle.image.specs.Class.{classNamed}
 use Rattle.image.specs.Profile.{profileOf, roleOf, isMedial}
-use Rattle.image.specs.Check.{refusalOf, rangeClass, classOf, medialOf}
+use Rattle.image.specs.Check.{rangeClass, classOf, medialOf}
 use Rattle.division.specs.All.{All}
 use Rattle.division.specs.Scan.{Tok}
 use Rattle.division.specs.Grammar.{Kind}
-use Rattle.division.specs.Permitted.{Permitted}
 use Rattle.division.specs.Firm.{Allowed, Firm, Changed, Touched}
 use Rattle.division.specs.Outcome.{Outcome, given, refused, outcomeMap}
 use Rattle.division.specs.Record.{recordSize, roomOf, tokensWidth, listedWords}
 use Rattle.division.specs.Reading.{meaningOf, readingOf, lengthRefusal, formRefusal, judged, outcomeOf, countOf, roomed, writtenOf, listOf, laidBy, listWords}
 use Rattle.division.specs.Divided.{Divided, Stopped}
-use Rattle.division.specs.Promise.{Later, StandsAt, AnotherClass, NextChanged, Excepted, Promise, listIn, Demand3}
+use Rattle.division.specs.Promise.{Later, AnotherClass, NextChanged, Excepted, Promise, listIn, Demand3}
 use Rattle.division.proofs.RoleLaws.{after-role}
 use Rattle.division.proofs.KindsStable.{firm-or-touched, reading-stable}
 use Rattle.division.proofs.OutcomeLaws.{left-at}

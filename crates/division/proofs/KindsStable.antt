@@ -4,11 +4,10 @@ use mathlib.Core.Bool.{Bool, true, false, false≢true, true≢false, _&&_, _||_
 use mathlib.Core.List.{List, [], _∷_, _++_}
 use mathlib.Core.Option.{Option, none, some}
 use mathlib.Core.Logic.{_⊎_, inl, inr}
-use Prim.Native.Nat.{ℕ, suc, _≤_}
+use Prim.Native.Nat.{ℕ, suc}
 use native.Mathlib.Omega.{arith}
-use lib.ListN.{length}
 use Rattle.lists.proofs.BoolLaws.{or-cases, and-left, and-right, and-in, or-left, or-right, or-false}
-use Rattle.image.specs.Class.{Class, Start, White, class-discrete}
+use Rattle.image.specs.Class.{Class, class-discrete}
 use Rattle.division.specs.All.{All}
 use Rattle.division.specs.Scan.{Tok, Reading, opened, stopped, goes, walk, reading}
 use Rattle.division.specs.Division.{Division}

@@ -1,12 +1,12 @@
 -- Which refusals stand before 7, when none of them is given, and where the characters left by a reading stand. Assumes nothing.
-use Prim.Native.Nat.{ℕ, _+_, _≤_}
+use Prim.Native.Nat.{ℕ, _≤_}
 use mathlib.Core.Path.{_≡_, refl, sym, ap, _∙_}
 use mathlib.Core.Bool.{Bool, true, false}
 use mathlib.Core.List.{List, [], _∷_, _++_}
 use mathlib.Core.Option.{Option, none, some}
 use native.Mathlib.Omega.{arith}
 use native.Mathlib.Decide.{decLe}
-use lib.ListN.{length, take, drop, length-append}
+use lib.ListN.{length, drop, length-append}
 use lib.Seq.{take-append-seam, drop-append-seam}
 use lib.Dec.{ltb}
 use borrow.Author.Tests.{ltb-false, le-ltb}
@@ -15,15 +15,15 @@ use Rattle.refusal.specs.declared.Refusal.the-variants as refusal
 use Rattle.refusal.specs.Refusal.{numberOf}
 use Rattle.utf8.specs.declared.Text.{Text}
 use Rattle.utf8.specs.declared.Text.the-variants.{WellFormed, IllFormed}
-use Rattle.utf8.specs.Text.{Character, decode, widthOf, textBy, textOf, Encoded}
+use Rattle.utf8.specs.Text.{Character, decode, widthOf, textBy, textOf}
 use Rattle.utf8.proofs.TextLaws.{encodes, encoded-unique, splits}
 use Rattle.image.specs.Header.{lengthRight, headerRight, rangeCount, entryCount}
 use Rattle.image.specs.Ranges.{rangeAt, firstBadRange}
 use Rattle.image.specs.Profile.{pointAt, roleAt, firstBadEntry}
-use Rattle.image.specs.Check.{pickRefusal, refuseAt, refusalOf}
+use Rattle.image.specs.Check.{pickRefusal, refusalOf}
 use Rattle.division.specs.Scan.{Tok, unitsOf}
 use Rattle.division.specs.Grammar.{Kind}
-use Rattle.division.specs.Outcome.{Outcome, given, refused, unless, refusedIf}
+use Rattle.division.specs.Outcome.{given, refused, refusedIf}
 use Rattle.division.specs.Record.{tokensWidth}
 use Rattle.division.specs.Reading.{maxText, rulesOf, readingOf, lengthRefusal, formRefusalBy, formRefusal, judged, outcomeOf}
 use Rattle.division.specs.Divided.{Readable}
