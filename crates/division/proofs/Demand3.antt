@@ -87,7 +87,7 @@ module _ (older newer text : List ℕ) (L : Later older newer) where
   reading-same g = reading-stable (meaningOf older) (meaningOf newer) (decode text .characters) (all-allowed (decode text .characters) (scalars text)) g
 
   -- a character of another class after the profile, as a number
-  another : (c : Character) (r : List Character) → Changed (meaningOf older) (meaningOf newer) (c ∷ r) → AnotherClass older newer text (c .code)
+  another : (c : Character) (r : List Character) → Changed (meaningOf older) (meaningOf newer) (c ∷ r) → AnotherClass older newer (c .code)
   unfolding meaningOf
   another c r n e = n (ap classNamed e)
 
@@ -104,7 +104,7 @@ module _ (older newer text : List ℕ) (L : Later older newer) where
       after : decode (drop (p + c .width) text) .characters ≡ r
       after = rw (drop-drop (c .width) p text) at (next-characters (drop p text) c r e)
 
-      go : Touched (meaningOf older) (meaningOf newer) (c ∷ r) → AnotherClass older newer text (c .code) ⊎ NextChanged older newer text (c .code) (p + c .width)
+      go : Touched (meaningOf older) (meaningOf newer) (c ∷ r) → AnotherClass older newer (c .code) ⊎ NextChanged older newer text (c .code) (p + c .width)
       go (inl n) = inl (another c r n)
       go (inr n) = inr (next-changed (p + c .width) c r after (n .0) (n .1))
 

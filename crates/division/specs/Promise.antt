@@ -12,10 +12,10 @@ use Rattle.refusal.specs.Refusal.{numberOf}
 use Rattle.utf8.specs.declared.Step.the-variants.{Scalar}
 use Rattle.utf8.specs.Scalar.{isScalar}
 use Rattle.utf8.specs.Head.{stepOf}
+use Rattle.utf8.specs.Text.{Character}
 use Rattle.image.specs.Class.{classNamed}
 use Rattle.image.specs.Profile.{profileOf}
 use Rattle.image.specs.Check.{refusalOf, rangeClass, classOf, medialOf}
-use Rattle.utf8.specs.Text.{Character}
 use Rattle.division.specs.Scan.{Tok}
 use Rattle.division.specs.Grammar.{Kind}
 use Rattle.division.specs.Permitted.{Permitted}
@@ -36,25 +36,25 @@ pub record Later (older newer : List ℕ) : Type 0 where
 abbrev pub StandsAt : List ℕ → ℕ → ℕ → ℕ → Type 0
 StandsAt text p x n = stepOf (drop p text) ≡ Scalar x n
 
-module _ (older newer text : List ℕ) where
-  -- x has another class after the profile in the newer
-  abbrev pub AnotherClass : ℕ → Type 0
-  AnotherClass x = classOf newer x ≡ classOf older x → ⊥
+-- x has another class after the profile in the newer
+abbrev pub AnotherClass : List ℕ → List ℕ → ℕ → Type 0
+AnotherClass older newer x = classOf newer x ≡ classOf older x → ⊥
 
+module _ (older newer text : List ℕ) where
   -- x is a medial, and the code point right after it, at byte p, has another class
   pub record NextChanged (x p : ℕ) : Type 0 where
     pub medial : medialOf older x ≡ true
     pub next : ℕ
     pub width : ℕ
     pub stands : StandsAt text p next width
-    pub another : AnotherClass next
+    pub another : AnotherClass older newer next
 
   -- the character at byte p has another class in the newer, or it is a medial and the next one has
   pub record Excepted (p : ℕ) : Type 0 where
     pub character : ℕ
     pub width : ℕ
     pub stands : StandsAt text p character width
-    pub changed : AnotherClass character ⊎ NextChanged character (p + width)
+    pub changed : AnotherClass older newer character ⊎ NextChanged character (p + width)
 
   -- what demand 3 says of the answers of a call under the older and under the newer image
   pub record Promise (a b : Outcome ℕ) : Type 0 where
