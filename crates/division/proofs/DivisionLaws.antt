@@ -1,12 +1,12 @@
 -- A text has one division only, and a one-pass reader that fits the tokens gives it. Assumes nothing.
 use mathlib.Core.Path.{_≡_, refl, sym, _∙_, ap, subst}
 use mathlib.Core.Bool.{Bool, true, false}
-use mathlib.Core.List.{List, [], _∷_, _++_}
+use mathlib.Core.List.{List, [], _∷_, _++_, append-assoc}
 use mathlib.Core.Option.{Option, none, some}
 use Prim.Native.Nat.{ℕ, suc, _≤_}
 use native.Mathlib.Omega.{arith}
 use lib.ListN.{length}
-use Rattle.division.specs.Scan.{Rules, Tok, Reading, goes, walk, reading}
+use Rattle.division.specs.Scan.{Rules, Tok, Reading, unitsOf, goes, walk, reading}
 use Rattle.division.specs.Division.{Longest, NoToken, Division, ends, takes}
 use Rattle.division.proofs.ScanLaws.{walk-nil, walk-more, walk-stop, walk-open, run-none}
 
@@ -111,3 +111,14 @@ module _ {A K : Type 0} (Token : K → List A → Type 0) where
         let p = reads none s in
         let e : p .0 ≡ s = sym (p .1 ∙ ap (λ x. x ++ p .0) (run-none R s)) in
         rw e at (p .2)
+
+module _ {A K : Type 0} (Token : K → List A → Type 0) where
+  -- the tokens' units and what is left are the text, and no token begins what is left
+  pub division-covers : {s left : List A} {ts : List (Tok A K)} → Division Token s ts left → s ≡ unitsOf ts ++ left
+  division-covers (ends n) = refl
+  division-covers (takes {u = u} {ts = ts} {left = left} L d) =
+      L .whole ∙ ap (λ x. u ++ x) (division-covers d) ∙ sym (append-assoc u (unitsOf ts) left)
+
+  pub division-ends : {s left : List A} {ts : List (Tok A K)} → Division Token s ts left → NoToken Token left
+  division-ends (ends n) = n
+  division-ends (takes L d) = division-ends d

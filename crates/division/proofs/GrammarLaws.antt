@@ -1,10 +1,10 @@
 -- The one-pass reader of the three kinds gives the one division of a text into the tokens of the grammar. Assumes nothing.
 use mathlib.Core.Path.{_≡_, refl, ap}
-use mathlib.Core.Bool.{Bool, true, false, false≢true, _&&_, _||_}
+use mathlib.Core.Bool.{Bool, true, false, false≢true, _&&_}
 use mathlib.Core.List.{List, [], _∷_, _++_}
-use mathlib.Core.Option.{Option, none, some}
+use mathlib.Core.Option.{some}
 use mathlib.Core.Logic.{_↔_, _⊎_, inl, inr}
-use Prim.Native.Nat.{ℕ, _≤_, zero-le, suc-le-suc}
+use Prim.Native.Nat.{_≤_, zero-le, suc-le-suc}
 use lib.ListN.{length}
 use Rattle.lists.proofs.BoolLaws.{or-cases, and-left, and-right, and-in, or-left, or-right}
 use Rattle.image.specs.Class.{Class, Unassigned, Start, Nonstart, Syntax, White, Other}
@@ -12,21 +12,7 @@ use Rattle.division.specs.All.{All}
 use Rattle.division.specs.Scan.{Tok, walk, reading}
 use Rattle.division.specs.Division.{Division}
 use Rattle.division.specs.Meaning.{Meaning}
-use Rattle.division.specs.Grammar.{
-  Kind,
-  identifier,
-  syntax,
-  whitespace,
-  Continue,
-  IsContinue,
-  IsMedial,
-  IsWhite,
-  Groups,
-  no-group,
-  group,
-  Identifier,
-  Token,
-}
+use Rattle.division.specs.Grammar.{Kind, identifier, syntax, whitespace, Continue, IsContinue, IsMedial, IsWhite, Groups, no-group, group, Token}
 use Rattle.division.specs.Kinds.{isContinue, isWhite, kindOfClass, continues, continuesFirst, more, kindOf, rules}
 use Rattle.division.proofs.ScanLaws.{walk-nil, walk-more, run-ends}
 use Rattle.division.proofs.DivisionLaws.{Fits, divides, unique, fits-one-kind}

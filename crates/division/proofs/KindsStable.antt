@@ -4,11 +4,10 @@ use mathlib.Core.Bool.{Bool, true, false, false≢true, true≢false, _&&_, _||_
 use mathlib.Core.List.{List, [], _∷_, _++_}
 use mathlib.Core.Option.{Option, none, some}
 use mathlib.Core.Logic.{_⊎_, inl, inr}
-use Prim.Native.Nat.{ℕ, suc, _≤_}
+use Prim.Native.Nat.{ℕ, suc}
 use native.Mathlib.Omega.{arith}
-use lib.ListN.{length}
 use Rattle.lists.proofs.BoolLaws.{or-cases, and-left, and-right, and-in, or-left, or-right, or-false}
-use Rattle.image.specs.Class.{Class, Start, White, class-discrete}
+use Rattle.image.specs.Class.{Class, class-discrete}
 use Rattle.division.specs.All.{All}
 use Rattle.division.specs.Scan.{Tok, Reading, opened, stopped, goes, walk, reading}
 use Rattle.division.specs.Division.{Division}
@@ -25,7 +24,7 @@ use Rattle.division.specs.Permitted.{
   other-nonstart,
   nonstart-start,
 }
-use Rattle.division.specs.Firm.{Allowed, Settled, Firm}
+use Rattle.division.specs.Firm.{Allowed, Settled, Changed, Firm, Touched}
 use Rattle.division.proofs.ScanLaws.{walk-stop, walk-open}
 use Rattle.division.proofs.GrammarLaws.{first-class, white-means, tokens-divide, tokens-unique}
 use Rattle.division.proofs.Stability as stability
@@ -65,23 +64,25 @@ module _ {A : Type 0} (older newer : Meaning A) where
   abbrev AllAllowed : List A → Type 0
   AllAllowed s = All (Allowed older newer) s
 
-  settled? : (r : List A) → Dec (Settled older newer r)
-  settled? [] = yes tt
-  settled? (c ∷ r) = class-discrete (newer .class c) (older .class c)
-
-  firm-medial : (c : A) (r : List A) → newer .class c ≡ older .class c → (b : Bool) → older .medial c ≡ b → Dec (Settled older newer r) → Dec (Firm older newer (c ∷ r))
-  firm-medial c r p false e d = yes (p, λ t. absurd (true≢false (sym t ∙ e)))
-  firm-medial c r p true e (yes q) = yes (p, λ t. q)
-  firm-medial c r p true e (no n) = no (λ g. n (g .1 e))
-
-  -- whether units are firm can be told
-  pub firm? : (r : List A) → Dec (Firm older newer r)
-  firm? [] = yes tt
-  firm? (c ∷ r) = go (class-discrete (newer .class c) (older .class c))
+  settled-or-changed : (r : List A) → Settled older newer r ⊎ Changed older newer r
+  settled-or-changed [] = inl tt
+  settled-or-changed (c ∷ r) = go (class-discrete (newer .class c) (older .class c))
     where
-      go : Dec (newer .class c ≡ older .class c) → Dec (Firm older newer (c ∷ r))
-      go (yes p) = firm-medial c r p (older .medial c) refl (settled? r)
-      go (no n) = no (λ g. n (g .0))
+      go : Dec (newer .class c ≡ older .class c) → Settled older newer (c ∷ r) ⊎ Changed older newer (c ∷ r)
+      go (yes p) = inl p
+      go (no n) = inr n
+
+  -- units are firm, or they are touched
+  pub firm-or-touched : (r : List A) → Firm older newer r ⊎ Touched older newer r
+  firm-or-touched [] = inl tt
+  firm-or-touched (c ∷ r) = go (settled-or-changed (c ∷ r)) (older .medial c) refl (settled-or-changed r)
+    where
+      go : Settled older newer (c ∷ r) ⊎ Changed older newer (c ∷ r) → (b : Bool) → older .medial c ≡ b → Settled older newer r ⊎ Changed older newer r →
+          Firm older newer (c ∷ r) ⊎ Touched older newer (c ∷ r)
+      go (inr n) b m d = inr (inl n)
+      go (inl p) false m d = inl (p, λ t. absurd (true≢false (sym t ∙ m)))
+      go (inl p) true m (inl q) = inl (p, λ t. q)
+      go (inl p) true m (inr n) = inr (inr (m, n))
 
   abbrev Sure : ℕ → Reading A Kind → Type 0
   Sure n w = stability.Sure (rules older) (rules newer) AllAllowed (Firm older newer) n w

@@ -4,7 +4,7 @@ use mathlib.Core.Bool.{Bool, true, false}
 use mathlib.Core.List.{List, [], _∷_, _++_, append-assoc}
 use mathlib.Core.Option.{Option, none, some}
 use lib.ListN.{length, drop}
-use Rattle.division.specs.Scan.{Tok, Reading, Rules, unitsOf, grown, opened, stopped, goes, walk, reading}
+use Rattle.division.specs.Scan.{Rules, unitsOf, grown, opened, stopped, goes, walk, reading}
 
 module _ {A K : Type 0} (R : Rules A K) where
   pub walk-nil : (k : Option K) → walk R k [] ≡ stopped []

@@ -2,6 +2,7 @@
 use mathlib.Core.Path.{_≡_}
 use mathlib.Core.Bool.{true}
 use mathlib.Core.List.{List, [], _∷_}
+use mathlib.Core.Logic.{_⊎_}
 use Rattle.division.specs.Meaning.{Meaning}
 use Rattle.division.specs.Permitted.{Permitted}
 
@@ -16,7 +17,17 @@ module _ {A : Type 0} (older newer : Meaning A) where
   Settled [] = Unit {0}
   Settled (c ∷ r) = newer .class c ≡ older .class c
 
+  -- there is a first unit, and it has another class
+  abbrev pub Changed : List A → Type 0
+  Changed [] = ⊥
+  Changed (c ∷ r) = newer .class c ≡ older .class c → ⊥
+
   -- the first unit has the class that it had, and so has the next where the first is a medial
   abbrev pub Firm : List A → Type 0
   Firm [] = Unit {0}
   Firm (c ∷ r) = (newer .class c ≡ older .class c) × (older .medial c ≡ true → Settled r)
+
+  -- the first unit has another class, or it is a medial and the next one has
+  abbrev pub Touched : List A → Type 0
+  Touched [] = ⊥
+  Touched (c ∷ r) = Changed (c ∷ r) ⊎ ((older .medial c ≡ true) × Changed r)

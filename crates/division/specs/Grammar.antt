@@ -26,7 +26,7 @@ module _ {A : Type 0} (m : Meaning A) where
   abbrev pub IsWhite : A → Type 0
   IsWhite c = m .class c ≡ White
 
-  -- (<Medial> <Continue>+)*
+  -- (<Medial> <Continue>+)*. A medial that is itself Continue may be taken as either: the same units are identifiers
   pub data Groups : List A → Type 0 where
     no-group : Groups []
     group : {d c : A} (cs : List A) {gs : List A} → IsMedial d → IsContinue c → All IsContinue cs → Groups gs → Groups (d ∷ c ∷ (cs ++ gs))
@@ -42,7 +42,7 @@ module _ {A : Type 0} (m : Meaning A) where
     pub grouped : Groups groups
 
   -- one unit of class Syntax
-  pub record SyntaxUnit (u : List A) : Type 0 where
+  pub record SyntaxToken (u : List A) : Type 0 where
     pub only : A
     pub whole : u ≡ only ∷ []
     pub class : m .class only ≡ Syntax
@@ -57,5 +57,5 @@ module _ {A : Type 0} (m : Meaning A) where
   -- the units u are a token of a kind, whatever stands around them
   abbrev pub Token : Kind → List A → Type 0
   Token identifier u = Identifier u
-  Token syntax u = SyntaxUnit u
+  Token syntax u = SyntaxToken u
   Token whitespace u = Whitespace u

@@ -10,3 +10,5 @@ pub mod Outcome
 pub mod Record
 pub mod Reading
 pub mod Cases
+pub mod Divided
+pub mod Promise

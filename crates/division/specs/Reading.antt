@@ -1,7 +1,6 @@
 -- What counting a text's tokens and writing their list answer under an image (document 01, "Tokens" and "Named refusals").
 -- An image and a text are lists of bytes.
 use Prim.Native.Nat.{ℕ}
-use mathlib.Core.Bool.{Bool}
 use mathlib.Core.List.{List, [], _∷_}
 use mathlib.Core.Option.{Option, none, some}
 use lib.ListN.{length}
