@@ -24,7 +24,7 @@ use Rattle.scan.specs.declared.Counted.the-variants.{Refused, Tokens}
 use Rattle.scan.specs.Traits.{kindFor, goesOn}
 use Rattle.scan.specs.Rest.{restOf, continuesAt}
 use Rattle.scan.specs.Counted.{countedBy, readThrough, countThrough, stopRefusal}
-use Rattle.scan.proofs.RestLaws.{charactersAt, Turn, reading-run, rest-begins, rest-none, at-ill, at-end, rest-more, rest-stop, Begins, rest-begin}
+use Rattle.scan.proofs.RestLaws.{charactersAt, Turn, reading-run, rest-begins, rest-none, at-end, rest-more, rest-stop, Begins, rest-begin}
 
 -- the bytes of a token's rest and of the tokens after it
 abbrev pub spanOf : Reading Character Kind → ℕ
@@ -103,7 +103,7 @@ module _ (s text : List ℕ) where
     pub counts-end : length text ≤ at → Tokens count ≡ countThrough s text
     unfolding countThrough readThrough
     counts-end h =
-        let r = rest-none s text kind at (at-end s text at h) in
+        let r = rest-none s text kind at (at-end text at h) in
         let n = rw r at (i .tokens) in
         let l = rw r at (i .left) in
         let q : count ≡ length (readingOf s text .tokens) = omega arith in

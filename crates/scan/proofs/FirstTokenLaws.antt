@@ -20,10 +20,10 @@ use Rattle.scan.specs.declared.First.the-variants.{Nothing, IllFormed, N
 use Rattle.scan.specs.Traits.{kindFor, goesOn}
 use Rattle.scan.specs.Rest.{restOf, continuesAt, endFrom}
 use Rattle.scan.specs.First.{firstIn, firstBy, firstOf}
-use Rattle.scan.proofs.RestLaws.{charactersAt, Turn, rest-begins, rest-none, rest-more, rest-ends, rest-stop, Begins, rest-begin}
+use Rattle.scan.proofs.RestLaws.{NoCharacter, Turn, rest-begins, rest-none, rest-more, rest-ends, rest-stop, Begins, rest-begin}
 
 module _ (s text : List ℕ) where
-  pub end-none : (kind at : ℕ) → charactersAt text at ≡ [] → endFrom s text kind at ≡ at
+  pub end-none : (kind at : ℕ) → NoCharacter text at → endFrom s text kind at ≡ at
   unfolding endFrom
   end-none kind at e = rw (rest-none s text kind at e) (add-zero at)
 

@@ -52,6 +52,17 @@ turn s text at r h a p =
       same = t .same;
     }
 
+pub record NoCharacter (text : List ℕ) (at : ℕ) : Type 0 where
+  pub none : charactersAt text at ≡ []
+
+-- no character stands where the text is ill-formed, nor at its end
+pub at-ill : (text : List ℕ) (at : ℕ) → stepOf (drop at text) ≡ step.IllFormed → NoCharacter text at
+at-ill text at e = record { none = ap (λ d. d .characters) (decode-ill (drop at text) e) }
+
+pub at-end : (text : List ℕ) (at : ℕ) → length text ≤ at → NoCharacter text at
+unfolding decode decodeIn
+at-end text at h = record { none = ap (λ (u : List ℕ). decode u .characters) (drop-of-length-le text h) }
+
 module _ (s text : List ℕ) where
   pub rest-begins : restOf s text 0 0 ≡ readingOf s text
   unfolding restOf readingOf
@@ -63,20 +74,13 @@ module _ (s text : List ℕ) where
   reading-run = run-none (rulesOf s) (decode text .characters)
 
   -- nothing is read where no character stands
-  pub rest-none : (k at : ℕ) → charactersAt text at ≡ [] → restOf s text k at ≡ stopped []
+  pub rest-none : (k at : ℕ) → NoCharacter text at → restOf s text k at ≡ stopped []
   unfolding restOf
-  rest-none k at e = ap (walk (rulesOf s) (kindNamed k)) e ∙ walk-nil (rulesOf s) (kindNamed k)
+  rest-none k at e = ap (walk (rulesOf s) (kindNamed k)) (e .none) ∙ walk-nil (rulesOf s) (kindNamed k)
 
-  pub at-ill : (at : ℕ) → stepOf (drop at text) ≡ step.IllFormed → charactersAt text at ≡ []
-  at-ill at e = ap (λ d. d .characters) (decode-ill (drop at text) e)
-
-  pub at-end : (at : ℕ) → length text ≤ at → charactersAt text at ≡ []
-  unfolding decode decodeIn
-  at-end at h = ap (λ (u : List ℕ). decode u .characters) (drop-of-length-le text h)
-
-  pub continues-none : (at : ℕ) → charactersAt text at ≡ [] → false ≡ continuesAt s text at
+  pub continues-none : (at : ℕ) → NoCharacter text at → false ≡ continuesAt s text at
   unfolding continuesAt
-  continues-none at e = rw e
+  continues-none at e = rw (e .none)
 
   module _ (accepted : refusalOf s ≡ none) (at len traits : ℕ) (t : Turn s text at len traits) where
     abbrev here : Character

@@ -21,7 +21,7 @@ use Rattle.division.proofs.RecordLaws.{length-listed}
 use Rattle.scan.specs.Traits.{kindFor, goesOn}
 use Rattle.scan.specs.Rest.{restOf, continuesAt}
 use Rattle.scan.specs.Words.{tokenWords, wordsFrom}
-use Rattle.scan.proofs.RestLaws.{charactersAt, Turn, reading-run, rest-begins, rest-none, rest-more, rest-stop, Begins, rest-begin}
+use Rattle.scan.proofs.RestLaws.{NoCharacter, Turn, reading-run, rest-begins, rest-none, rest-more, rest-stop, Begins, rest-begin}
 
 pub three : (kind start end : ℕ) → length (tokenWords kind start end) ≤ 3
 three zero start end = omega arith
@@ -95,7 +95,7 @@ module _ (s text out₀ out : List ℕ) where
         out′ ≡ laid out₀ 0 (listedWords (readingOf s text .tokens))
     written out′ e p = p .same ∙ ap (laid out w) (sym e) ∙ i .same
 
-    pub writes-none : (out′ : List ℕ) → charactersAt text at ≡ [] → Put out out′ w (tokenWords kind start at) →
+    pub writes-none : (out′ : List ℕ) → NoCharacter text at → Put out out′ w (tokenWords kind start at) →
         out′ ≡ laid out₀ 0 (listedWords (readingOf s text .tokens))
     writes-none out′ e p = written out′ (ap (wordsFrom kind start at) (rest-none s text kind at e) ∙ words-stop kind start at []) p
 

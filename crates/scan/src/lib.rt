@@ -1,5 +1,14 @@
 // The one-pass reader of tokens under a checked image: counting, writing, and the first token.
 ghost use mathlib.Core.Path.{_≡_};
+ghost use mathlib.Core.Bool.{false};
+ghost use Prim.Native.Nat.{_+_, _*_, _≤_, _<_};
+ghost use lib.ListN.{length, drop};
+ghost use Rattle.character.specs.Opened.{Opened};
+ghost use Rattle.character.specs.Read.{MemoOf, TableOf};
+ghost use Rattle.scan.specs.Traits.{continueIn, kindFor, goesOn};
+ghost use Rattle.scan.specs.Rest.{continuesAt};
+use character::Memo;
+use image::MAX_ENTRIES;
 use refusal::Refusal;
 
 // How many tokens, or why not.
@@ -18,4 +27,93 @@ pub enum First {
     NoToken,
     // A token of this kind that ends before this byte.
     Token { kind: u32, end: usize },
+}
+
+// Whether a character is Continue.
+fn is_continue(traits: u8) -> bool
+    ensures { λ r. ⌜ r ≡ continueIn traits ⌝ }
+{
+    let class = traits % 8;
+    if class == 1 {
+        return true;
+    }
+    class == 2
+}
+
+// The kind of token that a character begins, or 0.
+fn kind_begun(traits: u8) -> u32
+    ensures { λ r. ⌜ r ≡ kindFor traits ⌝ }
+{
+    let class = traits % 8;
+    if class == 1 {
+        return 1;
+    }
+    if class == 3 {
+        return 2;
+    }
+    if class == 4 {
+        return 3;
+    }
+    0
+}
+
+// Whether a Continue stands at a place.
+fn continues_at<'a>(
+    image: &'a [u8],
+    n: usize,
+    points: &'a [u32; MAX_ENTRIES],
+    roles: &'a [u32; MAX_ENTRIES],
+    used: usize,
+    table: &'a [u8; 128],
+    memo: Memo,
+    text: &'a [u8],
+    at: usize,
+) -> bool
+    requires { ⌜ Opened (now image) n (now points) (now roles) used ⌝ }
+    requires { ⌜ TableOf (now image) (now table) ⌝ }
+    requires { ⌜ MemoOf (now image) memo ⌝ }
+    ensures { λ r. ⌜ r ≡ continuesAt (now (image .entry)) (now (text .entry)) at ⌝ }
+{
+    if text.len() <= at {
+        return false;
+    }
+    let c = character::read(image, n, points, roles, used, table, memo, text, at);
+    if c.len == 0 {
+        return false;
+    }
+    is_continue(c.traits)
+}
+
+// Whether a token of this kind goes on with a character of these traits, before the place `next`.
+fn goes_on<'a>(
+    kind: u32,
+    traits: u8,
+    image: &'a [u8],
+    n: usize,
+    points: &'a [u32; MAX_ENTRIES],
+    roles: &'a [u32; MAX_ENTRIES],
+    used: usize,
+    table: &'a [u8; 128],
+    memo: Memo,
+    text: &'a [u8],
+    next: usize,
+) -> bool
+    requires { ⌜ Opened (now image) n (now points) (now roles) used ⌝ }
+    requires { ⌜ TableOf (now image) (now table) ⌝ }
+    requires { ⌜ MemoOf (now image) memo ⌝ }
+    ensures { λ r. ⌜ r ≡ goesOn kind traits (continuesAt (now (image .entry)) (now (text .entry)) next) ⌝ }
+{
+    if kind == 1 {
+        if is_continue(traits) {
+            return true;
+        }
+        if traits < 8 {
+            return false;
+        }
+        return continues_at(image, n, points, roles, used, table, memo, text, next);
+    }
+    if kind == 3 {
+        return traits % 8 == 4;
+    }
+    false
 }
