@@ -12,8 +12,8 @@ use Rattle.utf8.specs.declared.Text.{Text}
 use Rattle.utf8.specs.declared.Text.the-variants as form
 use Rattle.utf8.specs.declared.Step.the-variants as step
 use Rattle.utf8.specs.Head.{stepOf}
-use Rattle.utf8.specs.Text.{Character, widthOf, textOf}
-use Rattle.utf8.proofs.TextLaws.{shift, shift-zero, ill-here, end-here}
+use Rattle.utf8.specs.Text.{Character, decode, widthOf, textBy, textOf}
+use Rattle.utf8.proofs.TextLaws.{shift, shift-zero, ill-here, end-here, covers}
 use Rattle.image.specs.Check.{refusalOf}
 use Rattle.division.specs.Scan.{Tok, Reading, grown, opened, stopped}
 use Rattle.division.specs.Grammar.{Kind}
@@ -67,9 +67,9 @@ module _ (s text : List ℕ) where
           span = omega arith;
         }
 
-    pub counts-begin : goesOn kind traits (continuesAt s text (at + len)) ≡ false → 0 < kindFor traits → Counting s text (kindFor traits) (count + 1) (at + len)
-    counts-begin e h =
-        let r = rest-begin s text accepted at len traits t kind e h .rest in
+    pub counts-begin : goesOn kind traits (continuesAt s text (at + len)) ≡ false → (k : ℕ) → k ≡ kindFor traits → (k ≡ 0 → ⊥) → Counting s text k (count + 1) (at + len)
+    counts-begin e k q h =
+        let r = rest-begin s text accepted at len traits t kind e k q h .rest in
         let n = rw r at (i .tokens) in
         let p = rw r at (i .span) in
         record {
@@ -108,3 +108,12 @@ module _ (s text : List ℕ) where
         let l = rw r at (i .left) in
         let q : count ≡ length (readingOf s text .tokens) = omega arith in
         rw (← i .form, end-here text at h, ← l, q)
+
+-- an ill-formed place lies within the text
+ill-by : (p q : ℕ) (r : List ℕ) → textBy p r ≡ form.IllFormed q → q ≡ p
+ill-by p q [] e = cc
+ill-by p q (b ∷ r) e = cc
+
+pub ill-within : (u : List ℕ) (p : ℕ) → textOf u ≡ form.IllFormed p → p ≤ length u
+unfolding textOf
+ill-within u p e = let q = ill-by (widthOf (decode u .characters)) p (decode u .rest) e in omega (arith, covers u .within)

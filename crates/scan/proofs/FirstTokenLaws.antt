@@ -56,11 +56,10 @@ module _ (s text : List ℕ) where
         let r = sym (rest-begins s text) ∙ rest-stop s text accepted 0 len traits t 0 (no-kind _) z in
         sym (ap (firstBy (tokensOf s text)) (t .stands) ∙ ap (λ w. firstIn (w .tokens)) r)
 
-    pub first-begin : 0 < kindFor traits → Token (kindFor traits) (endFrom s text (kindFor traits) len) ≡ firstOf s text
+    pub first-begin : (k : ℕ) → k ≡ kindFor traits → (k ≡ 0 → ⊥) → Token k (endFrom s text k len) ≡ firstOf s text
     unfolding firstOf endFrom
-    first-begin h =
-        let b = rest-begin s text accepted 0 len traits t 0 (no-kind _) h in
-        let k = kindFor traits in
+    first-begin k q h =
+        let b = rest-begin s text accepted 0 len traits t 0 (no-kind _) k q h in
         sym (ap (firstBy (tokensOf s text)) (t .stands)
         ∙ ap (λ w. firstIn (w .tokens)) (sym (rest-begins s text) ∙ b .rest)
         ∙ (λ d. Token (sym (b .number) d) (len + widthOf (restOf s text k (zero-add len d) .run))))

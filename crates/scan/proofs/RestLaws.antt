@@ -117,16 +117,16 @@ module _ (s text : List ℕ) where
           ∙ walk-stop (rulesOf s) (kindNamed k) here (charactersAt text (at + len)) (sym (goes-here k) ∙ e) o
 
       -- it doesn't, and a token begins
-      pub record Begins : Type 0 where
+      pub record Begins (k′ : ℕ) : Type 0 where
         pub kind : Kind
-        pub number : kindFor traits ≡ kindNumber kind
-        pub rest : restOf s text k at ≡ opened kind here (restOf s text (kindFor traits) (at + len))
+        pub number : k′ ≡ kindNumber kind
+        pub rest : restOf s text k at ≡ opened kind here (restOf s text k′ (at + len))
 
-      begins-by : (o : Option Kind) → rulesOf s .kindOf here ≡ o → 0 < kindFor traits → Begins
+      begins-by : (o : Option Kind) → rulesOf s .kindOf here ≡ o → (k′ : ℕ) → k′ ≡ kindFor traits → (k′ ≡ 0 → ⊥) → Begins k′
       unfolding restOf
-      begins-by none f p = let z = kind-of s accepted here traits (t .known) ∙ ap numberBy f in absurd (omega arith)
-      begins-by (some j) f p =
-          let n : kindFor traits ≡ kindNumber j = kind-of s accepted here traits (t .known) ∙ ap numberBy f in
+      begins-by none f k′ q h = absurd (h (q ∙ kind-of s accepted here traits (t .known) ∙ ap numberBy f))
+      begins-by (some j) f k′ q h =
+          let n : k′ ≡ kindNumber j = q ∙ kind-of s accepted here traits (t .known) ∙ ap numberBy f in
           record {
             kind = j;
             number = n;
@@ -136,5 +136,5 @@ module _ (s text : List ℕ) where
                 ∙ ap (λ (o : Option Kind). opened j here (walk (rulesOf s) o (charactersAt text (at + len)))) (sym (ap kindNamed n ∙ named-number (some j)));
           }
 
-      pub rest-begin : 0 < kindFor traits → Begins
-      rest-begin p = begins-by (rulesOf s .kindOf here) refl p
+      pub rest-begin : (k′ : ℕ) → k′ ≡ kindFor traits → (k′ ≡ 0 → ⊥) → Begins k′
+      rest-begin k′ q h = begins-by (rulesOf s .kindOf here) refl k′ q h

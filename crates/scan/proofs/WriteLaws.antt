@@ -113,15 +113,15 @@ module _ (s text out₀ out : List ℕ) where
 
     -- the token under way has ended
     module _ (e : goesOn kind traits (continuesAt s text (at + len)) ≡ false) (out′ : List ℕ) where
-      pub writes-begin : 0 < kindFor traits → Put out out′ w (tokenWords kind start at) →
-          Writing s text out₀ out′ (kindFor traits) at (at + len) (w + length (tokenWords kind start at))
-      writes-begin h p =
-          let b = rest-begin s text accepted at len traits t kind e h in
+      pub writes-begin : (k : ℕ) → k ≡ kindFor traits → (k ≡ 0 → ⊥) → Put out out′ w (tokenWords kind start at) →
+          Writing s text out₀ out′ k at (at + len) (w + length (tokenWords kind start at))
+      writes-begin k q h p =
+          let b = rest-begin s text accepted at len traits t kind e k q h in
           let ws = tokenWords kind start at in
-          let more = wordsFrom (kindFor traits) at (at + len) (restOf s text (kindFor traits) (at + len)) in
+          let more = wordsFrom k at (at + len) (restOf s text k (at + len)) in
           let r : wordsFrom kind start at (restOf s text kind at) ≡ ws ++ more =
-          ap (wordsFrom kind start at) (b .rest) ∙ words-begin kind start at (b .kind) _ (restOf s text (kindFor traits) (at + len))
-          ∙ ap (λ (n : ℕ). ws ++ wordsFrom n at (at + len) (restOf s text (kindFor traits) (at + len))) (sym (b .number)) in
+          ap (wordsFrom kind start at) (b .rest) ∙ words-begin kind start at (b .kind) _ (restOf s text k (at + len))
+          ∙ ap (λ (n : ℕ). ws ++ wordsFrom n at (at + len) (restOf s text k (at + len))) (sym (b .number)) in
           let l = ap length (p .same) ∙ length-laid out ws w (p .fits) in
           let room = rw (r, length-append ws more) at (i .room) in
           record {

@@ -7,9 +7,12 @@ ghost use Rattle.character.specs.Opened.{Opened};
 ghost use Rattle.character.specs.Read.{MemoOf, TableOf};
 ghost use Rattle.scan.specs.Traits.{continueIn, kindFor, goesOn};
 ghost use Rattle.scan.specs.Rest.{continuesAt};
+ghost use Rattle.scan.specs.Counted.{stopRefusal, countThrough};
+ghost use Rattle.utf8.specs.Text.{textOf};
 use character::Memo;
 use image::MAX_ENTRIES;
 use refusal::Refusal;
+use utf8::Text;
 
 // How many tokens, or why not.
 pub enum Counted {
@@ -116,4 +119,68 @@ fn goes_on<'a>(
         return traits % 8 == 4;
     }
     false
+}
+
+// The refusal where no token begins at a place: the text from there on is first checked as UTF-8.
+fn refuse_at(text: &[u8], at: usize) -> Refusal
+    requires { ⌜ at ≤ length (now text) ⌝ }
+    ensures { λ r. ⌜ r ≡ stopRefusal at (textOf (drop at (now (text .entry)))) ⌝ }
+{
+    let form = utf8::check_text(&text[at..]);
+    match form {
+        Text::WellFormed => Refusal::Characters(at),
+        Text::IllFormed(p) => Refusal::IllFormed(at + p),
+    }
+}
+
+// The number of tokens.
+pub fn count_tokens<'a>(
+    image: &'a [u8],
+    n: usize,
+    points: &'a [u32; MAX_ENTRIES],
+    roles: &'a [u32; MAX_ENTRIES],
+    used: usize,
+    table: &'a [u8; 128],
+    text: &'a [u8],
+) -> Counted
+    requires { ⌜ Opened (now image) n (now points) (now roles) used ⌝ }
+    requires { ⌜ TableOf (now image) (now table) ⌝ }
+    ensures { λ r. ⌜ r ≡ countThrough (now (image .entry)) (now (text .entry)) ⌝ }
+{
+    let mut memo = character::no_memo();
+    let mut kind = 0;
+    let mut count = 0;
+    let mut at = 0;
+    while at < text.len() {
+        let c = character::read(image, n, points, roles, used, table, memo, text, at);
+        let len = c.len;
+        if len == 0 {
+            return Counted::Refused(Refusal::IllFormed(at));
+        }
+        memo = c.memo;
+        let next = at + len;
+        if goes_on(
+            kind,
+            c.traits,
+            image,
+            n,
+            points,
+            roles,
+            used,
+            table,
+            memo,
+            text,
+            next,
+        ) {
+            at = next;
+            continue;
+        }
+        kind = kind_begun(c.traits);
+        if kind == 0 {
+            return Counted::Refused(refuse_at(text, at));
+        }
+        count += 1;
+        at = next;
+    }
+    Counted::Tokens(count)
 }
