@@ -6,7 +6,7 @@ use mathlib.Core.List.{List, [], _∷_, _++_, append-assoc, append-nil}
 use mathlib.Core.Option.{none}
 use native.Mathlib.Nat.{add-assoc, add-zero, zero-add}
 use native.Mathlib.Omega.{arith}
-use lib.ListN.{length, take, drop, length-append, length-take, length-drop}
+use lib.ListN.{length, take, drop, set, length-append, length-take, length-drop}
 use borrow.Rule.Slice.PartMut.{putMid}
 use Rattle.lists.specs.Laid.{laid}
 use Rattle.lists.proofs.LaidLaws.{laid-none, laid-step, length-laid, lent}
@@ -22,10 +22,6 @@ use Rattle.scan.specs.Traits.{kindFor, goesOn}
 use Rattle.scan.specs.Rest.{restOf, continuesAt}
 use Rattle.scan.specs.Words.{tokenWords, wordsFrom}
 use Rattle.scan.proofs.RestLaws.{NoCharacter, Turn, reading-run, rest-begins, rest-none, rest-more, rest-stop, Begins, rest-begin}
-
-pub three : (kind start end : ℕ) → length (tokenWords kind start end) ≤ 3
-three zero start end = omega arith
-three (suc k) start end = omega arith
 
 -- the words from a place on, for each turn of the reading
 module _ (kind start at : ℕ) where
@@ -58,44 +54,74 @@ pub record Writing (s text out₀ out : List ℕ) (kind start at w : ℕ) : Type
   pub room : w + length (wordsFrom kind start at (restOf s text kind at)) ≤ length out
   pub same : laid out w (wordsFrom kind start at (restOf s text kind at)) ≡ laid out₀ 0 (listedWords (readingOf s text .tokens))
 
--- a token's words were written at the front of the lent rest of the buffer
-pub record Put (out out′ : List ℕ) (w : ℕ) (ws : List ℕ) : Type 0 where
-  pub fits : w + length ws ≤ length out
-  pub same : out′ ≡ laid out w ws
+-- there is room for the words of a token from word w on
+pub record Room (out : List ℕ) (w kind start end : ℕ) : Type 0 where
+  pub fits : w + length (tokenWords kind start end) ≤ length out
 
-pub put-lent : (out ys : List ℕ) (w : ℕ) (ws : List ℕ) → w + length ws ≤ length out → ys ≡ laid (take (length out - w) (drop w out)) 0 ws →
-    Put out (putMid w (length out - w) out ys) w ws
-put-lent out ys w ws h e = record { fits = h; same = lent out ws w h ys e }
+-- they were written there
+pub record Put (out out′ : List ℕ) (w kind start end : ℕ) : Type 0 where
+  pub fits : w + length (tokenWords kind start end) ≤ length out
+  pub same : out′ ≡ laid out w (tokenWords kind start end)
+
+module _ {out : List ℕ} {w kind start end : ℕ} (h : Room out w kind start end) where
+  -- the lent rest of the buffer has room for them
+  pub part-fits : length (tokenWords kind start end) ≤ length (take (length out - w) (drop w out))
+  part-fits = simp (length-take, length-drop) (omega arith)
+
+  -- a call that was lent it wrote them at its front
+  pub put-lent : (ys : List ℕ) → ys ≡ laid (take (length out - w) (drop w out)) 0 (tokenWords kind start end) → Put out (putMid w (length out - w) out ys) w kind start end
+  put-lent ys e = record { fits = h .fits; same = lent out (tokenWords kind start end) w (h .fits) ys e }
+
+-- a token's three words at a buffer's front
+pub three-words : (out : List ℕ) (k a b : ℕ) → 3 ≤ length out → set (set (set out 0 k) 1 a) 2 b ≡ laid out 0 (k ∷ a ∷ b ∷ [])
+three-words [] k a b h = absurd (omega arith)
+three-words (x ∷ []) k a b h = absurd (omega arith)
+three-words (x ∷ y ∷ []) k a b h = absurd (omega arith)
+three-words (x ∷ y ∷ z ∷ out) k a b h = refl
+
+pub words-some : (kind start end : ℕ) → (kind ≡ 0 → ⊥) → tokenWords kind start end ≡ kind ∷ start ∷ end ∷ []
+words-some zero start end h = absurd (h refl)
+words-some (suc k) start end h = refl
+
+module _ (out : List ℕ) (kind start end : ℕ) where
+  abbrev Written : ℕ → List ℕ → Type 0
+  Written n out′ = (n ≡ length (tokenWords kind start end)) × (out′ ≡ laid out 0 (tokenWords kind start end))
+
+  pub written-none : kind ≡ 0 → Written 0 out
+  written-none e = rw e (refl, sym (laid-none out 0))
+
+  pub written-some : (kind ≡ 0 → ⊥) → 3 ≤ length out → Written 3 (set (set (set out 0 kind) 1 start) 2 end)
+  written-some h l = rw (words-some kind start end h) (refl, three-words out kind start end l)
+
+pub writing-begins : (s text out : List ℕ) → 3 * length (readingOf s text .tokens) ≤ length out → Writing s text out out 0 0 0 0
+unfolding wordsFrom
+writing-begins s text out h =
+    let r = rest-begins s text in
+    let l = length-listed (readingOf s text .tokens) in
+    record {
+      within = omega arith;
+      began = omega arith;
+      long = refl;
+      room = rw (r, reading-run s text) (omega arith);
+      same = rw (r, reading-run s text);
+    }
 
 module _ (s text out₀ out : List ℕ) where
-  pub writing-begins : 3 * length (readingOf s text .tokens) ≤ length out → Writing s text out out 0 0 0 0
-  unfolding wordsFrom
-  writing-begins h =
-      let r = rest-begins s text in
-      let l = length-listed (readingOf s text .tokens) in
-      record {
-        within = omega arith;
-        began = omega arith;
-        long = refl;
-        room = rw (r, reading-run s text) (omega arith);
-        same = rw (r, reading-run s text);
-      }
-
   module _ (kind start at w : ℕ) (i : Writing s text out₀ out kind start at w) where
     -- a token that has ended has room
-    pub ended-fits : restOf s text kind at .run ≡ [] → w + length (tokenWords kind start at) ≤ length out
+    pub ended-fits : restOf s text kind at .run ≡ [] → Room out w kind start at
     unfolding wordsFrom
     ended-fits e =
         let z = add-zero at in
         let h = rw (length-append, e, z) at (i .room) in
-        omega arith
+        record { fits = omega arith }
 
     -- all is written
-    written : (out′ : List ℕ) → wordsFrom kind start at (restOf s text kind at) ≡ tokenWords kind start at → Put out out′ w (tokenWords kind start at) →
+    written : (out′ : List ℕ) → wordsFrom kind start at (restOf s text kind at) ≡ tokenWords kind start at → Put out out′ w kind start at →
         out′ ≡ laid out₀ 0 (listedWords (readingOf s text .tokens))
     written out′ e p = p .same ∙ ap (laid out w) (sym e) ∙ i .same
 
-    pub writes-none : (out′ : List ℕ) → NoCharacter text at → Put out out′ w (tokenWords kind start at) →
+    pub writes-none : (out′ : List ℕ) → NoCharacter text at → Put out out′ w kind start at →
         out′ ≡ laid out₀ 0 (listedWords (readingOf s text .tokens))
     writes-none out′ e p = written out′ (ap (wordsFrom kind start at) (rest-none s text kind at e) ∙ words-stop kind start at []) p
 
@@ -113,9 +139,9 @@ module _ (s text out₀ out : List ℕ) where
 
     -- the token under way has ended
     module _ (e : goesOn kind traits (continuesAt s text (at + len)) ≡ false) (out′ : List ℕ) where
-      pub writes-begin : (k : ℕ) → k ≡ kindFor traits → (k ≡ 0 → ⊥) → Put out out′ w (tokenWords kind start at) →
-          Writing s text out₀ out′ k at (at + len) (w + length (tokenWords kind start at))
-      writes-begin k q h p =
+      pub writes-begin : (k : ℕ) → k ≡ kindFor traits → (k ≡ 0 → ⊥) → Put out out′ w kind start at →
+          (n : ℕ) → n ≡ length (tokenWords kind start at) → Writing s text out₀ out′ k at (at + len) (w + n)
+      writes-begin k q h p n m =
           let b = rest-begin s text accepted at len traits t kind e k q h in
           let ws = tokenWords kind start at in
           let more = wordsFrom k at (at + len) (restOf s text k (at + len)) in
@@ -129,9 +155,9 @@ module _ (s text out₀ out : List ℕ) where
             began = omega arith;
             long = l ∙ i .long;
             room = omega arith;
-            same = ap (λ (o : List ℕ). laid o (w + length ws) more) (p .same) ∙ sym (laid-step out ws w (p .fits) more) ∙ ap (laid out w) (sym r) ∙ i .same;
+            same = (λ d. laid (p .same d) (w + m d) more) ∙ sym (laid-step out ws w (p .fits) more) ∙ ap (laid out w) (sym r) ∙ i .same;
           }
 
       -- and no other begins
-      pub writes-stop : kindFor traits ≡ 0 → Put out out′ w (tokenWords kind start at) → out′ ≡ laid out₀ 0 (listedWords (readingOf s text .tokens))
+      pub writes-stop : kindFor traits ≡ 0 → Put out out′ w kind start at → out′ ≡ laid out₀ 0 (listedWords (readingOf s text .tokens))
       writes-stop z p = written kind start at w i out′ (ap (wordsFrom kind start at) (rest-stop s text accepted at len traits t kind e z) ∙ words-stop kind start at _) p

@@ -8,11 +8,18 @@ ghost use Rattle.character.specs.Read.{MemoOf, TableOf};
 ghost use Rattle.scan.specs.Traits.{continueIn, kindFor, goesOn};
 ghost use Rattle.scan.specs.Rest.{continuesAt};
 ghost use Rattle.scan.specs.Counted.{stopRefusal, countThrough};
+ghost use Rattle.scan.specs.Words.{tokenWords};
+ghost use Rattle.lists.specs.Laid.{laid};
 ghost use Rattle.utf8.specs.Text.{textOf};
+ghost use Rattle.division.specs.Record.{recordSize, listedWords};
+ghost use Rattle.division.specs.Reading.{maxText, readingOf};
 use character::Memo;
 use image::MAX_ENTRIES;
 use refusal::Refusal;
 use utf8::Text;
+
+// The words of a token's record.
+pub const RECORD_WORDS: usize = 3;
 
 // How many tokens, or why not.
 pub enum Counted {
@@ -183,4 +190,77 @@ pub fn count_tokens<'a>(
         at = next;
     }
     Counted::Tokens(count)
+}
+
+// The words of a token at the front of what is left of the buffer, and how many they are; none for the kind 0.
+fn put_token(out: &mut [u32], kind: u32, start: usize, end: usize) -> usize
+    requires { ⌜ (start ≤ maxText) × (end ≤ maxText) ⌝ }
+    requires { ⌜ length (tokenWords kind start end) ≤ length (now out) ⌝ }
+    ensures { λ r. ⌜ r ≡ length (tokenWords kind start end) ⌝ }
+    ensures { λ r. ⌜ now (out .exit) ≡ laid (now (out .entry)) 0 (tokenWords kind start end) ⌝ }
+{
+    if kind == 0 {
+        return 0;
+    }
+    out[0] = kind;
+    out[1] = start as u32;
+    out[2] = end as u32;
+    RECORD_WORDS
+}
+
+// The words of all tokens up to where no token begins or the text is ill-formed.
+pub fn write_tokens<'a>(
+    image: &'a [u8],
+    n: usize,
+    points: &'a [u32; MAX_ENTRIES],
+    roles: &'a [u32; MAX_ENTRIES],
+    used: usize,
+    table: &'a [u8; 128],
+    text: &'a [u8],
+    out: &mut [u32],
+)
+    requires { ⌜ Opened (now image) n (now points) (now roles) used ⌝ }
+    requires { ⌜ TableOf (now image) (now table) ⌝ }
+    requires { ⌜ length (now text) ≤ maxText ⌝ }
+    requires { ⌜ recordSize * length (readingOf (now image) (now text) .tokens) ≤ length (now out) ⌝ }
+    ensures { λ _. ⌜ now (out .exit) ≡ laid (now (out .entry)) 0 (listedWords (readingOf (now (image .entry)) (now (text .entry)) .tokens)) ⌝ }
+{
+    let mut memo = character::no_memo();
+    let mut kind = 0;
+    let mut start = 0;
+    let mut at = 0;
+    let mut w = 0;
+    while at < text.len() {
+        let c = character::read(image, n, points, roles, used, table, memo, text, at);
+        let len = c.len;
+        if len == 0 {
+            break;
+        }
+        memo = c.memo;
+        let next = at + len;
+        if goes_on(
+            kind,
+            c.traits,
+            image,
+            n,
+            points,
+            roles,
+            used,
+            table,
+            memo,
+            text,
+            next,
+        ) {
+            at = next;
+            continue;
+        }
+        w += put_token(&mut out[w..], kind, start, at);
+        kind = kind_begun(c.traits);
+        if kind == 0 {
+            return;
+        }
+        start = at;
+        at = next;
+    }
+    put_token(&mut out[w..], kind, start, at);
 }

@@ -73,7 +73,7 @@ refuse-at-requires c κs = search needs
 
 -- src/lib.rt:180:13
 returns-2 : tie.Need-returns-2 Inv-loop μ-loop
-returns-2 c = 
+returns-2 c =
     ap Refused (c .refuse-at .ensures)
     ∙ counts-stop _ _ (c .before .before .before .before .before .before .before .before .before .before .before .before .before .pre .0 .accepted) _ _ _ _ _ (c .before .before .before .before .before .before .before .before .before .loop .inv .0) (turned (c .before .before .before .before .before)) (sym (c .before .before .before .before .goes-on .ensures) ∙ c .before .before .before .if2 .left) (sym (c .before .before .kind-begun .ensures) ∙ c .before .if3 .taken)
 
