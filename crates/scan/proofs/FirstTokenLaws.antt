@@ -37,9 +37,13 @@ module _ (s text : List ℕ) where
     end-here e = rw (rest-ends s text accepted at len traits t kind e) (add-zero at)
 
   -- what stands at the front, by its step
-  pub first-nothing : text ≡ [] → Nothing ≡ firstOf s text
+  empty : (u : List ℕ) → length u ≡ 0 → u ≡ []
+  empty [] e = refl
+  empty (b ∷ u) e = absurd (omega arith)
+
+  pub first-nothing : length text ≡ 0 → Nothing ≡ firstOf s text
   unfolding firstOf stepOf
-  first-nothing e = rw e
+  first-nothing e = rw (empty text e)
 
   pub first-ill : stepOf (drop 0 text) ≡ step.IllFormed → IllFormed ≡ firstOf s text
   unfolding firstOf

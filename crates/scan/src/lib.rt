@@ -6,9 +6,10 @@ ghost use lib.ListN.{length, drop};
 ghost use Rattle.character.specs.Opened.{Opened};
 ghost use Rattle.character.specs.Read.{MemoOf, TableOf};
 ghost use Rattle.scan.specs.Traits.{continueIn, kindFor, goesOn};
-ghost use Rattle.scan.specs.Rest.{continuesAt};
+ghost use Rattle.scan.specs.Rest.{continuesAt, endFrom};
 ghost use Rattle.scan.specs.Counted.{stopRefusal, countThrough};
 ghost use Rattle.scan.specs.Words.{tokenWords};
+ghost use Rattle.scan.specs.First.{firstOf};
 ghost use Rattle.lists.specs.Laid.{laid};
 ghost use Rattle.utf8.specs.Text.{textOf};
 ghost use Rattle.division.specs.Record.{recordSize, listedWords};
@@ -263,4 +264,93 @@ pub fn write_tokens<'a>(
         at = next;
     }
     put_token(&mut out[w..], kind, start, at);
+}
+
+// Where the token of this kind that is under way at a place ends.
+fn find_end<'a>(
+    image: &'a [u8],
+    n: usize,
+    points: &'a [u32; MAX_ENTRIES],
+    roles: &'a [u32; MAX_ENTRIES],
+    used: usize,
+    table: &'a [u8; 128],
+    text: &'a [u8],
+    kind: u32,
+    from: usize,
+) -> usize
+    requires { ⌜ Opened (now image) n (now points) (now roles) used ⌝ }
+    requires { ⌜ TableOf (now image) (now table) ⌝ }
+    ensures { λ r. ⌜ r ≡ endFrom (now (image .entry)) (now (text .entry)) kind from ⌝ }
+{
+    let mut memo = character::no_memo();
+    let mut at = from;
+    while at < text.len() {
+        let c = character::read(image, n, points, roles, used, table, memo, text, at);
+        let len = c.len;
+        if len == 0 {
+            return at;
+        }
+        memo = c.memo;
+        let next = at + len;
+        if goes_on(
+            kind,
+            c.traits,
+            image,
+            n,
+            points,
+            roles,
+            used,
+            table,
+            memo,
+            text,
+            next,
+        ) {
+            at = next;
+            continue;
+        }
+        return at;
+    }
+    at
+}
+
+// The first token of a text.
+pub fn first_token<'a>(
+    image: &'a [u8],
+    n: usize,
+    points: &'a [u32; MAX_ENTRIES],
+    roles: &'a [u32; MAX_ENTRIES],
+    used: usize,
+    table: &'a [u8; 128],
+    text: &'a [u8],
+) -> First
+    requires { ⌜ Opened (now image) n (now points) (now roles) used ⌝ }
+    requires { ⌜ TableOf (now image) (now table) ⌝ }
+    ensures { λ r. ⌜ r ≡ firstOf (now (image .entry)) (now (text .entry)) ⌝ }
+{
+    if text.len() == 0 {
+        return First::Nothing;
+    }
+    let c = character::read(
+        image,
+        n,
+        points,
+        roles,
+        used,
+        table,
+        character::no_memo(),
+        text,
+        0,
+    );
+    let len = c.len;
+    if len == 0 {
+        return First::IllFormed;
+    }
+    let kind = kind_begun(c.traits);
+    if kind == 0 {
+        return First::NoToken;
+    }
+    First::Token {
+        kind,
+        end: find_end(image, n, points, roles, used, table, text, kind, len),
+    }
 }

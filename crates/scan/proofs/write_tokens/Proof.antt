@@ -95,7 +95,7 @@ loop-less-2 : tie.Need-loop-less-2 Inv-loop μ-loop
 loop-less-2 c = let t = turned (c .before .before .before .before .before .before .before .before) in omega arith
 
 loop-again-2 : tie.Need-loop-again-2 Inv-loop μ-loop
-loop-again-2 c = 
+loop-again-2 c =
     (writes-begin _ _ _ _ (c .before .before .before .before .before .before .before .before .before .before .before .before .before .before .before .before .before .pre .0 .accepted) _ _ _ _ _ _ (c .before .before .before .before .before .before .before .before .before .before .before .before .loop .inv .0) (turned (c .before .before .before .before .before .before .before .before)) (ends (c .before .before .before .before .before .before)) _ _ (c .before .kind-begun .ensures) (c .if3 .left) (put-lent (fits (c .before .before .before .before .before .before)) _ (c .before .before .before .before .put-token .ensures .1)) _ (c .before .before .before .before .put-token .ensures .0), c .before .before .before .before .before .before .before .before .before .before .read .ensures .memo)
 
 mul-put-token-2 : tie.Need-mul-put-token-2 Inv-loop μ-loop
