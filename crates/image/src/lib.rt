@@ -2,10 +2,12 @@
 ghost use mathlib.Core.Path.{_≡_};
 ghost use mathlib.Core.Bool.{not, _&&_, _||_};
 ghost use Prim.Native.Nat.{_+_, _*_, _≤_};
-ghost use lib.Dec.{leb, ltb};
+ghost use lib.Dec.{leb, ltb, eqb};
 ghost use lib.ListN.{length};
 ghost use Rattle.utf8.specs.Scalar.{isScalar};
 ghost use Rattle.image.specs.Word.{joinOf, wordAt};
+ghost use Rattle.image.specs.Limits.{maxRanges, maxEntries};
+ghost use Rattle.image.specs.Header.{totalOf, rangeOffset, entryOffset, entriesAt, imageEnd, lengthRight, headerRight};
 ghost use Rattle.image.specs.Ranges.{rangeAt, goodAlone, follows};
 use refusal::Refusal;
 
@@ -13,6 +15,9 @@ use refusal::Refusal;
 pub const MAX_RANGES: usize = 4096;
 
 pub const MAX_ENTRIES: usize = 64;
+
+// The most bytes that an image may have.
+pub const MAX_IMAGE: usize = 32 + 12 * MAX_RANGES + 8 * MAX_ENTRIES;
 
 // Code points from `first` to `last` with one class.
 pub struct Range {
@@ -122,4 +127,54 @@ pub fn is_good_pair(point: u32, role: u32) -> bool
         return role <= 4;
     }
     false
+}
+
+// Whether the length is within its limits and that of the header: not refusal 1.
+fn is_length_right(image: &[u8]) -> bool
+    ensures { λ t. ⌜ t ≡ lengthRight (now (image .entry)) ⌝ }
+{
+    if image.len() < 32 {
+        return false;
+    }
+    if MAX_IMAGE < image.len() {
+        return false;
+    }
+    word(image, 8) as usize == image.len()
+}
+
+// Whether the offsets and the total length are those of n ranges and m entries.
+fn are_offsets_right(image: &[u8], n: usize, m: usize) -> bool
+    requires { ⌜ (32 ≤ length (now image)) × (n ≤ maxRanges) × (m ≤ maxEntries) ⌝ }
+    ensures { λ t. ⌜ t ≡ (eqb (rangeOffset (now (image .entry))) 32 && (eqb (entryOffset (now (image .entry))) (entriesAt n) && eqb (totalOf (now (image .entry))) (imageEnd n m))) ⌝ }
+{
+    if word(image, 16) != 32 {
+        return false;
+    }
+    let entries = 32 + 12 * n;
+    if word(image, 24) as usize != entries {
+        return false;
+    }
+    word(image, 8) as usize == entries + 8 * m
+}
+
+// Whether the header is right: not refusal 2. The counts are compared with their limits before they are multiplied.
+fn is_header_right(image: &[u8]) -> bool
+    requires { ⌜ 32 ≤ length (now image) ⌝ }
+    ensures { λ t. ⌜ t ≡ headerRight (now (image .entry)) ⌝ }
+{
+    if word(image, 0) != 1 {
+        return false;
+    }
+    if word(image, 28) != 0 {
+        return false;
+    }
+    let n = word(image, 12) as usize;
+    if MAX_RANGES < n {
+        return false;
+    }
+    let m = word(image, 20) as usize;
+    if MAX_ENTRIES < m {
+        return false;
+    }
+    are_offsets_right(image, n, m)
 }
