@@ -1,8 +1,8 @@
 -- What the answers of checking and reading an image say of its bytes, each refusal exactly when. Assumes nothing.
-use Prim.Native.Nat.{ℕ, _+_, _*_, _≤_, _<_, _/_}
+use Prim.Native.Nat.{ℕ, _+_, _-_, _*_, _/_, _≤_, _<_}
 use mathlib.Core.Path.{_≡_, refl, sym, ap, subst, _∙_}
 use mathlib.Core.List.{List, [], _∷_}
-use mathlib.Core.Bool.{Bool, true, false, not, _&&_}
+use mathlib.Core.Bool.{Bool, true, false, not, _&&_, _||_}
 use mathlib.Core.Option.{Option, none, some}
 use native.Mathlib.Omega.{arith}
 use lib.ListN.{length}
@@ -15,6 +15,8 @@ use Rattle.lists.proofs.BoolLaws.{and-left, and-right, and-in}
 use Rattle.lists.proofs.FirstLaws.{first-le, first-passed, first-holds, first-is, first-none}
 use Rattle.refusal.specs.declared.Refusal.{Refusal}
 use Rattle.refusal.specs.declared.Refusal.the-variants as refusal
+use Rattle.utf8.specs.Scalar.{isScalar}
+use Rattle.image.specs.Word.{wordAt}
 use Rattle.image.specs.Limits.{maxRanges, maxEntries, headerBytes, rangeBytes, entryBytes, maxImage}
 use Rattle.image.specs.Header.{
   formatOf,
@@ -100,6 +102,28 @@ module _ (s : List ℕ) where
   unfolding headerRight
   header-right h =
       simp (eq-eqb _ _ (h .format), eq-eqb _ _ (h .zeros), le-leb _ _ (h .few-ranges), le-leb _ _ (h .few-entries), eq-eqb _ _ (h .ranges-begin), eq-eqb _ _ (h .entries-begin), eq-eqb _ _ (h .total ∙ h .size))
+
+-- the words of a profile entry, and its tests apart from the order
+module _ (s : List ℕ) (base i : ℕ) (e : base ≡ entriesAt (rangeCount s)) where
+  pub point-is : wordAt s (base + entryBytes * i) ≡ pointAt s i
+  unfolding pointAt
+  point-is = ap (λ (b : ℕ). wordAt s (b + entryBytes * i)) e
+
+  pub role-is : wordAt s (base + entryBytes * i + 4) ≡ roleAt s i
+  unfolding roleAt
+  role-is = ap (λ (b : ℕ). wordAt s (b + entryBytes * i + 4)) e
+
+and-last : (a b c d : Bool) → (a && (b && (c && d))) ≡ ((a && (b && c)) && d)
+and-last true true c d = refl
+and-last true false c d = refl
+and-last false b c d = refl
+
+pub entry-tests :
+    (point role : ℕ → ℕ) (i p r : ℕ) → p ≡ point i → r ≡ role i
+    → goodEntry point role i ≡ ((isScalar p && (leb 1 r && leb r 4)) && (eqb i 0 || ltb (point (i - 1)) p))
+unfolding goodEntry
+entry-tests point role i p r e f =
+    rw (e, f) (and-last (isScalar (point i)) (leb 1 (role i)) (leb (role i) 4) (eqb i 0 || ltb (point (i - 1)) (point i)))
 
 -- good at every index below n
 abbrev pub AllGood : (ℕ → Bool) → ℕ → Type 0

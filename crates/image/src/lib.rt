@@ -7,8 +7,9 @@ ghost use lib.ListN.{length};
 ghost use Rattle.utf8.specs.Scalar.{isScalar};
 ghost use Rattle.image.specs.Word.{joinOf, wordAt};
 ghost use Rattle.image.specs.Limits.{maxRanges, maxEntries};
-ghost use Rattle.image.specs.Header.{totalOf, rangeOffset, entryOffset, entriesAt, imageEnd, lengthRight, headerRight};
-ghost use Rattle.image.specs.Ranges.{rangeAt, goodAlone, follows};
+ghost use Rattle.image.specs.Header.{totalOf, rangeCount, rangeOffset, entryOffset, entriesAt, imageEnd, lengthRight, headerRight};
+ghost use Rattle.image.specs.Ranges.{rangeAt, goodAlone, follows, goodRange, firstBadRange};
+ghost use Rattle.image.specs.Profile.{pointAt, roleAt, goodEntry, firstBadEntry};
 use refusal::Refusal;
 
 // The most ranges and profile entries that an image may have.
@@ -177,4 +178,67 @@ fn is_header_right(image: &[u8]) -> bool
         return false;
     }
     are_offsets_right(image, n, m)
+}
+
+// Whether range i of an image is good.
+fn is_good_range(image: &[u8], i: usize) -> bool
+    requires { ⌜ 32 + 12 * i + 12 ≤ length (now image) ⌝ }
+    ensures { λ t. ⌜ t ≡ goodRange (rangeAt (now (image .entry))) i ⌝ }
+{
+    let r = range_at(image, i);
+    if is_good_alone(r) {
+        if i == 0 {
+            return true;
+        }
+        return may_follow(range_at(image, i - 1), r);
+    }
+    false
+}
+
+// The index of the first bad range of n, or n.
+fn first_bad_range(image: &[u8], n: usize) -> usize
+    requires { ⌜ 32 + 12 * n ≤ length (now image) ⌝ }
+    ensures { λ r. ⌜ r ≡ firstBadRange (rangeAt (now (image .entry))) n ⌝ }
+{
+    let mut i = 0;
+    while i < n {
+        if is_good_range(image, i) {
+            i += 1;
+        } else {
+            return i;
+        }
+    }
+    i
+}
+
+// Whether profile entry i of an image is good; the entries begin at byte `base`.
+fn is_good_entry(image: &[u8], base: usize, i: usize) -> bool
+    requires { ⌜ (base ≡ entriesAt (rangeCount (now image))) × (base + 8 * i + 8 ≤ length (now image)) ⌝ }
+    ensures { λ t. ⌜ t ≡ goodEntry (pointAt (now (image .entry))) (roleAt (now (image .entry))) i ⌝ }
+{
+    let at = base + 8 * i;
+    let point = word(image, at);
+    if is_good_pair(point, word(image, at + 4)) {
+        if i == 0 {
+            return true;
+        }
+        return word(image, at - 8) < point;
+    }
+    false
+}
+
+// The index of the first bad entry of m, or m.
+fn first_bad_entry(image: &[u8], base: usize, m: usize) -> usize
+    requires { ⌜ (base ≡ entriesAt (rangeCount (now image))) × (base + 8 * m ≤ length (now image)) ⌝ }
+    ensures { λ r. ⌜ r ≡ firstBadEntry (pointAt (now (image .entry))) (roleAt (now (image .entry))) m ⌝ }
+{
+    let mut i = 0;
+    while i < m {
+        if is_good_entry(image, base, i) {
+            i += 1;
+        } else {
+            return i;
+        }
+    }
+    i
 }
