@@ -94,6 +94,10 @@ module _ (s : List ℕ) where
         size = sym (eqb-true _ _ t) ∙ eqb-true _ _ k;
       }
 
+  pub long-enough : lengthRight s ≡ true → headerBytes ≤ length s
+  unfolding lengthRight
+  long-enough l = leb-true _ _ (and-left (leb headerBytes (length s)) (leb (length s) maxImage && eqb (totalOf s) (length s)) l)
+
   pub length-right : Headed s → lengthRight s ≡ true
   unfolding lengthRight
   length-right h = simp (le-leb _ _ (h .long), le-leb _ _ (h .short), eq-eqb _ _ (h .total))
@@ -182,17 +186,17 @@ Because s (some (refusal.Buffer n)) = ⊥
 Because s (some refusal.Shape) = ⊥
 
 module _ (s : List ℕ) where
-  abbrev badRange : ℕ
+  abbrev pub badRange : ℕ
   badRange = firstBadRange (rangeAt s) (rangeCount s)
 
-  abbrev badEntry : ℕ
+  abbrev pub badEntry : ℕ
   badEntry = firstBadEntry (pointAt s) (roleAt s) (entryCount s)
 
   -- the refusals of the ranges and of the entries, and none
-  abbrev afterRanges : Option Refusal
+  abbrev pub afterRanges : Option Refusal
   afterRanges = refuseAt refusal.Entry badEntry (entryCount s) none
 
-  abbrev afterHeader : Option Refusal
+  abbrev pub afterHeader : Option Refusal
   afterHeader = refuseAt refusal.Range badRange (rangeCount s) afterRanges
 
   because-entries :
@@ -228,11 +232,11 @@ module _ (s : List ℕ) where
   pub accepted : refusalOf s ≡ none → Accepted s
   accepted e = why none e
 
-  past-header : Headed s → refusalOf s ≡ afterHeader
+  pub past-header : Headed s → refusalOf s ≡ afterHeader
   unfolding refusalOf
   past-header h = simp (length-right s h, header-right s h)
 
-  past-ranges : Headed s → AllGood (goodRange (rangeAt s)) (rangeCount s) → refusalOf s ≡ afterRanges
+  pub past-ranges : Headed s → AllGood (goodRange (rangeAt s)) (rangeCount s) → refusalOf s ≡ afterRanges
   unfolding firstBadRange
   past-ranges h g =
       let e = first-is-none (goodRange (rangeAt s)) (rangeCount s) g in
@@ -273,6 +277,26 @@ module _ (s : List ℕ) where
   -- for a caller that has the answer in hand
   pub says : (k : Checked) → k ≡ checkOf s → (a : Answer) → k .answer ≡ a → Says s a (k .profile)
   says k e a f = subst (λ (x : Answer). Says s x (k .profile)) f (subst (λ (x : Checked). Says s (x .answer) (x .profile)) (sym e) says-of)
+
+-- the answer with a refusal, and without one
+module _ (s : List ℕ) where
+  pub refuses : (r : Refusal) → refusalOf s ≡ some r → answer.Refused r ≡ checkOf s .answer
+  unfolding checkOf
+  refuses r e = ap (λ (o : Option Refusal). checkBy s o .answer) (sym e)
+
+  pub accepts : refusalOf s ≡ none → (v n : ℕ) → v ≡ versionOf s → n ≡ rangeCount s → answer.Accepted v n ≡ checkOf s .answer
+  unfolding checkOf
+  accepts e v n ev en = rw (ev, en) (ap (λ (o : Option Refusal). checkBy s o .answer) (sym e))
+
+  -- and back, from an answer in hand
+  pub refused-by : (a : Answer) → a ≡ checkOf s .answer → (r : Refusal) → a ≡ answer.Refused r → refusalOf s ≡ some r
+  refused-by a e r f = says s (checkOf s) refl (answer.Refused r) (sym e ∙ f) .0
+
+  pub accepted-by :
+      (a : Answer) → a ≡ checkOf s .answer → (v n : ℕ) → a ≡ answer.Accepted v n → (refusalOf s ≡ none) × (v ≡ versionOf s) × (n ≡ rangeCount s)
+  accepted-by a e v n f =
+      let (o, ev, en, ep) = says s (checkOf s) refl (answer.Accepted v n) (sym e ∙ f) in
+      (o, ev, en)
 
 -- what the answer of a read into a buffer says, and what the buffer then holds
 abbrev pub ReadSays : List ℕ → List ℕ → Answer → Profile → Type 0

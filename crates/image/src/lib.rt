@@ -1,15 +1,17 @@
 // Class images: checking an image, and reading its ranges and its profile.
 ghost use mathlib.Core.Path.{_≡_};
-ghost use mathlib.Core.Bool.{not, _&&_, _||_};
+ghost use mathlib.Core.Bool.{true, not, _&&_, _||_};
+ghost use mathlib.Core.Option.{none};
 ghost use Prim.Native.Nat.{_+_, _*_, _≤_};
 ghost use lib.Dec.{leb, ltb, eqb};
 ghost use lib.ListN.{length};
 ghost use Rattle.utf8.specs.Scalar.{isScalar};
 ghost use Rattle.image.specs.Word.{joinOf, wordAt};
 ghost use Rattle.image.specs.Limits.{maxRanges, maxEntries};
-ghost use Rattle.image.specs.Header.{totalOf, rangeCount, rangeOffset, entryOffset, entriesAt, imageEnd, lengthRight, headerRight};
+ghost use Rattle.image.specs.Header.{versionOf, totalOf, rangeCount, rangeOffset, entryCount, entryOffset, entriesAt, imageEnd, lengthRight, headerRight};
 ghost use Rattle.image.specs.Ranges.{rangeAt, goodAlone, follows, goodRange, firstBadRange};
-ghost use Rattle.image.specs.Profile.{pointAt, roleAt, goodEntry, firstBadEntry};
+ghost use Rattle.image.specs.Profile.{pointAt, roleAt, goodEntry, firstBadEntry, profileOf};
+ghost use Rattle.image.specs.Check.{refusalOf, acceptedOf, refusedBy, checkOf};
 use refusal::Refusal;
 
 // The most ranges and profile entries that an image may have.
@@ -241,4 +243,97 @@ fn first_bad_entry(image: &[u8], base: usize, m: usize) -> usize
         }
     }
     i
+}
+
+// The profile of an image with m entries from byte `base` on.
+fn read_profile(image: &[u8], base: usize, m: usize) -> Profile
+    requires { ⌜ (base ≡ entriesAt (rangeCount (now image))) × (m ≡ entryCount (now image)) × (m ≤ maxEntries) × (base + 8 * m ≤ length (now image)) ⌝ }
+    ensures { λ r. ⌜ r ≡ profileOf (now (image .entry)) ⌝ }
+{
+    let mut points = [0u32; MAX_ENTRIES];
+    let mut roles = [0u32; MAX_ENTRIES];
+    let mut i = 0;
+    while i < m {
+        let at = base + 8 * i;
+        points[i] = word(image, at);
+        roles[i] = word(image, at + 4);
+        i += 1;
+    }
+    Profile {
+        points,
+        roles,
+        used: m,
+    }
+}
+
+// The answer of a refusal, with an empty profile.
+fn refuse(r: Refusal) -> Checked
+    ensures { λ k. ⌜ k ≡ refusedBy r ⌝ }
+{
+    let zeros = [0u32; MAX_ENTRIES];
+    Checked {
+        answer: Answer::Refused(r),
+        profile: Profile {
+            points: zeros,
+            roles: zeros,
+            used: 0,
+        },
+    }
+}
+
+// The answer for an accepted image, with its profile.
+fn accept(image: &[u8], version: u32, n: usize) -> Checked
+    requires { ⌜ (refusalOf (now image) ≡ none) × (version ≡ versionOf (now image)) × (n ≡ rangeCount (now image)) ⌝ }
+    ensures { λ k. ⌜ k ≡ acceptedOf (now (image .entry)) ⌝ }
+{
+    let m = word(image, 20) as usize;
+    Checked {
+        answer: Answer::Accepted { version, ranges: n },
+        profile: read_profile(image, 32 + 12 * n, m),
+    }
+}
+
+// Checks the ranges and the profile of an image whose length and header are right.
+fn judge_records(image: &[u8]) -> Answer
+    requires { ⌜ (lengthRight (now image) ≡ true) × (headerRight (now image) ≡ true) ⌝ }
+    ensures { λ a. ⌜ a ≡ checkOf (now (image .entry)) .answer ⌝ }
+{
+    let n = word(image, 12) as usize;
+    let i = first_bad_range(image, n);
+    if i < n {
+        return Answer::Refused(Refusal::Range(i));
+    }
+    let m = word(image, 20) as usize;
+    let j = first_bad_entry(image, 32 + 12 * n, m);
+    if j < m {
+        return Answer::Refused(Refusal::Entry(j));
+    }
+    Answer::Accepted {
+        version: word(image, 4),
+        ranges: n,
+    }
+}
+
+// The answer of the check, without the profile.
+fn judge(image: &[u8]) -> Answer
+    ensures { λ a. ⌜ a ≡ checkOf (now (image .entry)) .answer ⌝ }
+{
+    if is_length_right(image) {
+        if is_header_right(image) {
+            return judge_records(image);
+        }
+        return Answer::Refused(Refusal::Header);
+    }
+    Answer::Refused(Refusal::Length)
+}
+
+// Checks an image and reads its profile.
+pub fn check(image: &[u8]) -> Checked
+    ensures { λ r. ⌜ r ≡ checkOf (now (image .entry)) ⌝ }
+{
+    let a = judge(image);
+    match a {
+        Answer::Refused(r) => refuse(r),
+        Answer::Accepted { version, ranges } => accept(image, version, ranges),
+    }
 }
