@@ -6,6 +6,8 @@ use native.Mathlib.Numerals.{add-one}
 use native.Mathlib.Omega.{arith}
 use lib.ListN.{length, take, drop, getD, length-append, drop-of-length-le}
 use lib.Seq.{drop-cons}
+use Rattle.lists.specs.Each.{eachFrom}
+use Rattle.lists.proofs.EachLaws.{each-next, each-end}
 use Rattle.image.specs.Word.{wordAt, bytesOf, joinOf}
 use Rattle.image.specs.Image.{bytesOfAll}
 
@@ -31,3 +33,12 @@ all-next ws i h = rw (add-one, drop-cons ws i 0)
 pub all-end : (ws : List ℕ) (i : ℕ) → length ws ≤ i → bytesOfAll (drop i ws) ≡ []
 unfolding bytesOfAll
 all-end ws i h = rw drop-of-length-le
+
+-- the same of lists made from a function of the index
+module _ (f : ℕ → List ℕ) (n i : ℕ) where
+  pub each-all-next : i < n → bytesOfAll (eachFrom f (n - i) i) ≡ bytesOfAll (f i) ++ bytesOfAll (eachFrom f (n - (i + 1)) (i + 1))
+  each-all-next h = ap bytesOfAll (each-next f n i h) ∙ all-append (f i) (eachFrom f (n - (i + 1)) (i + 1))
+
+  pub each-all-end : n ≤ i → bytesOfAll (eachFrom f (n - i) i) ≡ []
+  unfolding bytesOfAll
+  each-all-end h = ap bytesOfAll (each-end f n i h)

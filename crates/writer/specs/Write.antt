@@ -1,8 +1,8 @@
 -- What writing an image gives (document 01, "Named refusals": the writer checks 13, then 2 for counts, 3, 4, 12).
 use Prim.Native.Nat.{ℕ, _/_, _%_}
-use mathlib.Core.List.{List}
+use mathlib.Core.List.{List, [], _∷_}
 use mathlib.Core.Option.{Option, none, some}
-use lib.ListN.{length}
+use lib.ListN.{length, getD}
 use lib.Dec.{leb, eqb}
 use Rattle.lists.specs.Laid.{laid}
 use Rattle.refusal.specs.declared.Refusal.{Refusal}
@@ -24,6 +24,13 @@ rangesIn words = length words / 3
 -- the bytes of the image with these ranges and this profile
 abbrev pub bytesNeeded : List ℕ → Profile → ℕ
 bytesNeeded words p = imageEnd (rangesIn words) (p .used)
+
+-- a profile's record, of its two arrays and the used length, and the two words of its entry i
+abbrev pub profileWith : List ℕ → List ℕ → ℕ → Profile
+profileWith points roles m = record { points = points; roles = roles; used = m }
+
+abbrev pub pairAt : List ℕ → List ℕ → ℕ → List ℕ
+pairAt points roles i = getD points i 0 ∷ getD roles i 0 ∷ []
 
 -- 13: the words are no multiple of 3. 2: a count is above its limit. 3 and 4: a range or an entry is bad.
 -- 12: the buffer of `room` bytes is too short. Entries past the used length are not looked at.

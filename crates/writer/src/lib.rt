@@ -1,12 +1,16 @@
 // Writing a class image.
 ghost use mathlib.Core.Path.{_≡_};
 ghost use mathlib.Core.List.{[], _∷_};
-ghost use Prim.Native.Nat.{_+_, _*_, _≤_};
+ghost use Prim.Native.Nat.{_+_, _*_, _%_, _≤_};
 ghost use lib.ListN.{length};
 ghost use Rattle.lists.specs.Laid.{laid};
 ghost use Rattle.lists.specs.Each.{each};
 ghost use Rattle.image.specs.Word.{bytesOf};
-ghost use Rattle.image.specs.Image.{bytesOfAll};
+ghost use Rattle.image.specs.Ranges.{rangeIn};
+ghost use Rattle.image.specs.Header.{imageEnd};
+ghost use Rattle.image.specs.Image.{bytesOfAll, imageOf};
+ghost use Rattle.writer.specs.Write.{pairAt, profileWith, rangesIn};
+ghost use Rattle.image.specs.Limits.{maxRanges, maxEntries};
 use image::MAX_ENTRIES;
 use refusal::Refusal;
 
@@ -39,4 +43,52 @@ fn put_words(out: &mut [u8], words: &[u32])
         put_word(&mut out[at..], words[i]);
         i += 1;
     }
+}
+
+// Writes the bytes of a profile entry at the front of `out`.
+fn put_entry(out: &mut [u8], point: u32, role: u32)
+    requires { ⌜ 8 ≤ length (now out) ⌝ }
+    ensures { λ _. ⌜ now (out .exit) ≡ laid (now (out .entry)) 0 (bytesOfAll (point ∷ role ∷ [])) ⌝ }
+{
+    put_word(out, point);
+    put_word(&mut out[4..], role);
+}
+
+// Writes the bytes of the first `m` profile entries at the front of `out`.
+fn put_entries<'a>(
+    out: &mut [u8],
+    points: &'a [u32; MAX_ENTRIES],
+    roles: &'a [u32; MAX_ENTRIES],
+    m: usize,
+)
+    requires { ⌜ (m ≤ maxEntries) × (8 * m ≤ length (now out)) ⌝ }
+    ensures { λ _. ⌜ now (out .exit) ≡ laid (now (out .entry)) 0 (bytesOfAll (each (pairAt (now (points .entry)) (now (roles .entry))) m)) ⌝ }
+{
+    let mut i = 0;
+    while i < m {
+        let at = 8 * i;
+        put_entry(&mut out[at..], points[i], roles[i]);
+        i += 1;
+    }
+}
+
+// Writes the image with these ranges and these profile entries at the front of `out`.
+fn put_image<'a>(
+    version: u32,
+    words: &[u32],
+    points: &'a [u32; MAX_ENTRIES],
+    roles: &'a [u32; MAX_ENTRIES],
+    m: usize,
+    out: &mut [u8],
+)
+    requires { ⌜ (length (now words) % 3 ≡ 0) × (rangesIn (now words) ≤ maxRanges) × (m ≤ maxEntries) × (imageEnd (rangesIn (now words)) m ≤ length (now out)) ⌝ }
+    ensures { λ _. ⌜ now (out .exit) ≡ laid (now (out .entry)) 0 (imageOf version (rangeIn (now (words .entry))) (rangesIn (now (words .entry))) (profileWith (now (points .entry)) (now (roles .entry)) m)) ⌝ }
+{
+    let n = words.len() / 3;
+    let at = 32 + 12 * n;
+    let end = at + 8 * m;
+    let head = [1, version, end as u32, n as u32, 32, m as u32, at as u32, 0];
+    put_words(out, &head);
+    put_words(&mut out[32..], words);
+    put_entries(&mut out[at..], points, roles, m);
 }

@@ -62,8 +62,7 @@ loop-again c =
     let four = length-four (getD words (l .i) 0) in
     let fits : 4 * l .i + length b ≤ length (l .out) = omega arith in
     let goes : 4 * l .i + length b ≡ 4 * (l .i + 1) = omega arith in
-    let p = c .before .before .put-word .ensures in
-    (
+    let p = c .before .before .put-word .ensures in (
       omega arith,
       kept (l .out) b _ (4 * l .i) _ fits goes p ∙ l .inv .1,
       turned (l .out) b _ (4 * l .i) _ fits goes p _ _ (ap (laid (l .out) (4 * l .i)) (sym (all-next words (l .i) (omega arith))) ∙ l .inv .2),
