@@ -1,2 +1,3 @@
 pub mod WordLaws
 pub mod LayLaws
+pub mod PartLaws

@@ -1,3 +1,16 @@
+-- `writer::put_image` meets its contract: header, ranges and entries are laid one after the other. Assumes nothing.
+use mathlib.Core.Path.{_≡_, sym, ap, _∙_}
+use mathlib.Core.List.{List, _++_}
+use Prim.Native.Nat.{_+_, _*_, _≤_}
+use native.Mathlib.Omega.{arith}
+use lib.ListN.{length, length-append}
+use Rattle.lists.specs.Laid.{laid}
+use Rattle.lists.specs.Each.{each}
+use Rattle.image.specs.Image.{headerWords, entryWords, bytesOfAll}
+use Rattle.writer.specs.Write.{rangesIn, profileWith}
+use Rattle.writer.proofs.WordLaws.{length-all}
+use Rattle.writer.proofs.LayLaws.{joined}
+use Rattle.writer.proofs.PartLaws.{whole, image-parts, length-entries}
 use borrow.Author.Needs.{needs}
 use Rattle.writer.proofs.put_image.Statement.{statement}
 use Rattle.writer.proofs.put_image.Tie as tie
@@ -6,85 +19,87 @@ use Rattle.writer.proofs.put_image.Lts as lts
 use Rattle.writer.proofs.put_entries.Reads as put-entries-reads
 use Rattle.writer.proofs.put_words.Reads as put-words-reads
 
--- src/lib.rt:88:19
 mul-at : tie.Need-mul-at
 mul-at c = search needs
 
--- src/lib.rt:88:14
 add-at : tie.Need-add-at
 add-at c = search needs
 
--- src/lib.rt:89:20
 mul-end : tie.Need-mul-end
 mul-end c = search needs
 
--- src/lib.rt:89:15
 add-end : tie.Need-add-end
 add-end c = search needs
 
--- src/lib.rt:90:29
 cast-t12 : tie.Need-cast-t12
 cast-t12 c = search needs
 
--- src/lib.rt:90:41
 cast-t13 : tie.Need-cast-t13
 cast-t13 c = search needs
 
--- src/lib.rt:90:55
 cast-t14 : tie.Need-cast-t14
 cast-t14 c = search needs
 
--- src/lib.rt:90:65
 cast-t15 : tie.Need-cast-t15
 cast-t15 c = search needs
 
--- src/lib.rt:91:20
 slice-aggregate-put-words : tie.Need-slice-aggregate-put-words
 slice-aggregate-put-words c = search needs
 
--- src/lib.rt:91:5
 put-words-requires : tie.Need-put-words-requires
 put-words-requires c κs = search needs
 
--- src/lib.rt:92:15
 sub-put-words : tie.Need-sub-put-words
 sub-put-words c = search needs
 
--- src/lib.rt:92:15
 part-put-words-start : tie.Need-part-put-words-start
 part-put-words-start c = search needs
 
--- src/lib.rt:92:15
 part-put-words-end : tie.Need-part-put-words-end
 part-put-words-end c = search needs
 
--- src/lib.rt:92:5
 put-words-requires-2 : tie.Need-put-words-requires-2
 put-words-requires-2 c κs = search needs
 
--- src/lib.rt:93:17
 sub-put-entries : tie.Need-sub-put-entries
 sub-put-entries c = search needs
 
--- src/lib.rt:93:17
 part-put-entries-start : tie.Need-part-put-entries-start
 part-put-entries-start c = search needs
 
--- src/lib.rt:93:17
 part-put-entries-end : tie.Need-part-put-entries-end
 part-put-entries-end c = search needs
 
--- src/lib.rt:93:5
 put-entries-requires : tie.Need-put-entries-requires
 put-entries-requires c κs = search needs
 
--- src/lib.rt:76:1
 same-length : tie.Need-same-length
 same-length c = search needs
 
--- src/lib.rt:76:1
 returns : tie.Need-returns
-returns c = ?
+returns c =
+    let s = c .before .before .before .before .before .before .before .before .before .before .before .before .before .before .before in
+    let a = s .args in
+    let out = a .out .now in
+    let words = a .words .now in
+    let n = rangesIn words in
+    let p = profileWith (a .points .now) (a .roles .now) (a .m) in
+    let header = headerWords (a .version) n (a .m) in
+    let entries = each (entryWords p) (a .m) in
+    let e = s .pre .0 in
+    let w = whole words e in
+    let k = length-entries (a .version) words p e in
+    let h = length-all header in
+    let g = length-all words in
+    let f = length-all entries in
+    let front = bytesOfAll header ++ bytesOfAll words in
+    let l : length front ≡ 32 + 12 * n = omega (arith, length-append (bytesOfAll header) (bytesOfAll words)) in
+    let u : 32 + length (bytesOfAll words) ≤ length out = omega arith in
+    let v : 32 + 12 * n + length (bytesOfAll entries) ≤ length out = omega arith in
+    let x = c .before .before .before .before .before .before .before .before .before .before .put-words .ensures in
+    let y = joined out (bytesOfAll header) (bytesOfAll words) _ _ 32 h u x (c .before .before .before .before .before .before .put-words2 .ensures) in
+    joined out front (bytesOfAll entries) _ _ (32 + 12 * n) l v y (c .before .before .put-entries .ensures)
+    ∙ ap (laid out 0) (sym (image-parts (a .version) words p e))
 
 pub put-image-spec : {M : Type 1} → statement M
 put-image-spec =
