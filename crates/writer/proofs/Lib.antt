@@ -1,3 +1,4 @@
 pub mod WordLaws
 pub mod LayLaws
 pub mod PartLaws
+pub mod JudgeLaws

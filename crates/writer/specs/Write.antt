@@ -29,6 +29,10 @@ bytesNeeded words p = imageEnd (rangesIn words) (p .used)
 abbrev pub profileWith : List ℕ → List ℕ → ℕ → Profile
 profileWith points roles m = record { points = points; roles = roles; used = m }
 
+-- the value at each index of an array
+abbrev pub at : List ℕ → ℕ → ℕ
+at l i = getD l i 0
+
 abbrev pub pairAt : List ℕ → List ℕ → ℕ → List ℕ
 pairAt points roles i = getD points i 0 ∷ getD roles i 0 ∷ []
 

@@ -1,17 +1,21 @@
 // Writing a class image.
 ghost use mathlib.Core.Path.{_≡_};
 ghost use mathlib.Core.List.{[], _∷_};
-ghost use Prim.Native.Nat.{_+_, _*_, _%_, _≤_};
+ghost use Prim.Native.Nat.{_+_, _*_, _%_, _≤_, _<_};
 ghost use lib.ListN.{length};
 ghost use Rattle.lists.specs.Laid.{laid};
 ghost use Rattle.lists.specs.Each.{each};
 ghost use Rattle.image.specs.Word.{bytesOf};
-ghost use Rattle.image.specs.Ranges.{rangeIn};
+ghost use Rattle.image.specs.Ranges.{rangeIn, goodRange, firstBadRange};
+ghost use Rattle.image.specs.Profile.{goodEntry, firstBadEntry};
 ghost use Rattle.image.specs.Header.{imageEnd};
 ghost use Rattle.image.specs.Image.{bytesOfAll, imageOf};
-ghost use Rattle.writer.specs.Write.{pairAt, profileWith, rangesIn};
+ghost use Rattle.writer.specs.Write.{at, pairAt, profileWith, rangesIn};
 ghost use Rattle.image.specs.Limits.{maxRanges, maxEntries};
 use image::MAX_ENTRIES;
+use image::MAX_RANGES;
+use image::Profile;
+use image::Range;
 use refusal::Refusal;
 
 pub enum Written {
@@ -91,4 +95,85 @@ fn put_image<'a>(
     put_words(out, &head);
     put_words(&mut out[32..], words);
     put_entries(&mut out[at..], points, roles, m);
+}
+
+// Range i of a list of words.
+fn range_in(words: &[u32], i: usize) -> Range
+    requires { ⌜ 3 * i + 3 ≤ length (now words) ⌝ }
+    ensures { λ r. ⌜ r ≡ rangeIn (now (words .entry)) i ⌝ }
+{
+    let at = 3 * i;
+    Range {
+        first: words[at],
+        last: words[at + 1],
+        class: words[at + 2],
+    }
+}
+
+fn is_good_range(words: &[u32], i: usize) -> bool
+    requires { ⌜ 3 * i + 3 ≤ length (now words) ⌝ }
+    ensures { λ t. ⌜ t ≡ goodRange (rangeIn (now (words .entry))) i ⌝ }
+{
+    let r = range_in(words, i);
+    if image::is_good_alone(r) {
+        if i == 0 {
+            return true;
+        }
+        return image::may_follow(range_in(words, i - 1), r);
+    }
+    false
+}
+
+// The index of the first bad range of n, or n.
+fn first_bad_range(words: &[u32], n: usize) -> usize
+    requires { ⌜ 3 * n ≤ length (now words) ⌝ }
+    ensures { λ r. ⌜ r ≡ firstBadRange (rangeIn (now (words .entry))) n ⌝ }
+{
+    let mut i = 0;
+    while i < n {
+        if is_good_range(words, i) {
+            i += 1;
+        } else {
+            return i;
+        }
+    }
+    i
+}
+
+fn is_good_entry<'a>(
+    points: &'a [u32; MAX_ENTRIES],
+    roles: &'a [u32; MAX_ENTRIES],
+    i: usize,
+) -> bool
+    requires { ⌜ i < maxEntries ⌝ }
+    ensures { λ t. ⌜ t ≡ goodEntry (at (now (points .entry))) (at (now (roles .entry))) i ⌝ }
+{
+    let point = points[i];
+    if image::is_good_pair(point, roles[i]) {
+        if i == 0 {
+            return true;
+        }
+        return points[i - 1] < point;
+    }
+    false
+}
+
+// The index of the first bad entry of m, or m.
+fn first_bad_entry<'a>(
+    points: &'a [u32; MAX_ENTRIES],
+    roles: &'a [u32; MAX_ENTRIES],
+    m: usize,
+) -> usize
+    requires { ⌜ m ≤ maxEntries ⌝ }
+    ensures { λ r. ⌜ r ≡ firstBadEntry (at (now (points .entry))) (at (now (roles .entry))) m ⌝ }
+{
+    let mut i = 0;
+    while i < m {
+        if is_good_entry(points, roles, i) {
+            i += 1;
+        } else {
+            return i;
+        }
+    }
+    i
 }
