@@ -2,3 +2,4 @@ pub mod WordLaws
 pub mod LayLaws
 pub mod PartLaws
 pub mod JudgeLaws
+pub mod WriteLaws

@@ -10,7 +10,7 @@ ghost use Rattle.image.specs.Ranges.{rangeIn, goodRange, firstBadRange};
 ghost use Rattle.image.specs.Profile.{goodEntry, firstBadEntry};
 ghost use Rattle.image.specs.Header.{imageEnd};
 ghost use Rattle.image.specs.Image.{bytesOfAll, imageOf};
-ghost use Rattle.writer.specs.Write.{at, pairAt, profileWith, rangesIn};
+ghost use Rattle.writer.specs.Write.{at, pairAt, profileWith, rangesIn, writeOf, bytesAfter};
 ghost use Rattle.image.specs.Limits.{maxRanges, maxEntries};
 use image::MAX_ENTRIES;
 use image::MAX_RANGES;
@@ -176,4 +176,54 @@ fn first_bad_entry<'a>(
         }
     }
     i
+}
+
+// What the writer answers for a buffer of `room` bytes.
+fn judge<'a>(
+    words: &[u32],
+    points: &'a [u32; MAX_ENTRIES],
+    roles: &'a [u32; MAX_ENTRIES],
+    m: usize,
+    room: usize,
+) -> Written
+    ensures { λ r. ⌜ r ≡ writeOf (now (words .entry)) (profileWith (now (points .entry)) (now (roles .entry)) m) room ⌝ }
+{
+    if words.len() % 3 != 0 {
+        return Written::Refused(Refusal::Shape);
+    }
+    let n = words.len() / 3;
+    if MAX_RANGES < n {
+        return Written::Refused(Refusal::Header);
+    }
+    if MAX_ENTRIES < m {
+        return Written::Refused(Refusal::Header);
+    }
+    let i = first_bad_range(words, n);
+    if i < n {
+        return Written::Refused(Refusal::Range(i));
+    }
+    let j = first_bad_entry(points, roles, m);
+    if j < m {
+        return Written::Refused(Refusal::Entry(j));
+    }
+    let len = 32 + 12 * n + 8 * m;
+    if room < len {
+        return Written::Refused(Refusal::Buffer(len));
+    }
+    Written::Image { len }
+}
+
+// Writes the image with this version, these ranges and this profile at the front of `out`, or leaves `out` as it was.
+pub fn write(version: u32, words: &[u32], profile: Profile, out: &mut [u8]) -> Written
+    ensures { λ r. ⌜ (r ≡ writeOf (now (words .entry)) profile (length (now (out .entry)))) × (now (out .exit) ≡ bytesAfter version (now (words .entry)) profile (now (out .entry))) ⌝ }
+{
+    let m = profile.used;
+    let answer = judge(words, &profile.points, &profile.roles, m, out.len());
+    match answer {
+        Written::Refused(r) => Written::Refused(r),
+        Written::Image { len } => {
+            put_image(version, words, &profile.points, &profile.roles, m, out);
+            Written::Image { len }
+        }
+    }
 }

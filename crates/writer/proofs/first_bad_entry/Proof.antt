@@ -9,9 +9,6 @@ use Rattle.image.specs.Profile.{goodEntry, firstBadEntry}
 use Rattle.writer.specs.Write.{at}
 use Rattle.writer.proofs.first_bad_entry.Statement.{statement}
 use Rattle.writer.proofs.first_bad_entry.Tie as tie
-use Rattle.writer.proofs.first_bad_entry.Reads as reads
-use Rattle.writer.proofs.first_bad_entry.Lts as lts
-use Rattle.writer.proofs.is_good_entry.Reads as is-good-entry-reads
 
 abbrev Inv-loop : tie.InvT-loop
 Inv-loop points roles m i₀ i = (i ≤ m) × (firstFrom (λ (j : ℕ). not (goodEntry (at points) (at roles) j)) (m - i) i ≡ firstBadEntry (at points) (at roles) m)

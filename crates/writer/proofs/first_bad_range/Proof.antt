@@ -8,9 +8,6 @@ use Rattle.lists.proofs.FirstLaws.{first-here, first-next, first-end, first-beg
 use Rattle.image.specs.Ranges.{rangeIn, goodRange, firstBadRange}
 use Rattle.writer.proofs.first_bad_range.Statement.{statement}
 use Rattle.writer.proofs.first_bad_range.Tie as tie
-use Rattle.writer.proofs.first_bad_range.Reads as reads
-use Rattle.writer.proofs.first_bad_range.Lts as lts
-use Rattle.writer.proofs.is_good_range.Reads as is-good-range-reads
 
 abbrev Inv-loop : tie.InvT-loop
 Inv-loop words n i₀ i = (i ≤ n) × (firstFrom (λ (j : ℕ). not (goodRange (rangeIn words) j)) (n - i) i ≡ firstBadRange (rangeIn words) n)

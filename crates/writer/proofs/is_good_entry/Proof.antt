@@ -5,9 +5,6 @@ use Rattle.writer.proofs.JudgeLaws.{entry-parts}
 use borrow.Author.Needs.{needs}
 use Rattle.writer.proofs.is_good_entry.Statement.{statement}
 use Rattle.writer.proofs.is_good_entry.Tie as tie
-use Rattle.writer.proofs.is_good_entry.Reads as reads
-use Rattle.writer.proofs.is_good_entry.Lts as lts
-use Rattle.image.proofs.is_good_pair.Reads as is-good-pair-reads
 
 mul-point : tie.Need-mul-point
 mul-point c = search needs

@@ -4,11 +4,6 @@ use Rattle.image.specs.Ranges.{goodRange}
 use borrow.Author.Needs.{needs}
 use Rattle.writer.proofs.is_good_range.Statement.{statement}
 use Rattle.writer.proofs.is_good_range.Tie as tie
-use Rattle.writer.proofs.is_good_range.Reads as reads
-use Rattle.writer.proofs.is_good_range.Lts as lts
-use Rattle.image.proofs.is_good_alone.Reads as is-good-alone-reads
-use Rattle.image.proofs.may_follow.Reads as may-follow-reads
-use Rattle.writer.proofs.range_in.Reads as range-in-reads
 
 range-in-requires : tie.Need-range-in-requires
 range-in-requires c κs = search needs

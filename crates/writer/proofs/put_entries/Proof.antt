@@ -15,9 +15,6 @@ use Rattle.writer.proofs.WordLaws.{length-all, each-all-next, each-all-
 use Rattle.writer.proofs.LayLaws.{kept, turned}
 use Rattle.writer.proofs.put_entries.Statement.{statement}
 use Rattle.writer.proofs.put_entries.Tie as tie
-use Rattle.writer.proofs.put_entries.Reads as reads
-use Rattle.writer.proofs.put_entries.Lts as lts
-use Rattle.writer.proofs.put_entry.Reads as put-entry-reads
 
 abbrev Inv-loop : tie.InvT-loop
 Inv-loop out₀ points roles m i₀ out i =

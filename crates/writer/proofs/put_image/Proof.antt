@@ -14,10 +14,6 @@ use Rattle.writer.proofs.PartLaws.{whole, image-parts, length-entries}
 use borrow.Author.Needs.{needs}
 use Rattle.writer.proofs.put_image.Statement.{statement}
 use Rattle.writer.proofs.put_image.Tie as tie
-use Rattle.writer.proofs.put_image.Reads as reads
-use Rattle.writer.proofs.put_image.Lts as lts
-use Rattle.writer.proofs.put_entries.Reads as put-entries-reads
-use Rattle.writer.proofs.put_words.Reads as put-words-reads
 
 mul-at : tie.Need-mul-at
 mul-at c = search needs

@@ -13,9 +13,6 @@ use Rattle.writer.proofs.WordLaws.{length-four, all-next, all-end}
 use Rattle.writer.proofs.LayLaws.{kept, turned}
 use Rattle.writer.proofs.put_words.Statement.{statement}
 use Rattle.writer.proofs.put_words.Tie as tie
-use Rattle.writer.proofs.put_words.Reads as reads
-use Rattle.writer.proofs.put_words.Lts as lts
-use Rattle.writer.proofs.put_word.Reads as put-word-reads
 
 abbrev Inv-loop : tie.InvT-loop
 Inv-loop out₀ words i₀ out i =

@@ -4,8 +4,6 @@ use Rattle.image.specs.Ranges.{rangeIn}
 use borrow.Author.Needs.{needs}
 use Rattle.writer.proofs.range_in.Statement.{statement}
 use Rattle.writer.proofs.range_in.Tie as tie
-use Rattle.writer.proofs.range_in.Reads as reads
-use Rattle.writer.proofs.range_in.Lts as lts
 
 mul-at : tie.Need-mul-at
 mul-at c = search needs
