@@ -7,8 +7,8 @@ use mathlib.Core.Bool.{Bool, true, false}
 use mathlib.Core.Option.{Option, none, some}
 use native.Mathlib.Nat.{add-assoc}
 use native.Mathlib.Omega.{arith}
-use lib.ListN.{length, take, drop, getD, length-append, take-append-drop, replicate, length-replicate, List·getD-append}
-use lib.Seq.{getD-drop, getD-append-add, take-at, take-add, take-all}
+use lib.ListN.{length, take, drop, getD, length-append, length-drop, take-append-drop, replicate, length-replicate, List·getD-append}
+use lib.Seq.{getD-drop, getD-append-add, take-at, take-all, drop-drop}
 use Rattle.lists.specs.Each.{each, eachFrom, single, column}
 use Rattle.lists.specs.Laid.{laid}
 use Rattle.lists.proofs.EachLaws.{drop-each, each-same, length-each, length-singles, column-at}
@@ -22,10 +22,11 @@ use Rattle.image.specs.Profile.{pointAt, roleAt, pointIn, roleIn, goodEntry, pr
 use Rattle.image.specs.Image.{headerWords, entryWords, imageWords, bytesOfAll, imageOf}
 use Rattle.image.specs.Check.{refusalOf}
 use Rattle.image.proofs.ImageLaws.{Headed, Accepted, accepted, refused-none}
-use Rattle.writer.specs.Write.{rangesIn, bytesNeeded, writeRefusal}
-use Rattle.writer.proofs.WordLaws.{Bytes, Words, word-is, wordsFrom, bytes-from, bytes-each, length-all}
+use Rattle.writer.specs.declared.Written.the-variants as written
+use Rattle.writer.specs.Write.{rangesIn, writeOf, bytesAfter}
+use Rattle.writer.proofs.WordLaws.{Bytes, Words, word-is, wordsFrom, bytes-from, bytes-each, all-append}
 use Rattle.writer.proofs.PartLaws.{whole, words-back, image-words, length-entries, length-words, length-image}
-use Rattle.writer.proofs.WriteLaws.{Counted, Writable, why, decides}
+use Rattle.writer.proofs.WriteLaws.{Counted, Writable, says}
 
 -- profiles are the same if the used lengths and the entries before them are
 pub record SameEntries (p q : Profile) : Type 0 where
@@ -226,3 +227,158 @@ module _ (version : ℕ) (words : List ℕ) (p : Profile) (w : Writable words p)
         zeros =
             λ i l. (column-past maxEntries (pointAt image) (entryCount image) i (omega arith), column-past maxEntries (roleAt image) (entryCount image) i (omega arith));
       }
+
+-- an image depends on the ranges below n and on the entries before the used length only
+image-same :
+    (v : ℕ) (f g : ℕ → Range) (n : ℕ) (p q : Profile) → ((i : ℕ) → i < n → f i ≡ g i) → SameEntries p q → imageOf v f n p ≡ imageOf v g n q
+unfolding imageOf imageWords each
+image-same v f g n p q e h =
+    let r = each-same (λ (i : ℕ). rangeWords (f i)) (λ (i : ℕ). rangeWords (g i)) n 0 (λ i _ l. ap rangeWords (e i (omega arith))) in
+    let t = each-same (entryWords p) (entryWords q) (p .used) 0 (λ i _ l. let x = h .point i (omega arith) in let y = h .role i (omega arith) in λ d. x d ∷ y d ∷ []) in
+    let u = t ∙ ap (λ (k : ℕ). eachFrom (entryWords q) k 0) (h .count) in
+    ap bytesOfAll (λ d. headerWords v n (h .count d) ++ (r d ++ u d))
+
+-- the words that reading an image gives
+abbrev pub wordsRead : List ℕ → List ℕ
+wordsRead s = each (λ (i : ℕ). rangeWords (rangeAt s i)) (rangeCount s)
+
+module _ (s : List ℕ) (b : Bytes s) (a : refusalOf s ≡ none) where
+  h : Headed s
+  h = accepted s a .header
+
+  header-bytes : bytesOfAll (headerWords (versionOf s) (rangeCount s) (entryCount s)) ≡ take 32 s
+  header-bytes =
+      let f = h .format in
+      let t = h .total ∙ h .size in
+      let o = h .ranges-begin in
+      let q = h .entries-begin in
+      let z = h .zeros in
+      let x : wordsFrom s 8 0 ≡ headerWords (versionOf s) (rangeCount s) (entryCount s) =
+      λ d. f d ∷ versionOf s ∷ t d ∷ rangeCount s ∷ o d ∷ entryCount s ∷ q d ∷ z d ∷ [] in
+      ap bytesOfAll (sym x) ∙ bytes-from s b 8 0 (let l = h .long in omega arith)
+
+  range-bytes : bytesOfAll (wordsRead s) ≡ take (12 * rangeCount s) (drop 32 s)
+  unfolding each rangeAt
+  range-bytes =
+      let l = h .size in
+      bytes-each s b (λ (i : ℕ). rangeWords (rangeAt s i)) 3 12 32 refl
+      (λ j. ap (λ (x : ℕ). wordAt s (32 + 12 * j) ∷ wordAt s (32 + 12 * j + 4) ∷ wordAt s x ∷ []) (let z : 32 + 12 * j + 8 ≡ 32 + 12 * j + 4 + 4 = omega arith in z))
+      (rangeCount s) 0 32 (omega arith) (omega arith)
+
+  entry-bytes : bytesOfAll (each (entryWords (profileOf s)) (entryCount s)) ≡ take (8 * entryCount s) (drop (entriesAt (rangeCount s)) s)
+  unfolding each profileOf pointAt roleAt
+  entry-bytes =
+      let l = h .size in
+      let m = entryCount s in
+      let f : ℕ → List ℕ = λ j. pointAt s j ∷ roleAt s j ∷ [] in
+      let p = column-at maxEntries (pointAt s) m in
+      let r = column-at maxEntries (roleAt s) m in
+      ap bytesOfAll (each-same (entryWords (profileOf s)) f m 0 (λ i _ u. let v : i < m = omega arith in λ d. p i v d ∷ r i v d ∷ []))
+      ∙ bytes-each s b f 2 8 (entriesAt (rangeCount s)) refl (λ j. refl) m 0 (entriesAt (rangeCount s)) (omega arith) (omega arith)
+
+  cut : take 32 s ++ (take (12 * rangeCount s) (drop 32 s) ++ take (8 * entryCount s) (drop (entriesAt (rangeCount s)) s)) ≡ s
+  cut =
+      let l = h .size in
+      let n = 12 * rangeCount s in
+      let k = length-drop (32 + n) s in
+      let t = take-all (8 * entryCount s) (drop (32 + n) s) (omega arith) in
+      rw (t, ← drop-drop, take-append-drop, take-append-drop)
+
+  -- an accepted image is the image of what is read from it
+  pub only : imageOf (versionOf s) (rangeAt s) (rangeCount s) (profileOf s) ≡ s
+  unfolding imageOf imageWords profileOf
+  only =
+      let hd = headerWords (versionOf s) (rangeCount s) (entryCount s) in
+      let es = each (entryWords (profileOf s)) (entryCount s) in
+      all-append hd (wordsRead s ++ es)
+      ∙ ap (λ (l : List ℕ). bytesOfAll hd ++ l) (all-append (wordsRead s) es)
+      ∙ (λ d. header-bytes d ++ (range-bytes d ++ entry-bytes d))
+      ∙ cut
+
+three : (s : List ℕ) (i : ℕ) → length (rangeWords (rangeAt s i)) ≡ 3
+three s i = refl
+
+pub length-read : (s : List ℕ) → length (wordsRead s) ≡ 3 * rangeCount s
+length-read s = length-each (λ (i : ℕ). rangeWords (rangeAt s i)) 3 (three s) (rangeCount s)
+
+-- the ranges of the words that were read are the image's
+pub range-read : (s : List ℕ) (i : ℕ) → i < rangeCount s → rangeIn (wordsRead s) i ≡ rangeAt s i
+unfolding rangeIn
+range-read s i l =
+    let f : ℕ → List ℕ = λ j. rangeWords (rangeAt s j) in
+    let z : 3 * i ≡ 3 * i + 0 = omega arith in
+    let x = ap (λ (k : ℕ). getD (wordsRead s) k 0) z ∙ each-at f 3 (three s) (rangeCount s) i 0 l (omega arith) in
+    let y = each-at f 3 (three s) (rangeCount s) i 1 l (omega arith) in
+    let c = each-at f 3 (three s) (rangeCount s) i 2 l (omega arith) in
+    λ d. record { first = x d; last = y d; class = c d }
+
+module _ (s : List ℕ) (b : Bytes s) (a : refusalOf s ≡ none) where
+  count-read : rangesIn (wordsRead s) ≡ rangeCount s
+  count-read = omega (arith, length-read s)
+
+  -- what was read from an accepted image may be written
+  pub may-rewrite : Writable (wordsRead s) (profileOf s)
+  unfolding profileOf
+  may-rewrite =
+      let k = accepted s a in
+      let n = count-read in
+      let m = entryCount s in
+      let p = column-at maxEntries (pointAt s) m in
+      let r = column-at maxEntries (roleAt s) m in
+      record {
+        counted =
+            record {
+              thirds = omega (arith, length-read s);
+              few-ranges = omega (arith, k .header .few-ranges);
+              few-entries = k .header .few-entries;
+            };
+        ranges =
+            λ i l. good-range-same (rangeIn (wordsRead s)) (rangeAt s) i (range-read s i (omega arith)) (range-read s (i - 1) (omega arith)) ∙ k .ranges i (omega arith);
+        entries =
+            λ i l. good-entry-same (pointIn (profileOf s)) (pointAt s) (roleIn (profileOf s)) (roleAt s) i (p i l) (p (i - 1) (omega arith)) (r i l) ∙ k .entries i l;
+      }
+
+  -- and gives the same bytes
+  pub rewritten : imageOf (versionOf s) (rangeIn (wordsRead s)) (rangesIn (wordsRead s)) (profileOf s) ≡ s
+  rewritten =
+      ap (λ (k : ℕ). imageOf (versionOf s) (rangeIn (wordsRead s)) k (profileOf s)) count-read
+      ∙ image-same (versionOf s) (rangeIn (wordsRead s)) (rangeAt s) (rangeCount s) (profileOf s) (profileOf s) (range-read s)
+      (record { count = refl; point = λ i l. refl; role = λ i l. refl })
+      ∙ only s b a
+
+-- an image that gives back a version, words and a profile is the one that is written for them
+pub only-one :
+    (version : ℕ) (words : List ℕ) (p : Profile) (s : List ℕ) → Bytes s → ReadBack version words p s
+    → s ≡ imageOf version (rangeIn words) (rangesIn words) p
+only-one version words p s b k =
+    let q = k .same-entries in
+    sym (rewritten s b (k .is-accepted))
+    ∙ (λ d. imageOf (k .same-version d) (rangeIn (k .same-words d)) (rangesIn (k .same-words d)) (profileOf s))
+    ∙ image-same version (rangeIn words) (rangeIn words) (rangesIn words) (profileOf s) p (λ i l. refl)
+    (record {
+      count = sym (q .count);
+      point = λ i l. sym (q .point i (let z = q .count in omega arith));
+      role = λ i l. sym (q .role i (let z = q .count in omega arith));
+    })
+
+-- two accepted images with the same version, ranges and profile are the same
+pub same-image :
+    (s t : List ℕ) → Bytes s → Bytes t → refusalOf s ≡ none → refusalOf t ≡ none → versionOf s ≡ versionOf t → rangeCount s ≡ rangeCount t
+    → ((i : ℕ) → i < rangeCount s → rangeAt s i ≡ rangeAt t i) → SameEntries (profileOf s) (profileOf t) → s ≡ t
+same-image s t b c a d v n r p =
+    sym (only s b a)
+    ∙ image-same (versionOf s) (rangeAt s) (rangeAt t) (rangeCount s) (profileOf s) (profileOf t) r p
+    ∙ (λ x. imageOf (v x) (rangeAt t) (n x) (profileOf t))
+    ∙ only t c d
+
+-- where the writer answers with a length, the buffer's first bytes, of that length, read back as what was written
+pub written-back :
+    (version : ℕ) (words : List ℕ) (p : Profile) (out : List ℕ) (len : ℕ) → version < 0x100000000 → Words words → Words (p .points) → Words (p .roles)
+    → writeOf words p (length out) ≡ written.Image len → ReadBack version words p (take len (bytesAfter version words p out))
+written-back version words p out len hv hw hp hr e =
+    let k = says version words p out (written.Image len) (written.Image len) (sym e) refl .1 in
+    let s = imageOf version (rangeIn words) (rangesIn words) p in
+    let l : length s ≡ len = length-image version words p (k .0 .counted .thirds) ∙ sym (k .1) in
+    let z : take len (bytesAfter version words p out) ≡ s =
+    ap (take len) (k .3) ∙ take-at s (drop (0 + length s) out) len l in
+    subst (ReadBack version words p) (sym z) (read-back version words p (k .0) hv hw hp hr)
