@@ -203,10 +203,10 @@ fn judge<'a>(
         return Written::Refused(Refusal::Range(i));
     }
     let j = first_bad_entry(points, roles, m);
+    let len = 32 + 12 * n + 8 * m;
     if j < m {
         return Written::Refused(Refusal::Entry(j));
     }
-    let len = 32 + 12 * n + 8 * m;
     if room < len {
         return Written::Refused(Refusal::Buffer(len));
     }

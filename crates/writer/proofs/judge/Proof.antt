@@ -74,10 +74,10 @@ judge-spec =
     first-bad-range-requires
     returns-4
     first-bad-entry-requires
-    returns-5
     mul-len
     add-len
     mul-len-2
     add-len-2
+    returns-5
     returns-6
     returns-7)
