@@ -1,5 +1,7 @@
 // The pair check of two class images: whether the newer differs from the older only by permitted changes.
 ghost use mathlib.Core.Path.{_≡_};
+ghost use Prim.Native.Nat.{_≤_};
+ghost use Rattle.pair.specs.Walk.{Walk, placeAfter, AheadOf, StepOf};
 ghost use Rattle.pair.specs.Change.{isContinueClass, permitted};
 
 // Whether a class number is that of Start or Nonstart.
@@ -32,4 +34,88 @@ pub fn is_permitted(older: u32, newer: u32) -> bool
         return newer == 1;
     }
     false
+}
+
+// Code points from a given one to `last` that have one class in the ranges of an image, and the place of what follows them.
+pub struct Ahead {
+    pub last: u32,
+    pub class: u32,
+    pub next: usize,
+}
+
+// Code points from a given one to `last` that have one class in each of two images, and the places of what follows them.
+pub struct Step {
+    pub last: u32,
+    pub older: u32,
+    pub newer: u32,
+    pub i: usize,
+    pub j: usize,
+}
+
+// What begins at code point x of an image with n ranges, where i is the place of x among them.
+pub fn look_ahead(s: &[u8], n: usize, i: usize, x: u32) -> Ahead
+    requires { ⌜ Walk (now s) n i x ⌝ }
+    requires { ⌜ x ≤ 0x10FFFF ⌝ }
+    ensures { λ r. ⌜ AheadOf (now (s .entry)) n i x r ⌝ }
+{
+    if n <= i {
+        return Ahead {
+            last: 0x10FFFF,
+            class: 0,
+            next: i,
+        };
+    }
+    let r = image::range_at(s, i);
+    if x < r.first {
+        return Ahead {
+            last: r.first - 1,
+            class: 0,
+            next: i,
+        };
+    }
+    Ahead {
+        last: r.last,
+        class: r.class,
+        next: i + 1,
+    }
+}
+
+// The place of the code point after `end`, which is not past the last one of `a`.
+fn place_after(a: Ahead, i: usize, end: u32) -> usize
+    ensures { λ r. ⌜ r ≡ placeAfter (a .last) (a .next) i end ⌝ }
+{
+    if end < a.last {
+        return i;
+    }
+    a.next
+}
+
+// One step of the walk over two images, with n and m ranges, at code point x.
+pub fn walk_step<'a>(
+    older: &'a [u8],
+    newer: &'a [u8],
+    n: usize,
+    m: usize,
+    i: usize,
+    j: usize,
+    x: u32,
+) -> Step
+    requires { ⌜ Walk (now older) n i x ⌝ }
+    requires { ⌜ Walk (now newer) m j x ⌝ }
+    requires { ⌜ x ≤ 0x10FFFF ⌝ }
+    ensures { λ r. ⌜ StepOf (now (older .entry)) (now (newer .entry)) n m x r ⌝ }
+{
+    let a = look_ahead(older, n, i, x);
+    let b = look_ahead(newer, m, j, x);
+    let mut last = a.last;
+    if b.last < last {
+        last = b.last;
+    }
+    Step {
+        last,
+        older: a.class,
+        newer: b.class,
+        i: place_after(a, i, last),
+        j: place_after(b, j, last),
+    }
 }
