@@ -1,0 +1,286 @@
+-- What the answers of checking and reading an image say of its bytes, each refusal exactly when. Assumes nothing.
+use Prim.Native.Nat.{ℕ, _+_, _*_, _≤_, _<_, _/_}
+use mathlib.Core.Path.{_≡_, refl, sym, ap, subst, _∙_}
+use mathlib.Core.List.{List, [], _∷_}
+use mathlib.Core.Bool.{Bool, true, false, not, _&&_}
+use mathlib.Core.Option.{Option, none, some}
+use native.Mathlib.Omega.{arith}
+use lib.ListN.{length}
+use lib.Dec.{leb, ltb, eqb}
+use borrow.Author.Tests.{leb-true, eqb-true, ltb-true, ltb-false, le-leb, eq-eqb, lt-ltb, le-ltb, not-true, not-false}
+use Rattle.lists.specs.First.{firstWhere}
+use Rattle.lists.specs.Each.{each}
+use Rattle.lists.specs.Laid.{laid}
+use Rattle.lists.proofs.BoolLaws.{and-left, and-right, and-in}
+use Rattle.lists.proofs.FirstLaws.{first-le, first-passed, first-holds, first-is, first-none}
+use Rattle.refusal.specs.declared.Refusal.{Refusal}
+use Rattle.refusal.specs.declared.Refusal.the-variants as refusal
+use Rattle.image.specs.Limits.{maxRanges, maxEntries, headerBytes, rangeBytes, entryBytes, maxImage}
+use Rattle.image.specs.Header.{
+  formatOf,
+  versionOf,
+  totalOf,
+  rangeCount,
+  rangeOffset,
+  entryCount,
+  entryOffset,
+  zeroWord,
+  entriesAt,
+  imageEnd,
+  lengthRight,
+  headerRight,
+}
+use Rattle.image.specs.Ranges.{rangeAt, rangeWords, goodRange, firstBadRange}
+use Rattle.image.specs.Profile.{pointAt, roleAt, goodEntry, firstBadEntry, profileOf, noProfile}
+use Rattle.image.specs.Check.{pickRefusal, refuseAt, refusalOf, checkBy, checkOf, readRefusal, readOf, wordsBy, wordsAfter}
+use Rattle.image.specs.declared.Profile.{Profile}
+use Rattle.image.specs.declared.Answer.{Answer}
+use Rattle.image.specs.declared.Answer.the-variants as answer
+use Rattle.image.specs.declared.Checked.{Checked}
+
+-- tests that all hold, one by one
+abbrev joined : Bool → List Bool → Bool
+joined a [] = a
+joined a (b ∷ bs) = a && joined b bs
+
+abbrev AllHold : Bool → List Bool → Type 0
+AllHold a [] = a ≡ true
+AllHold a (b ∷ bs) = (a ≡ true) × AllHold b bs
+
+pub split : (a : Bool) (bs : List Bool) → joined a bs ≡ true → AllHold a bs
+split a [] e = e
+split a (b ∷ bs) e = (and-left a (joined b bs) e, split b bs (and-right a (joined b bs) e))
+
+-- an image whose length and header are right
+pub record Headed (s : List ℕ) : Type 0 where
+  pub long : headerBytes ≤ length s
+  pub short : length s ≤ maxImage
+  pub total : totalOf s ≡ length s
+  pub format : formatOf s ≡ 1
+  pub zeros : zeroWord s ≡ 0
+  pub few-ranges : rangeCount s ≤ maxRanges
+  pub few-entries : entryCount s ≤ maxEntries
+  pub ranges-begin : rangeOffset s ≡ headerBytes
+  pub entries-begin : entryOffset s ≡ entriesAt (rangeCount s)
+  pub size : length s ≡ imageEnd (rangeCount s) (entryCount s)
+
+module _ (s : List ℕ) where
+  pub headed : lengthRight s ≡ true → headerRight s ≡ true → Headed s
+  unfolding lengthRight headerRight
+  headed l h =
+      let (a, (b, t)) = split (leb headerBytes (length s)) (leb (length s) maxImage ∷ eqb (totalOf s) (length s) ∷ []) l in
+      let (f, (z, (n, (m, (r, (e, k)))))) =
+      split (eqb (formatOf s) 1)
+      (eqb (zeroWord s) 0
+      ∷ leb (rangeCount s) maxRanges
+      ∷ leb (entryCount s) maxEntries
+      ∷ eqb (rangeOffset s) headerBytes
+      ∷ eqb (entryOffset s) (entriesAt (rangeCount s))
+      ∷ eqb (totalOf s) (imageEnd (rangeCount s) (entryCount s))
+      ∷ [])
+      h in
+      record {
+        long = leb-true _ _ a;
+        short = leb-true _ _ b;
+        total = eqb-true _ _ t;
+        format = eqb-true _ _ f;
+        zeros = eqb-true _ _ z;
+        few-ranges = leb-true _ _ n;
+        few-entries = leb-true _ _ m;
+        ranges-begin = eqb-true _ _ r;
+        entries-begin = eqb-true _ _ e;
+        size = sym (eqb-true _ _ t) ∙ eqb-true _ _ k;
+      }
+
+  pub length-right : Headed s → lengthRight s ≡ true
+  unfolding lengthRight
+  length-right h = simp (le-leb _ _ (h .long), le-leb _ _ (h .short), eq-eqb _ _ (h .total))
+
+  pub header-right : Headed s → headerRight s ≡ true
+  unfolding headerRight
+  header-right h =
+      simp (eq-eqb _ _ (h .format), eq-eqb _ _ (h .zeros), le-leb _ _ (h .few-ranges), le-leb _ _ (h .few-entries), eq-eqb _ _ (h .ranges-begin), eq-eqb _ _ (h .entries-begin), eq-eqb _ _ (h .total ∙ h .size))
+
+-- good at every index below n
+abbrev pub AllGood : (ℕ → Bool) → ℕ → Type 0
+AllGood good n = (i : ℕ) → i < n → good i ≡ true
+
+-- i of n is the first index that isn't good
+pub record FirstBad (good : ℕ → Bool) (n i : ℕ) : Type 0 where
+  pub within : i < n
+  pub bad : good i ≡ false
+  pub before : AllGood good i
+
+-- an accepted image
+pub record Accepted (s : List ℕ) : Type 0 where
+  pub header : Headed s
+  pub ranges : AllGood (goodRange (rangeAt s)) (rangeCount s)
+  pub entries : AllGood (goodEntry (pointAt s) (roleAt s)) (entryCount s)
+
+module _ (good : ℕ → Bool) (n : ℕ) where
+  abbrev first : ℕ
+  first = firstWhere (λ (i : ℕ). not (good i)) n
+
+  first-bad : first < n → FirstBad good n first
+  first-bad l =
+      record {
+        within = l;
+        bad = not-true _ (first-holds (λ (i : ℕ). not (good i)) n l);
+        before = λ x u. not-false _ (first-passed (λ (i : ℕ). not (good i)) n x u);
+      }
+
+  all-good : n ≤ first → AllGood good n
+  all-good l i u = not-false _ (first-passed (λ (i : ℕ). not (good i)) n i (omega arith))
+
+  first-is-bad : (i : ℕ) → FirstBad good n i → first ≡ i
+  first-is-bad i h =
+      first-is (λ (i : ℕ). not (good i)) n i (h .within) (ap not (h .bad)) (λ x u. ap not (h .before x u))
+
+  first-is-none : AllGood good n → first ≡ n
+  first-is-none h = first-none (λ (i : ℕ). not (good i)) n (λ x u. ap not (h x u))
+
+-- what is so exactly where an image has this refusal of 1 to 4, or none
+abbrev pub Because : List ℕ → Option Refusal → Type 0
+Because s none = Accepted s
+Because s (some refusal.Length) = lengthRight s ≡ false
+Because s (some refusal.Header) = (lengthRight s ≡ true) × (headerRight s ≡ false)
+Because s (some (refusal.Range i)) = Headed s × FirstBad (goodRange (rangeAt s)) (rangeCount s) i
+Because s (some (refusal.Entry i)) =
+    Headed s × AllGood (goodRange (rangeAt s)) (rangeCount s) × FirstBad (goodEntry (pointAt s) (roleAt s)) (entryCount s) i
+Because s (some refusal.TextLength) = ⊥
+Because s (some (refusal.IllFormed p)) = ⊥
+Because s (some (refusal.Characters p)) = ⊥
+Because s (some (refusal.Room n)) = ⊥
+Because s (some (refusal.NotScalar x)) = ⊥
+Because s (some (refusal.Change x)) = ⊥
+Because s (some refusal.Profiles) = ⊥
+Because s (some (refusal.Buffer n)) = ⊥
+Because s (some refusal.Shape) = ⊥
+
+module _ (s : List ℕ) where
+  abbrev badRange : ℕ
+  badRange = firstBadRange (rangeAt s) (rangeCount s)
+
+  abbrev badEntry : ℕ
+  badEntry = firstBadEntry (pointAt s) (roleAt s) (entryCount s)
+
+  -- the refusals of the ranges and of the entries, and none
+  abbrev afterRanges : Option Refusal
+  afterRanges = refuseAt refusal.Entry badEntry (entryCount s) none
+
+  abbrev afterHeader : Option Refusal
+  afterHeader = refuseAt refusal.Range badRange (rangeCount s) afterRanges
+
+  because-entries :
+      Headed s → AllGood (goodRange (rangeAt s)) (rangeCount s) → (b : Bool) → ltb badEntry (entryCount s) ≡ b
+      → Because s (pickRefusal b (some (refusal.Entry badEntry)) none)
+  unfolding firstBadEntry
+  because-entries h g true e = (h, g, first-bad (goodEntry (pointAt s) (roleAt s)) (entryCount s) (ltb-true _ _ e))
+  because-entries h g false e =
+      record { header = h; ranges = g; entries = all-good (goodEntry (pointAt s) (roleAt s)) (entryCount s) (ltb-false _ _ e) }
+
+  because-ranges : Headed s → (b : Bool) → ltb badRange (rangeCount s) ≡ b → Because s (pickRefusal b (some (refusal.Range badRange)) afterRanges)
+  unfolding firstBadRange
+  because-ranges h true e = (h, first-bad (goodRange (rangeAt s)) (rangeCount s) (ltb-true _ _ e))
+  because-ranges h false e = because-entries h (all-good (goodRange (rangeAt s)) (rangeCount s) (ltb-false _ _ e)) _ refl
+
+  because-header : lengthRight s ≡ true → (b : Bool) → headerRight s ≡ b → Because s (pickRefusal b afterHeader (some refusal.Header))
+  because-header l true e = because-ranges (headed s l e) _ refl
+  because-header l false e = (l, e)
+
+  because-length : (b : Bool) → lengthRight s ≡ b → Because s (pickRefusal b (pickRefusal (headerRight s) afterHeader (some refusal.Header)) (some refusal.Length))
+  because-length true e = because-header e _ refl
+  because-length false e = e
+
+  -- why an image is accepted or refused
+  pub because : Because s (refusalOf s)
+  unfolding refusalOf
+  because = because-length _ refl
+
+  -- the same, where the refusal is known
+  pub why : (o : Option Refusal) → refusalOf s ≡ o → Because s o
+  why o e = subst (Because s) e because
+
+  pub accepted : refusalOf s ≡ none → Accepted s
+  accepted e = why none e
+
+  past-header : Headed s → refusalOf s ≡ afterHeader
+  unfolding refusalOf
+  past-header h = simp (length-right s h, header-right s h)
+
+  past-ranges : Headed s → AllGood (goodRange (rangeAt s)) (rangeCount s) → refusalOf s ≡ afterRanges
+  unfolding firstBadRange
+  past-ranges h g =
+      let e = first-is-none (goodRange (rangeAt s)) (rangeCount s) g in
+      past-header h ∙ simp (le-ltb badRange (rangeCount s) (omega arith))
+
+  -- and back: where it is so, that is the refusal
+  pub decides : (o : Option Refusal) → Because s o → refusalOf s ≡ o
+  unfolding refusalOf firstBadRange firstBadEntry
+  decides none a =
+      let e = first-is-none (goodEntry (pointAt s) (roleAt s)) (entryCount s) (a .entries) in
+      past-ranges (a .header) (a .ranges) ∙ simp (le-ltb badEntry (entryCount s) (omega arith))
+  decides (some refusal.Length) l = simp l
+  decides (some refusal.Header) (l, h) = simp (l, h)
+  decides (some (refusal.Range i)) (h, f) =
+      let e = first-is-bad (goodRange (rangeAt s)) (rangeCount s) i f in
+      past-header h ∙ simp (e, lt-ltb i (rangeCount s) (f .within))
+  decides (some (refusal.Entry i)) (h, g, f) =
+      let e = first-is-bad (goodEntry (pointAt s) (roleAt s)) (entryCount s) i f in
+      past-ranges h g ∙ simp (e, lt-ltb i (entryCount s) (f .within))
+
+  pub refused-none : Accepted s → refusalOf s ≡ none
+  refused-none a = decides none a
+
+-- what the answer of a check says
+abbrev pub Says : List ℕ → Answer → Profile → Type 0
+Says s (answer.Refused r) p = (refusalOf s ≡ some r) × (p ≡ noProfile)
+Says s (answer.Accepted v n) p = (refusalOf s ≡ none) × (v ≡ versionOf s) × (n ≡ rangeCount s) × (p ≡ profileOf s)
+
+module _ (s : List ℕ) where
+  says-by : (o : Option Refusal) → refusalOf s ≡ o → Says s (checkBy s o .answer) (checkBy s o .profile)
+  says-by none e = (e, refl, refl, refl)
+  says-by (some r) e = (e, refl)
+
+  pub says-of : Says s (checkOf s .answer) (checkOf s .profile)
+  unfolding checkOf
+  says-of = says-by (refusalOf s) refl
+
+  -- for a caller that has the answer in hand
+  pub says : (k : Checked) → k ≡ checkOf s → (a : Answer) → k .answer ≡ a → Says s a (k .profile)
+  says k e a f = subst (λ (x : Answer). Says s x (k .profile)) f (subst (λ (x : Checked). Says s (x .answer) (x .profile)) (sym e) says-of)
+
+-- what the answer of a read into a buffer says, and what the buffer then holds
+abbrev pub ReadSays : List ℕ → List ℕ → Answer → Profile → Type 0
+ReadSays s out (answer.Refused r) p =
+    (readRefusal s (length out) (refusalOf s) ≡ some r) × (p ≡ noProfile) × (wordsAfter s out ≡ out)
+ReadSays s out (answer.Accepted v n) p =
+    (refusalOf s ≡ none)
+    × (v ≡ versionOf s)
+    × (n ≡ rangeCount s)
+    × (p ≡ profileOf s)
+    × (3 * n ≤ length out)
+    × (wordsAfter s out ≡ laid out 0 (each (λ (i : ℕ). rangeWords (rangeAt s i)) n))
+
+module _ (s out : List ℕ) where
+  fits : (n : ℕ) → n ≤ length out / 3 → 3 * n ≤ length out
+  fits n h = omega arith
+
+  read-by :
+      (o : Option Refusal) → refusalOf s ≡ o → (b : Bool) → ltb (length out / 3) (rangeCount s) ≡ b
+      → ReadSays s out (checkBy s (readRefusal s (length out) o) .answer) (checkBy s (readRefusal s (length out) o) .profile)
+  unfolding wordsAfter
+  read-by none e true f = simp (e, f) (refl, refl, refl)
+  read-by none e false f = simp (e, f) (refl, refl, refl, refl, fits (rangeCount s) (ltb-false _ _ f), refl)
+  read-by (some r) e b f = simp e (refl, refl, refl)
+
+  pub read-says-of : ReadSays s out (readOf s (length out) .answer) (readOf s (length out) .profile)
+  unfolding readOf
+  read-says-of = read-by (refusalOf s) refl _ refl
+
+  pub read-says : (k : Checked) → k ≡ readOf s (length out) → (a : Answer) → k .answer ≡ a → ReadSays s out a (k .profile)
+  read-says k e a f = subst (λ (x : Answer). ReadSays s out x (k .profile)) f (subst (λ (x : Checked). ReadSays s out (x .answer) (x .profile)) (sym e) read-says-of)
+
+  -- a refused read leaves the buffer as it was
+  pub refused-keeps : (r : Refusal) → readOf s (length out) .answer ≡ answer.Refused r → wordsAfter s out ≡ out
+  refused-keeps r e = read-says (readOf s (length out)) refl (answer.Refused r) e .2
