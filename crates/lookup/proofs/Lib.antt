@@ -1,0 +1,3 @@
+pub mod HalvingLaws
+pub mod ClassLaws
+pub mod RoleLaws
