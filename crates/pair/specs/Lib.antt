@@ -1,2 +1,3 @@
 pub mod Change
 pub mod Walk
+pub mod Pair

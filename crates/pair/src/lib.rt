@@ -3,6 +3,19 @@ ghost use mathlib.Core.Path.{_≡_};
 ghost use Prim.Native.Nat.{_≤_};
 ghost use Rattle.pair.specs.Walk.{Walk, placeAfter, AheadOf, StepOf};
 ghost use Rattle.pair.specs.Change.{isContinueClass, permitted};
+ghost use Rattle.pair.specs.Pair.{firstForbidden};
+ghost use Rattle.image.specs.Header.{rangeCount};
+use refusal::Refusal;
+
+// The answer of the pair check.
+pub enum Pair {
+    // Refusals 1 to 4 of the older image, or of the newer.
+    Older(Refusal),
+    Newer(Refusal),
+    // Refusals 10 and 11.
+    Refused(Refusal),
+    Permitted,
+}
 
 // Whether a class number is that of Start or Nonstart.
 fn is_continue(class: u32) -> bool
@@ -118,4 +131,28 @@ pub fn walk_step<'a>(
         i: place_after(a, i, last),
         j: place_after(b, j, last),
     }
+}
+
+// The smallest code point with a forbidden change, or 0x110000. The images have n and m ranges.
+fn first_forbidden<'a>(older: &'a [u8], newer: &'a [u8], n: usize, m: usize) -> u32
+    requires { ⌜ Walk (now older) n 0 0 ⌝ }
+    requires { ⌜ Walk (now newer) m 0 0 ⌝ }
+    requires { ⌜ n ≡ rangeCount (now older) ⌝ }
+    requires { ⌜ m ≡ rangeCount (now newer) ⌝ }
+    ensures { λ r. ⌜ r ≡ firstForbidden (now (older .entry)) (now (newer .entry)) ⌝ }
+{
+    let mut x: u32 = 0;
+    let mut i: usize = 0;
+    let mut j: usize = 0;
+    while x < 0x110000 {
+        let t = walk_step(older, newer, n, m, i, j, x);
+        if is_permitted(t.older, t.newer) {
+            i = t.i;
+            j = t.j;
+            x = t.last + 1;
+        } else {
+            return x;
+        }
+    }
+    x
 }
