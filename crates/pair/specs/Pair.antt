@@ -1,20 +1,31 @@
 -- What the pair check of two images answers (document 01, "Permitted changes", and refusals 10 and 11).
-use Prim.Native.Nat.{ℕ}
+use Prim.Native.Nat.{ℕ, _+_, _*_, _≤_}
+use mathlib.Core.Path.{_≡_}
 use mathlib.Core.List.{List, [], _∷_}
 use mathlib.Core.Bool.{Bool, true, false, not, _&&_, _||_}
 use mathlib.Core.Option.{Option, none, some}
 use lib.Dec.{ltb, eqb}
+use lib.ListN.{length}
 use Rattle.lists.specs.First.{firstWhere}
 use Rattle.utf8.specs.Scalar.{isScalar}
 use Rattle.refusal.specs.Refusal.{numberOf, carriedBy}
 use Rattle.refusal.specs.declared.Refusal.{Refusal}
 use Rattle.refusal.specs.declared.Refusal.the-variants as refusal
-use Rattle.image.specs.Header.{entryCount}
+use Rattle.image.specs.Word.{wordAt}
+use Rattle.image.specs.Limits.{entryBytes}
+use Rattle.image.specs.Header.{rangeCount, entryCount, entriesAt}
 use Rattle.image.specs.Profile.{pointAt, roleAt}
 use Rattle.image.specs.Check.{refusalOf, rangeClass}
 use Rattle.pair.specs.Change.{permitted}
 use Rattle.pair.specs.declared.Pair.{Pair}
 use Rattle.pair.specs.declared.Pair.the-variants as pair
+
+-- two accepted images, of n and m ranges
+pub record Judged (older newer : List ℕ) (n m : ℕ) : Type 0 where
+  pub was : refusalOf older ≡ none
+  pub is : refusalOf newer ≡ none
+  pub ranges : n ≡ rangeCount older
+  pub newRanges : m ≡ rangeCount newer
 
 -- x is a scalar value whose classes in the ranges are no permitted change
 unfoldable pub forbiddenAt : List ℕ → List ℕ → ℕ → Bool
@@ -28,14 +39,26 @@ codePoints = 0x110000
 unfoldable pub firstForbidden : List ℕ → List ℕ → ℕ
 firstForbidden older newer = firstWhere (forbiddenAt older newer) codePoints
 
--- the profile entries at index i differ
+-- the two words from byte a on differ from those from byte b on
+unfoldable pub wordsDiffer : List ℕ → List ℕ → ℕ → ℕ → Bool
+wordsDiffer older newer a b = not (eqb (wordAt older a) (wordAt newer b)) || not (eqb (wordAt older (a + 4)) (wordAt newer (b + 4)))
+
+-- the profile entries at index i differ: the code point or the role does
 unfoldable pub differsAt : List ℕ → List ℕ → ℕ → Bool
 differsAt older newer i = not (eqb (pointAt older i) (pointAt newer i)) || not (eqb (roleAt older i) (roleAt newer i))
 
+-- the entries before the count are the same
+unfoldable pub sameEntries : List ℕ → List ℕ → ℕ → Bool
+sameEntries older newer count = eqb (firstWhere (differsAt older newer) count) count
+
 -- profiles are the same if m and the entries before it are
 unfoldable pub sameProfile : List ℕ → List ℕ → Bool
-sameProfile older newer =
-    eqb (entryCount older) (entryCount newer) && eqb (firstWhere (differsAt older newer) (entryCount older)) (entryCount older)
+sameProfile older newer = eqb (entryCount newer) (entryCount older) && sameEntries older newer (entryCount older)
+
+-- the profile entries of s begin at byte a, and there are at least so many
+pub record EntriesFrom (s : List ℕ) (a count : ℕ) : Type 0 where
+  pub begin : a ≡ entriesAt (rangeCount s)
+  pub room : a + entryBytes * count ≤ length s
 
 abbrev pub pickPair : Bool → Pair → Pair → Pair
 pickPair true a b = a

@@ -1,10 +1,10 @@
 // The pair check of two class images: whether the newer differs from the older only by permitted changes.
 ghost use mathlib.Core.Path.{_≡_};
-ghost use Prim.Native.Nat.{_≤_};
+ghost use Prim.Native.Nat.{_≤_, _+_};
+ghost use lib.ListN.{length};
 ghost use Rattle.pair.specs.Walk.{Walk, placeAfter, AheadOf, StepOf};
 ghost use Rattle.pair.specs.Change.{isContinueClass, permitted};
-ghost use Rattle.pair.specs.Pair.{firstForbidden};
-ghost use Rattle.image.specs.Header.{rangeCount};
+ghost use Rattle.pair.specs.Pair.{Judged, firstForbidden, wordsDiffer, EntriesFrom, sameEntries, sameProfile};
 use refusal::Refusal;
 
 // The answer of the pair check.
@@ -135,10 +135,7 @@ pub fn walk_step<'a>(
 
 // The smallest code point with a forbidden change, or 0x110000. The images have n and m ranges.
 fn first_forbidden<'a>(older: &'a [u8], newer: &'a [u8], n: usize, m: usize) -> u32
-    requires { ⌜ Walk (now older) n 0 0 ⌝ }
-    requires { ⌜ Walk (now newer) m 0 0 ⌝ }
-    requires { ⌜ n ≡ rangeCount (now older) ⌝ }
-    requires { ⌜ m ≡ rangeCount (now newer) ⌝ }
+    requires { ⌜ Judged (now older) (now newer) n m ⌝ }
     ensures { λ r. ⌜ r ≡ firstForbidden (now (older .entry)) (now (newer .entry)) ⌝ }
 {
     let mut x: u32 = 0;
@@ -155,4 +152,43 @@ fn first_forbidden<'a>(older: &'a [u8], newer: &'a [u8], n: usize, m: usize) -> 
         }
     }
     x
+}
+
+// Whether the profile entries at byte a of one image and at byte b of the other differ.
+fn entries_differ<'a>(older: &'a [u8], newer: &'a [u8], a: usize, b: usize) -> bool
+    requires { ⌜ (a + 8 ≤ length (now older)) × (b + 8 ≤ length (now newer)) ⌝ }
+    ensures { λ r. ⌜ r ≡ wordsDiffer (now (older .entry)) (now (newer .entry)) a b ⌝ }
+{
+    if image::word(older, a) != image::word(newer, b) {
+        return true;
+    }
+    image::word(older, a + 4) != image::word(newer, b + 4)
+}
+
+// Whether the profile entries, `count` from byte a of one image and from byte b of the other, are the same.
+fn are_entries_same<'a>(older: &'a [u8], newer: &'a [u8], a: usize, b: usize, count: usize) -> bool
+    requires { ⌜ EntriesFrom (now older) a count ⌝ }
+    requires { ⌜ EntriesFrom (now newer) b count ⌝ }
+    ensures { λ r. ⌜ r ≡ sameEntries (now (older .entry)) (now (newer .entry)) count ⌝ }
+{
+    let mut i: usize = 0;
+    while i < count {
+        if entries_differ(older, newer, a + 8 * i, b + 8 * i) {
+            return false;
+        }
+        i += 1;
+    }
+    true
+}
+
+// Whether the profile sections are the same, in images with n and m ranges.
+fn has_same_profile<'a>(older: &'a [u8], newer: &'a [u8], n: usize, m: usize) -> bool
+    requires { ⌜ Judged (now older) (now newer) n m ⌝ }
+    ensures { λ r. ⌜ r ≡ sameProfile (now (older .entry)) (now (newer .entry)) ⌝ }
+{
+    let count = image::word(older, 20) as usize;
+    if image::word(newer, 20) as usize != count {
+        return false;
+    }
+    are_entries_same(older, newer, 32 + 12 * n, 32 + 12 * m, count)
 }
