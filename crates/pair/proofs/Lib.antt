@@ -3,3 +3,4 @@ pub mod WalkLaws
 pub mod ForbidLaws
 pub mod JudgedLaws
 pub mod ProfileLaws
+pub mod PairLaws

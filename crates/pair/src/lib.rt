@@ -104,15 +104,7 @@ fn place_after(a: Ahead, i: usize, end: u32) -> usize
 }
 
 // One step of the walk over two images, with n and m ranges, at code point x.
-pub fn walk_step<'a>(
-    older: &'a [u8],
-    newer: &'a [u8],
-    n: usize,
-    m: usize,
-    i: usize,
-    j: usize,
-    x: u32,
-) -> Step
+pub fn walk_step(older: &[u8], newer: &[u8], n: usize, m: usize, i: usize, j: usize, x: u32) -> Step
     requires { ⌜ Walk (now older) n i x ⌝ }
     requires { ⌜ Walk (now newer) m j x ⌝ }
     requires { ⌜ x ≤ 0x10FFFF ⌝ }
@@ -134,7 +126,7 @@ pub fn walk_step<'a>(
 }
 
 // The smallest code point with a forbidden change, or 0x110000. The images have n and m ranges.
-fn first_forbidden<'a>(older: &'a [u8], newer: &'a [u8], n: usize, m: usize) -> u32
+fn first_forbidden(older: &[u8], newer: &[u8], n: usize, m: usize) -> u32
     requires { ⌜ Judged (now older) (now newer) n m ⌝ }
     ensures { λ r. ⌜ r ≡ firstForbidden (now (older .entry)) (now (newer .entry)) ⌝ }
 {
@@ -155,7 +147,7 @@ fn first_forbidden<'a>(older: &'a [u8], newer: &'a [u8], n: usize, m: usize) -> 
 }
 
 // Whether the profile entries at byte a of one image and at byte b of the other differ.
-fn entries_differ<'a>(older: &'a [u8], newer: &'a [u8], a: usize, b: usize) -> bool
+fn entries_differ(older: &[u8], newer: &[u8], a: usize, b: usize) -> bool
     requires { ⌜ (a + 8 ≤ length (now older)) × (b + 8 ≤ length (now newer)) ⌝ }
     ensures { λ r. ⌜ r ≡ wordsDiffer (now (older .entry)) (now (newer .entry)) a b ⌝ }
 {
@@ -166,7 +158,7 @@ fn entries_differ<'a>(older: &'a [u8], newer: &'a [u8], a: usize, b: usize) -> b
 }
 
 // Whether the profile entries, `count` from byte a of one image and from byte b of the other, are the same.
-fn are_entries_same<'a>(older: &'a [u8], newer: &'a [u8], a: usize, b: usize, count: usize) -> bool
+fn are_entries_same(older: &[u8], newer: &[u8], a: usize, b: usize, count: usize) -> bool
     requires { ⌜ EntriesFrom (now older) a count ⌝ }
     requires { ⌜ EntriesFrom (now newer) b count ⌝ }
     ensures { λ r. ⌜ r ≡ sameEntries (now (older .entry)) (now (newer .entry)) count ⌝ }
@@ -182,7 +174,7 @@ fn are_entries_same<'a>(older: &'a [u8], newer: &'a [u8], a: usize, b: usize, co
 }
 
 // Whether the profile sections are the same, in images with n and m ranges.
-fn has_same_profile<'a>(older: &'a [u8], newer: &'a [u8], n: usize, m: usize) -> bool
+fn has_same_profile(older: &[u8], newer: &[u8], n: usize, m: usize) -> bool
     requires { ⌜ Judged (now older) (now newer) n m ⌝ }
     ensures { λ r. ⌜ r ≡ sameProfile (now (older .entry)) (now (newer .entry)) ⌝ }
 {
