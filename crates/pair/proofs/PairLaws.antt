@@ -192,6 +192,7 @@ module _ (older newer : List ℕ) where
     means-compared false e = (both, λ s. true≢false (sym (profile-same s) ∙ e))
 
   means-by : (o p : Option Refusal) → refusalOf older ≡ o → refusalOf newer ≡ p → Means older newer (pairBy older newer o p)
+  unfolding comparedOf
   means-by (some r) p e f = e
   means-by none (some r) e f = (accepted older e, f)
   means-by none none e f = means-compared (accepted older e, accepted newer f) _ refl
@@ -207,7 +208,7 @@ module _ (older newer : List ℕ) where
 
   -- and back: where it is so, that is the answer
   pub means-pair : (p : Pair) → Means older newer p → pairOf older newer ≡ p
-  unfolding pairOf
+  unfolding pairOf comparedOf
   means-pair (pair.Older r) e = simp e
   means-pair (pair.Newer r) (a, e) = simp (refused-none older a, e)
   means-pair (pair.Refused refusal.Profiles) (both, d) = compared both ∙ simp (profile-differs d _ refl)

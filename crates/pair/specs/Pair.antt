@@ -65,7 +65,7 @@ pickPair true a b = a
 pickPair false a b = b
 
 -- of two accepted images: 11, then 10 with the smallest code point
-abbrev pub comparedOf : List ℕ → List ℕ → Pair
+unfoldable pub comparedOf : List ℕ → List ℕ → Pair
 comparedOf older newer =
     pickPair (sameProfile older newer)
     (pickPair (ltb (firstForbidden older newer) codePoints) (pair.Refused (refusal.Change (firstForbidden older newer))) pair.Permitted)

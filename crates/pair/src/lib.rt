@@ -4,7 +4,7 @@ ghost use Prim.Native.Nat.{_≤_, _+_};
 ghost use lib.ListN.{length};
 ghost use Rattle.pair.specs.Walk.{Walk, placeAfter, AheadOf, StepOf};
 ghost use Rattle.pair.specs.Change.{isContinueClass, permitted};
-ghost use Rattle.pair.specs.Pair.{Judged, firstForbidden, wordsDiffer, EntriesFrom, sameEntries, sameProfile};
+ghost use Rattle.pair.specs.Pair.{Judged, firstForbidden, wordsDiffer, EntriesFrom, sameEntries, sameProfile, comparedOf};
 use refusal::Refusal;
 
 // The answer of the pair check.
@@ -183,4 +183,19 @@ fn has_same_profile(older: &[u8], newer: &[u8], n: usize, m: usize) -> bool
         return false;
     }
     are_entries_same(older, newer, 32 + 12 * n, 32 + 12 * m, count)
+}
+
+// The pair check of two accepted images, with n and m ranges.
+fn compare(older: &[u8], newer: &[u8], n: usize, m: usize) -> Pair
+    requires { ⌜ Judged (now older) (now newer) n m ⌝ }
+    ensures { λ r. ⌜ r ≡ comparedOf (now (older .entry)) (now (newer .entry)) ⌝ }
+{
+    if has_same_profile(older, newer, n, m) {
+        let x = first_forbidden(older, newer, n, m);
+        if x < 0x110000 {
+            return Pair::Refused(Refusal::Change(x as usize));
+        }
+        return Pair::Permitted;
+    }
+    Pair::Refused(Refusal::Profiles)
 }
