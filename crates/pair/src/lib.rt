@@ -4,7 +4,11 @@ ghost use Prim.Native.Nat.{_≤_, _+_};
 ghost use lib.ListN.{length};
 ghost use Rattle.pair.specs.Walk.{Walk, placeAfter, AheadOf, StepOf};
 ghost use Rattle.pair.specs.Change.{isContinueClass, permitted};
-ghost use Rattle.pair.specs.Pair.{Judged, firstForbidden, wordsDiffer, EntriesFrom, sameEntries, sameProfile, comparedOf};
+ghost use Rattle.pair.specs.Pair.{Judged, firstForbidden, wordsDiffer, EntriesFrom, sameEntries, sameProfile, comparedOf, pairOf};
+ghost use mathlib.Core.Option.{none};
+ghost use Rattle.image.specs.Header.{rangeCount};
+ghost use Rattle.image.specs.Check.{refusalOf};
+use image::Answer;
 use refusal::Refusal;
 
 // The answer of the pair check.
@@ -198,4 +202,30 @@ fn compare(older: &[u8], newer: &[u8], n: usize, m: usize) -> Pair
         return Pair::Permitted;
     }
     Pair::Refused(Refusal::Profiles)
+}
+
+// Judges the newer image, after the older one, which is accepted and has n ranges.
+fn judge_newer(older: &[u8], newer: &[u8], n: usize) -> Pair
+    requires { ⌜ refusalOf (now older) ≡ none ⌝ }
+    requires { ⌜ n ≡ rangeCount (now older) ⌝ }
+    ensures { λ r. ⌜ r ≡ pairOf (now (older .entry)) (now (newer .entry)) ⌝ }
+{
+    let checked = image::check(newer);
+    let answer = checked.answer;
+    match answer {
+        Answer::Refused(r) => Pair::Newer(r),
+        Answer::Accepted { version: _, ranges } => compare(older, newer, n, ranges),
+    }
+}
+
+// Whether the newer image differs from the older only by permitted changes.
+pub fn check_pair(older: &[u8], newer: &[u8]) -> Pair
+    ensures { λ r. ⌜ r ≡ pairOf (now (older .entry)) (now (newer .entry)) ⌝ }
+{
+    let checked = image::check(older);
+    let answer = checked.answer;
+    match answer {
+        Answer::Refused(r) => Pair::Older(r),
+        Answer::Accepted { version: _, ranges } => judge_newer(older, newer, ranges),
+    }
 }
