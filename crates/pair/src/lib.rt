@@ -1,15 +1,23 @@
 // The pair check of two class images: whether the newer differs from the older only by permitted changes.
 ghost use mathlib.Core.Path.{_≡_};
-ghost use Prim.Native.Nat.{_≤_, _+_};
-ghost use lib.ListN.{length};
-ghost use Rattle.pair.specs.Walk.{Walk, placeAfter, AheadOf, StepOf};
-ghost use Rattle.pair.specs.Change.{isContinueClass, permitted};
-ghost use Rattle.pair.specs.Pair.{Judged, firstForbidden, wordsDiffer, EntriesFrom, sameEntries, sameProfile, comparedOf, pairOf};
 ghost use mathlib.Core.Option.{none};
+ghost use Prim.Native.Nat.{_+_, _≤_};
+ghost use lib.ListN.{length};
 ghost use Rattle.image.specs.Header.{rangeCount};
 ghost use Rattle.image.specs.Check.{refusalOf};
+ghost use Rattle.pair.specs.Change.{isContinueClass, permitted};
+ghost use Rattle.pair.specs.Walk.{Walk, placeAfter, AheadOf, StepOf};
+ghost use Rattle.pair.specs.Pair.{Judged, firstForbidden, wordsDiffer, EntriesFrom, sameEntries, sameProfile, comparedOf, pairOf};
 use image::Answer;
 use refusal::Refusal;
+
+// The class of a code point in no range.
+const UNASSIGNED: u32 = 0;
+
+// The last code point, and how many there are.
+const LAST_CODE_POINT: u32 = 0x10FFFF;
+
+const CODE_POINTS: u32 = 0x110000;
 
 // The answer of the pair check.
 pub enum Pair {
@@ -77,8 +85,8 @@ pub fn look_ahead(s: &[u8], n: usize, i: usize, x: u32) -> Ahead
 {
     if n <= i {
         return Ahead {
-            last: 0x10FFFF,
-            class: 0,
+            last: LAST_CODE_POINT,
+            class: UNASSIGNED,
             next: i,
         };
     }
@@ -86,7 +94,7 @@ pub fn look_ahead(s: &[u8], n: usize, i: usize, x: u32) -> Ahead
     if x < r.first {
         return Ahead {
             last: r.first - 1,
-            class: 0,
+            class: UNASSIGNED,
             next: i,
         };
     }
@@ -129,7 +137,7 @@ pub fn walk_step(older: &[u8], newer: &[u8], n: usize, m: usize, i: usize, j: us
     }
 }
 
-// The smallest code point with a forbidden change, or 0x110000. The images have n and m ranges.
+// The smallest code point with a forbidden change, or `CODE_POINTS`. The images have n and m ranges.
 fn first_forbidden(older: &[u8], newer: &[u8], n: usize, m: usize) -> u32
     requires { ⌜ Judged (now older) (now newer) n m ⌝ }
     ensures { λ r. ⌜ r ≡ firstForbidden (now (older .entry)) (now (newer .entry)) ⌝ }
@@ -137,7 +145,7 @@ fn first_forbidden(older: &[u8], newer: &[u8], n: usize, m: usize) -> u32
     let mut x: u32 = 0;
     let mut i: usize = 0;
     let mut j: usize = 0;
-    while x < 0x110000 {
+    while x < CODE_POINTS {
         let t = walk_step(older, newer, n, m, i, j, x);
         if is_permitted(t.older, t.newer) {
             i = t.i;
@@ -196,7 +204,7 @@ fn compare(older: &[u8], newer: &[u8], n: usize, m: usize) -> Pair
 {
     if has_same_profile(older, newer, n, m) {
         let x = first_forbidden(older, newer, n, m);
-        if x < 0x110000 {
+        if x < CODE_POINTS {
             return Pair::Refused(Refusal::Change(x as usize));
         }
         return Pair::Permitted;
