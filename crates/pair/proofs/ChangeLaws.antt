@@ -1,6 +1,6 @@
 -- The test of class numbers says what the data type of permitted changes says. Assumes nothing.
 use Prim.Native.Nat.{ℕ, zero, suc, _≤_}
-use mathlib.Core.Path.{_≡_, refl, sym, ap, _∙_}
+use mathlib.Core.Path.{_≡_, refl, sym, ap}
 use mathlib.Core.Bool.{Bool, true, false, false≢true, _||_}
 use mathlib.Core.Logic.{_⊎_, inl, inr, ⊎-elim}
 use native.Mathlib.Omega.{arith}
@@ -8,7 +8,7 @@ use lib.Dec.{eqb}
 use borrow.Author.Tests.{eqb-true, eq-eqb}
 use Rattle.lists.proofs.BoolLaws.{or-cases}
 use Rattle.utf8.specs.Scalar.{pickB}
-use Rattle.image.specs.Class.{Class, Unassigned, Start, Nonstart, Syntax, White, Other, classNumber, classNamed}
+use Rattle.image.specs.Class.{Class, classNumber, classNamed}
 use Rattle.pair.specs.Change.{
   Permitted,
   same,

@@ -1,14 +1,14 @@
 -- The walk over two images finds the smallest code point with a forbidden change. Assumes nothing.
 use Prim.Native.Nat.{ℕ, _+_, _≤_, _<_}
-use mathlib.Core.Path.{_≡_, refl, sym, ap, _∙_}
+use mathlib.Core.Path.{_≡_, refl, sym, _∙_}
 use mathlib.Core.List.{List}
-use mathlib.Core.Bool.{Bool, true, false, not, _&&_, true≢false}
+use mathlib.Core.Bool.{Bool, true, false, _&&_, true≢false}
 use native.Mathlib.Omega.{arith}
 use native.Mathlib.Decide.{decLt}
 use Rattle.lists.proofs.FirstLaws.{first-is, first-none}
 use Rattle.utf8.specs.Scalar.{isScalar}
 use Rattle.image.specs.Header.{rangeCount}
-use Rattle.image.specs.Ranges.{rangeAt, classIn}
+use Rattle.image.specs.Ranges.{rangeAt}
 use Rattle.image.specs.Check.{rangeClass}
 use Rattle.lookup.proofs.ClassLaws.{class-scalar}
 use Rattle.pair.specs.declared.Step.{Step}

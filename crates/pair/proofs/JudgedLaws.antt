@@ -1,16 +1,15 @@
 -- What two accepted images give a walk over their ranges and a comparison of their profiles. Assumes nothing.
-use Prim.Native.Nat.{ℕ, _+_, _*_, _≤_, _<_}
-use mathlib.Core.Path.{_≡_, refl, sym, ap, _∙_}
+use Prim.Native.Nat.{ℕ, _+_, _*_, _≤_}
+use mathlib.Core.Path.{_≡_}
 use mathlib.Core.List.{List}
 use mathlib.Core.Option.{none}
 use native.Mathlib.Omega.{arith}
 use lib.ListN.{length}
-use Rattle.image.specs.Header.{rangeCount, entryCount, entriesAt, imageEnd}
-use Rattle.image.specs.Ranges.{rangeAt}
+use Rattle.image.specs.Header.{rangeCount, entryCount, imageEnd}
 use Rattle.image.specs.Check.{refusalOf}
-use Rattle.image.proofs.ImageLaws.{Accepted, accepted}
+use Rattle.image.proofs.ImageLaws.{accepted}
 use Rattle.pair.specs.Walk.{Walk}
-use Rattle.pair.specs.Pair.{EntriesFrom}
+use Rattle.pair.specs.Judged.{EntriesFrom}
 
 -- the walk begins at code point 0
 pub walk-begins : (s : List ℕ) (n : ℕ) → refusalOf s ≡ none → n ≡ rangeCount s → Walk s n 0 0

@@ -2,7 +2,7 @@
 use Prim.Native.Nat.{ℕ, _-_, _≤_, _<_}
 use mathlib.Core.Path.{_≡_, refl, sym, ap, subst, _∙_}
 use mathlib.Core.List.{List, [], _∷_, _++_}
-use mathlib.Core.Bool.{Bool, true, false, not, true≢false, _&&_, _||_}
+use mathlib.Core.Bool.{Bool, true, false, true≢false}
 use mathlib.Core.Option.{Option, none, some}
 use native.Mathlib.Omega.{arith}
 use native.Mathlib.Decide.{decLt}
@@ -10,9 +10,9 @@ use lib.Dec.{ltb, eqb, leb}
 use lib.ListN.{replicate}
 use borrow.Author.Tests.{lt-ltb, le-ltb, eq-eqb, eqb-true, ltb-true, ltb-false, leb-true, not-true, not-false}
 use Rattle.lists.specs.First.{firstWhere}
-use Rattle.lists.specs.Each.{eachFrom, each, single, column}
+use Rattle.lists.specs.Each.{each, single, column}
 use Rattle.lists.proofs.BoolLaws.{and-left, and-right, or-false}
-use Rattle.lists.proofs.FirstLaws.{first-is, first-none, first-passed, first-holds, first-le}
+use Rattle.lists.proofs.FirstLaws.{first-is, first-none, first-passed, first-holds}
 use Rattle.lists.proofs.EachLaws.{each-same}
 use Rattle.utf8.specs.Scalar.{isScalar}
 use Rattle.refusal.specs.declared.Refusal.{Refusal}

@@ -1,13 +1,14 @@
 -- Profile sections compared entry by entry, at their places in two images. Assumes nothing.
 use Prim.Native.Nat.{ℕ, _+_, _*_, _≤_, _<_}
-use mathlib.Core.Path.{_≡_, refl, sym, ap, _∙_}
+use mathlib.Core.Path.{_≡_, refl, sym}
 use mathlib.Core.List.{List}
-use mathlib.Core.Bool.{Bool, true, false}
+use mathlib.Core.Bool.{true, false}
 use native.Mathlib.Omega.{arith}
 use borrow.Author.Tests.{eq-eqb, ne-eqb}
 use Rattle.lists.proofs.FirstLaws.{first-is, first-none}
 use Rattle.image.specs.Profile.{pointAt, roleAt}
-use Rattle.pair.specs.Pair.{wordsDiffer, differsAt, sameEntries, EntriesFrom}
+use Rattle.pair.specs.Pair.{differsAt, sameEntries}
+use Rattle.pair.specs.Judged.{wordsDiffer, EntriesFrom}
 
 module _ (older newer : List ℕ) where
   -- entry i stands 8 * i bytes after the first

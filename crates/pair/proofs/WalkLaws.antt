@@ -1,19 +1,15 @@
 -- What begins at a code point of a walk: nothing more, a gap before the next range, or the rest of a range. Assumes nothing.
-use Prim.Native.Nat.{ℕ, suc, _+_, _-_, _≤_, _<_}
-use mathlib.Core.Path.{_≡_, refl, sym, ap, _∙_}
+use Prim.Native.Nat.{ℕ, _+_, _-_, _≤_, _<_}
+use mathlib.Core.Path.{_≡_, ap}
 use mathlib.Core.List.{List}
-use mathlib.Core.Bool.{Bool, true, false}
 use native.Mathlib.Omega.{arith}
 use native.Mathlib.Decide.{decLt}
-use lib.Dec.{ltb}
 use borrow.Author.Tests.{lt-ltb, le-ltb}
 use Rattle.image.specs.Limits.{lastCodePoint}
-use Rattle.image.specs.Ranges.{rangeAt, classIn}
+use Rattle.image.specs.Ranges.{rangeAt}
 use Rattle.image.specs.declared.Range.{Range}
-use Rattle.lookup.specs.Stretch.{GoodRanges, Placed}
 use Rattle.lookup.proofs.ClassLaws.{good-alone, good-follows, class-held, class-gap}
 use Rattle.pair.specs.declared.Ahead.{Ahead}
-use Rattle.pair.specs.declared.Step.{Step}
 use Rattle.pair.specs.Walk.{Walk, placeAfter, AheadOf, StepOf}
 
 module _ (s : List ℕ) (n i x : ℕ) (w : Walk s n i x) (h : x ≤ lastCodePoint) where

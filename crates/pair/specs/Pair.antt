@@ -1,31 +1,20 @@
 -- What the pair check of two images answers (document 01, "Permitted changes", and refusals 10 and 11).
-use Prim.Native.Nat.{ℕ, _+_, _*_, _≤_}
-use mathlib.Core.Path.{_≡_}
-use mathlib.Core.List.{List, [], _∷_}
+use Prim.Native.Nat.{ℕ}
+use mathlib.Core.List.{List, []}
 use mathlib.Core.Bool.{Bool, true, false, not, _&&_, _||_}
 use mathlib.Core.Option.{Option, none, some}
 use lib.Dec.{ltb, eqb}
-use lib.ListN.{length}
 use Rattle.lists.specs.First.{firstWhere}
 use Rattle.utf8.specs.Scalar.{isScalar}
 use Rattle.refusal.specs.Refusal.{numberOf, carriedBy}
 use Rattle.refusal.specs.declared.Refusal.{Refusal}
 use Rattle.refusal.specs.declared.Refusal.the-variants as refusal
-use Rattle.image.specs.Word.{wordAt}
-use Rattle.image.specs.Limits.{entryBytes}
-use Rattle.image.specs.Header.{rangeCount, entryCount, entriesAt}
+use Rattle.image.specs.Header.{entryCount}
 use Rattle.image.specs.Profile.{pointAt, roleAt}
 use Rattle.image.specs.Check.{refusalOf, rangeClass}
 use Rattle.pair.specs.Change.{permitted}
 use Rattle.pair.specs.declared.Pair.{Pair}
 use Rattle.pair.specs.declared.Pair.the-variants as pair
-
--- two accepted images, of n and m ranges
-pub record Judged (older newer : List ℕ) (n m : ℕ) : Type 0 where
-  pub was : refusalOf older ≡ none
-  pub is : refusalOf newer ≡ none
-  pub ranges : n ≡ rangeCount older
-  pub newRanges : m ≡ rangeCount newer
 
 -- x is a scalar value whose classes in the ranges are no permitted change
 unfoldable pub forbiddenAt : List ℕ → List ℕ → ℕ → Bool
@@ -39,10 +28,6 @@ codePoints = 0x110000
 unfoldable pub firstForbidden : List ℕ → List ℕ → ℕ
 firstForbidden older newer = firstWhere (forbiddenAt older newer) codePoints
 
--- the two words from byte a on differ from those from byte b on
-unfoldable pub wordsDiffer : List ℕ → List ℕ → ℕ → ℕ → Bool
-wordsDiffer older newer a b = not (eqb (wordAt older a) (wordAt newer b)) || not (eqb (wordAt older (a + 4)) (wordAt newer (b + 4)))
-
 -- the profile entries at index i differ: the code point or the role does
 unfoldable pub differsAt : List ℕ → List ℕ → ℕ → Bool
 differsAt older newer i = not (eqb (pointAt older i) (pointAt newer i)) || not (eqb (roleAt older i) (roleAt newer i))
@@ -54,11 +39,6 @@ sameEntries older newer count = eqb (firstWhere (differsAt older newer) count) c
 -- profiles are the same if m and the entries before it are
 unfoldable pub sameProfile : List ℕ → List ℕ → Bool
 sameProfile older newer = eqb (entryCount newer) (entryCount older) && sameEntries older newer (entryCount older)
-
--- the profile entries of s begin at byte a, and there are at least so many
-pub record EntriesFrom (s : List ℕ) (a count : ℕ) : Type 0 where
-  pub begin : a ≡ entriesAt (rangeCount s)
-  pub room : a + entryBytes * count ≤ length s
 
 abbrev pub pickPair : Bool → Pair → Pair → Pair
 pickPair true a b = a
@@ -80,12 +60,18 @@ pairBy older newer none none = comparedOf older newer
 unfoldable pub pairOf : List ℕ → List ℕ → Pair
 pairOf older newer = pairBy older newer (refusalOf older) (refusalOf newer)
 
--- document 01's number of an answer, 0 for yes, and the numbers that it carries
+-- the refusal in an answer, and the image that it tells of: 1 the older, 2 the newer, 0 neither
 abbrev pub refusalIn : Pair → Option Refusal
 refusalIn (pair.Older r) = some r
 refusalIn (pair.Newer r) = some r
 refusalIn (pair.Refused r) = some r
 refusalIn pair.Permitted = none
+
+abbrev pub imageIn : Pair → ℕ
+imageIn (pair.Older r) = 1
+imageIn (pair.Newer r) = 2
+imageIn (pair.Refused r) = 0
+imageIn pair.Permitted = 0
 
 abbrev pub numberBy : Option Refusal → ℕ
 numberBy none = 0
@@ -95,6 +81,7 @@ abbrev pub carriedIn : Option Refusal → List ℕ
 carriedIn none = []
 carriedIn (some r) = carriedBy r
 
+-- document 01's number of an answer, 0 for yes, and the numbers that it carries
 abbrev pub pairNumber : Pair → ℕ
 pairNumber p = numberBy (refusalIn p)
 

@@ -7,7 +7,8 @@ ghost use Rattle.image.specs.Header.{rangeCount};
 ghost use Rattle.image.specs.Check.{refusalOf};
 ghost use Rattle.pair.specs.Change.{isContinueClass, permitted};
 ghost use Rattle.pair.specs.Walk.{Walk, placeAfter, AheadOf, StepOf};
-ghost use Rattle.pair.specs.Pair.{Judged, firstForbidden, wordsDiffer, EntriesFrom, sameEntries, sameProfile, comparedOf, pairOf};
+ghost use Rattle.pair.specs.Pair.{firstForbidden, sameEntries, sameProfile, comparedOf, pairOf};
+ghost use Rattle.pair.specs.Judged.{Judged, EntriesFrom, wordsDiffer};
 use image::Answer;
 use refusal::Refusal;
 

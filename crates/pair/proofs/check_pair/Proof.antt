@@ -1,5 +1,4 @@
 -- `pair::check_pair` meets its contract. Assumes nothing.
-use mathlib.Core.Path.{sym, _∙_}
 use Rattle.image.proofs.ImageLaws.{says}
 use Rattle.pair.specs.Pair.{pairOf}
 use borrow.Author.Needs.{needs}

@@ -1,5 +1,5 @@
 -- `pair::judge_newer` meets its contract. Assumes nothing.
-use mathlib.Core.Path.{sym, _∙_}
+use mathlib.Core.Path.{_∙_}
 use Rattle.image.proofs.ImageLaws.{says}
 use Rattle.pair.specs.Pair.{pairOf}
 use borrow.Author.Needs.{needs}
