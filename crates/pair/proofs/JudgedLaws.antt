@@ -5,6 +5,7 @@ use mathlib.Core.List.{List}
 use mathlib.Core.Option.{none}
 use native.Mathlib.Omega.{arith}
 use lib.ListN.{length}
+use Rattle.image.specs.Limits.{maxRanges, maxEntries}
 use Rattle.image.specs.Header.{rangeCount, entryCount, imageEnd}
 use Rattle.image.specs.Check.{refusalOf}
 use Rattle.image.proofs.ImageLaws.{accepted}
@@ -23,7 +24,7 @@ walk-begins s n e p =
     }
 
 -- the header, the ranges and the entries fill the image
-pub filled : (s : List ℕ) (n : ℕ) → refusalOf s ≡ none → n ≡ rangeCount s → (length s ≡ imageEnd n (entryCount s)) × (entryCount s ≤ 64) × (n ≤ 4096)
+pub filled : (s : List ℕ) (n : ℕ) → refusalOf s ≡ none → n ≡ rangeCount s → (length s ≡ imageEnd n (entryCount s)) × (entryCount s ≤ maxEntries) × (n ≤ maxRanges)
 filled s n e p =
     let h = accepted s e .header in
     let a = h .few-ranges in

@@ -9,7 +9,7 @@ use native.Mathlib.Decide.{decLt}
 use lib.Dec.{ltb, eqb, leb}
 use lib.ListN.{replicate}
 use borrow.Author.Tests.{lt-ltb, le-ltb, eq-eqb, eqb-true, ltb-true, ltb-false, leb-true, not-true, not-false}
-use Rattle.lists.specs.First.{firstWhere}
+use Rattle.lists.specs.First.{pickN, firstWhere}
 use Rattle.lists.specs.Each.{each, single, column}
 use Rattle.lists.proofs.BoolLaws.{and-left, and-right, or-false}
 use Rattle.lists.proofs.FirstLaws.{first-is, first-none, first-passed, first-holds}
@@ -21,11 +21,11 @@ use Rattle.image.specs.Class.{classNamed}
 use Rattle.image.specs.Limits.{maxEntries}
 use Rattle.image.specs.Header.{rangeCount, entryCount}
 use Rattle.image.specs.Ranges.{rangeAt}
-use Rattle.image.specs.Profile.{pointAt, roleAt, profileOf, roleOf}
-use Rattle.image.specs.Check.{refusalOf, rangeClass}
+use Rattle.image.specs.Profile.{pointAt, roleAt, profileOf, roleOf, afterRole, isMedial}
+use Rattle.image.specs.Check.{refusalOf, rangeClass, classOf, medialOf}
 use Rattle.image.proofs.ImageLaws.{Accepted, accepted, refused-none}
 use Rattle.lookup.proofs.ClassLaws.{class-known}
-use Rattle.pair.specs.Change.{Permitted, permitted}
+use Rattle.pair.specs.Change.{Permitted, same, permitted}
 use Rattle.pair.specs.Pair.{
   forbiddenAt,
   codePoints,
@@ -235,3 +235,24 @@ module _ (older newer : List ℕ) where
   -- so each code point has one role
   pub roles-equal : SameProfile older newer → (y : ℕ) → roleOf (profileOf older) y ≡ roleOf (profileOf newer) y
   roles-equal s y = ap (λ p. roleOf p y) (profiles-equal s)
+
+  pub medials-equal : SameProfile older newer → (y : ℕ) → medialOf older y ≡ medialOf newer y
+  unfolding medialOf
+  medials-equal s y = ap (λ p. isMedial p y) (profiles-equal s)
+
+  -- and after equal profiles too the classes differ only by permitted changes
+  after-by : (p q t : Bool) (a b : ℕ) → Permitted (classNamed a) (classNamed b)
+      → Permitted (classNamed (pickN p 1 (pickN q 2 (pickN t 5 a)))) (classNamed (pickN p 1 (pickN q 2 (pickN t 5 b))))
+  after-by true q t a b c = same refl
+  after-by false true t a b c = same refl
+  after-by false false true a b c = same refl
+  after-by false false false a b c = c
+
+  after-permitted : (r a b : ℕ) → Permitted (classNamed a) (classNamed b) → Permitted (classNamed (afterRole r a)) (classNamed (afterRole r b))
+  unfolding afterRole
+  after-permitted r a b c = after-by (eqb r 1) (eqb r 2) (eqb r 4) a b c
+
+  pub classes-permitted : SameProfile older newer → OnlyPermitted older newer → (x : ℕ) → isScalar x ≡ true
+      → Permitted (classNamed (classOf older x)) (classNamed (classOf newer x))
+  unfolding classOf
+  classes-permitted s f x e = rw (roles-equal s x) (after-permitted (roleOf (profileOf newer) x) (rangeClass older x) (rangeClass newer x) (f x e))

@@ -102,8 +102,8 @@ both-ahead older newer n m i j x e p q a b f g l u v =
     record {
       from = l .0;
       to = omega arith;
-      wasOne = λ y k h. f .same y k (omega arith);
-      isOne = λ y k h. g .same y k (omega arith);
-      onOlder = rw u (f .onward e (l .0) (l .1));
-      onNewer = rw v (g .onward e (l .0) (l .2));
+      older-same = λ y k h. f .same y k (omega arith);
+      newer-same = λ y k h. g .same y k (omega arith);
+      older-next = rw u (f .onward e (l .0) (l .1));
+      newer-next = rw v (g .onward e (l .0) (l .2));
     }
