@@ -2,16 +2,18 @@
 ghost use mathlib.Core.Path.{_≡_};
 ghost use mathlib.Core.Bool.{true, not, _&&_, _||_};
 ghost use mathlib.Core.Option.{none};
-ghost use Prim.Native.Nat.{_+_, _*_, _≤_};
+ghost use Prim.Native.Nat.{ℕ, _+_, _*_, _≤_};
 ghost use lib.Dec.{leb, ltb, eqb};
 ghost use lib.ListN.{length};
+ghost use Rattle.lists.specs.Laid.{laid};
+ghost use Rattle.lists.specs.Each.{each};
 ghost use Rattle.utf8.specs.Scalar.{isScalar};
 ghost use Rattle.image.specs.Word.{joinOf, wordAt};
 ghost use Rattle.image.specs.Limits.{maxRanges, maxEntries};
 ghost use Rattle.image.specs.Header.{versionOf, totalOf, rangeCount, rangeOffset, entryCount, entryOffset, entriesAt, imageEnd, lengthRight, headerRight};
-ghost use Rattle.image.specs.Ranges.{rangeAt, goodAlone, follows, goodRange, firstBadRange};
+ghost use Rattle.image.specs.Ranges.{rangeAt, rangeWords, goodAlone, follows, goodRange, firstBadRange};
 ghost use Rattle.image.specs.Profile.{pointAt, roleAt, goodEntry, firstBadEntry, profileOf};
-ghost use Rattle.image.specs.Check.{refusalOf, acceptedOf, refusedBy, checkOf};
+ghost use Rattle.image.specs.Check.{refusalOf, acceptedOf, refusedBy, checkOf, readOf, wordsAfter};
 use refusal::Refusal;
 
 // The most ranges and profile entries that an image may have.
@@ -335,5 +337,46 @@ pub fn check(image: &[u8]) -> Checked
     match a {
         Answer::Refused(r) => refuse(r),
         Answer::Accepted { version, ranges } => accept(image, version, ranges),
+    }
+}
+
+// Writes one range, three words, at the front of a buffer.
+fn put_range(out: &mut [u32], r: Range)
+    requires { ⌜ 3 ≤ length (now out) ⌝ }
+    ensures { λ _. ⌜ now (out .exit) ≡ laid (now (out .entry)) 0 (rangeWords r) ⌝ }
+{
+    out[0] = r.first;
+    out[1] = r.last;
+    out[2] = r.class;
+}
+
+// Writes the n ranges of an image at the front of a buffer.
+fn write_ranges(image: &[u8], n: usize, out: &mut [u32])
+    requires { ⌜ (32 + 12 * n ≤ length (now image)) × (3 * n ≤ length (now out)) ⌝ }
+    ensures { λ _. ⌜ now (out .exit) ≡ laid (now (out .entry)) 0 (each (λ (i : ℕ). rangeWords (rangeAt (now (image .entry)) i)) n) ⌝ }
+{
+    let mut i = 0;
+    while i < n {
+        let r = range_at(image, i);
+        let at = 3 * i;
+        put_range(&mut out[at..], r);
+        i += 1;
+    }
+}
+
+// Checks an image, and reads its ranges into a buffer and its profile. A refused call leaves the buffer as it was.
+pub fn read(image: &[u8], out: &mut [u32]) -> Checked
+    ensures { λ r. ⌜ (r ≡ readOf (now (image .entry)) (length (now (out .entry)))) × (now (out .exit) ≡ wordsAfter (now (image .entry)) (now (out .entry))) ⌝ }
+{
+    let a = judge(image);
+    match a {
+        Answer::Refused(r) => refuse(r),
+        Answer::Accepted { version, ranges } => {
+            if out.len() / 3 < ranges {
+                return refuse(Refusal::Room(ranges));
+            }
+            write_ranges(image, ranges, out);
+            accept(image, version, ranges)
+        }
     }
 }

@@ -16,8 +16,12 @@ pub record StretchOf (at : ℕ → Range) (n x : ℕ) (r : Stretch) : Type 0 whe
   pub to : x ≤ r .last
   pub same : (y : ℕ) → r .first ≤ y → y ≤ r .last → classIn at n y ≡ r .class
 
--- i is the place of x among n ranges: the range before i ends before x, and range i ends at x or later
-pub record Placed (at : ℕ → Range) (n i x : ℕ) : Type 0 where
+-- the first i of n ranges are passed on the way to x: the last of them ends before x
+pub record Passed (at : ℕ → Range) (n i x : ℕ) : Type 0 where
   pub within : i ≤ n
-  pub passed : 0 < i → at (i - 1) .last < x
+  pub before : 0 < i → at (i - 1) .last < x
+
+-- i is the place of x among n ranges: those before i are passed, and range i ends at x or later
+pub record Placed (at : ℕ → Range) (n i x : ℕ) : Type 0 where
+  pub passed : Passed at n i x
   pub reached : i < n → x ≤ at i .last
