@@ -20,7 +20,7 @@ walk-begins s n e p =
     record {
       room = omega arith;
       good = rw p (a .ranges);
-      place = record { within = omega arith; passed = λ l. absurd (omega arith); reached = λ l. omega arith };
+      place = record { passed = record { within = omega arith; before = λ l. absurd (omega arith) }; reached = λ l. omega arith };
     }
 
 -- the header, the ranges and the entries fill the image
