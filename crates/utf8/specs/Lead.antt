@@ -1,11 +1,12 @@
--- What the first byte of a sequence decides. This is the reader's form of Table 3-7; `proofs/LeadLaws.antt` joins the two.
+-- What the first byte of a sequence decides: the reader's form of Table 3-7. `proofs/LeadLaws.antt` joins the two.
 use Prim.Native.Nat.{ℕ, zero, suc}
-use mathlib.Core.Bool.{Bool, true, false}
+use mathlib.Core.Bool.{Bool, true, false, _&&_}
 use mathlib.Core.List.{List, [], _∷_}
-use lib.ListN.{length, replicate}
+use lib.Dec.{ltb}
+use lib.ListN.{length, take, drop, getD, replicate}
 use Rattle.utf8.specs.declared.Lead.{Lead}
 use Rattle.utf8.specs.declared.Step.{Step}
-use Rattle.utf8.specs.declared.Step.the-variants.{Scalar, IllFormed, End}
+use Rattle.utf8.specs.declared.Step.the-variants.{Scalar, IllFormed}
 use Rattle.utf8.specs.Table.{Bytes, _to_, Row, table, inside, fits, codePoint}
 use Rattle.utf8.specs.Head.{pickStep}
 
@@ -19,6 +20,7 @@ leadOfRow [] = record { len = 0; low = 0; high = 0 }
 leadOfRow (g ∷ []) = record { len = 1; low = 0; high = 0 }
 leadOfRow (g ∷ h ∷ gs) = record { len = suc (suc (length gs)); low = h .low; high = h .high }
 
+-- the first range of a row has the byte
 abbrev pub leads : Row → ℕ → Bool
 leads [] b = false
 leads (g ∷ gs) b = inside g b
@@ -30,3 +32,21 @@ leadIn (r ∷ rs) b = pickLead (leads r b) (leadOfRow r) (leadIn rs b)
 
 unfoldable pub leadOf : ℕ → Lead
 leadOf b = leadIn table b
+
+-- the ranges of the bytes after the first, in a sequence of this length
+abbrev pub trailOf : ℕ → ℕ → ℕ → Row
+trailOf zero low high = []
+trailOf (suc zero) low high = []
+trailOf (suc (suc n)) low high = low to high ∷ replicate n (0x80 to 0xBF)
+
+-- the sequence at the head of a text whose first byte has this lead
+abbrev pub stepAs : ℕ → Row → List ℕ → Step
+stepAs zero gs s = IllFormed
+stepAs (suc n) gs s = pickStep (fits gs (drop 1 s)) (Scalar (codePoint (take (suc n) s)) (suc n)) IllFormed
+
+unfoldable pub stepBy : Lead → List ℕ → Step
+stepBy l s = stepAs (l .len) (trailOf (l .len) (l .low) (l .high)) s
+
+-- byte i of the text is there and in the range
+unfoldable pub byteFits : Bytes → List ℕ → ℕ → Bool
+byteFits g s i = ltb i (length s) && inside g (getD s i 0)

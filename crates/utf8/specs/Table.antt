@@ -1,10 +1,9 @@
 -- Well-formed UTF-8 byte sequences: the Unicode Standard, Table 3-7, and the code points they stand for, Table 3-6.
-use Prim.Native.Nat.{ℕ, zero, suc, _+_, _*_, _%_}
+use Prim.Native.Nat.{ℕ, zero, suc, _+_, _*_, _%_, _≤_}
 use mathlib.Core.Bool.{Bool, true, false, _&&_}
 use mathlib.Core.List.{List, [], _∷_}
 use mathlib.Core.Logic.{_⊎_}
 use lib.Dec.{leb}
-use mathlib.Core.Path.{_≡_}
 use lib.ListN.{length}
 
 -- a range of bytes, both ends in it
@@ -48,7 +47,7 @@ abbrev pub Fills : Row → List ℕ → Type 0
 Fills [] [] = Unit {0}
 Fills [] (b ∷ q) = ⊥
 Fills (g ∷ gs) [] = ⊥
-Fills (g ∷ gs) (b ∷ q) = (inside g b ≡ true) × Fills gs q
+Fills (g ∷ gs) (b ∷ q) = (g .low ≤ b) × (b ≤ g .high) × Fills gs q
 
 abbrev pub FillsOne : List Row → List ℕ → Type 0
 FillsOne [] q = ⊥

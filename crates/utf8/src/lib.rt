@@ -1,8 +1,14 @@
 // UTF-8 of the Unicode Standard, Table 3-7: the sequence at the head of a text, and the first ill-formed place.
 ghost use mathlib.Core.Path.{_≡_};
+ghost use mathlib.Core.Bool.{not};
+ghost use Prim.Native.Nat.{_≤_, _<_};
+ghost use lib.ListN.{length};
 ghost use Rattle.utf8.specs.Scalar.{isScalar};
+ghost use Rattle.utf8.specs.Table.{_to_, codePoint};
 ghost use Rattle.utf8.specs.Head.{stepOf};
+ghost use Rattle.utf8.specs.Lead.{leadOf, stepBy, byteFits};
 ghost use Rattle.utf8.specs.Text.{textOf};
+ghost use mathlib.Core.List.{[], _∷_};
 
 // What a first byte decides: the length of the sequence (0: it begins none), and the bounds of the second byte.
 pub struct Lead {
@@ -38,4 +44,175 @@ pub fn is_scalar(x: u32) -> bool
         return false;
     }
     x <= 0x10FFFF
+}
+
+// The row of Table 3-7 that a first byte is in.
+fn read_lead(b: u8) -> Lead
+    ensures { λ r. ⌜ r ≡ leadOf b ⌝ }
+{
+    match b {
+        0x00..=0x7F => Lead {
+            len: 1,
+            low: 0,
+            high: 0,
+        },
+        0xC2..=0xDF => Lead {
+            len: 2,
+            low: 0x80,
+            high: 0xBF,
+        },
+        0xE0 => Lead {
+            len: 3,
+            low: 0xA0,
+            high: 0xBF,
+        },
+        0xE1..=0xEC | 0xEE..=0xEF => Lead {
+            len: 3,
+            low: 0x80,
+            high: 0xBF,
+        },
+        0xED => Lead {
+            len: 3,
+            low: 0x80,
+            high: 0x9F,
+        },
+        0xF0 => Lead {
+            len: 4,
+            low: 0x90,
+            high: 0xBF,
+        },
+        0xF1..=0xF3 => Lead {
+            len: 4,
+            low: 0x80,
+            high: 0xBF,
+        },
+        0xF4 => Lead {
+            len: 4,
+            low: 0x80,
+            high: 0x8F,
+        },
+        _ => Lead {
+            len: 0,
+            low: 0,
+            high: 0,
+        },
+    }
+}
+
+// The bits of a sequence of one, two, three and four bytes, put together (Table 3-6).
+fn join1(a: u8) -> u32
+    ensures { λ r. ⌜ r ≡ codePoint (a ∷ []) ⌝ }
+{
+    a as u32
+}
+
+fn join2(a: u8, b: u8) -> u32
+    ensures { λ r. ⌜ r ≡ codePoint (a ∷ b ∷ []) ⌝ }
+{
+    (a as u32 % 32) * 64 + b as u32 % 64
+}
+
+fn join3(a: u8, b: u8, c: u8) -> u32
+    ensures { λ r. ⌜ r ≡ codePoint (a ∷ b ∷ c ∷ []) ⌝ }
+{
+    ((a as u32 % 16) * 64 + b as u32 % 64) * 64 + c as u32 % 64
+}
+
+fn join4(a: u8, b: u8, c: u8, d: u8) -> u32
+    ensures { λ r. ⌜ r ≡ codePoint (a ∷ b ∷ c ∷ d ∷ []) ⌝ }
+{
+    (((a as u32 % 8) * 64 + b as u32 % 64) * 64 + c as u32 % 64) * 64 + d as u32 % 64
+}
+
+// Whether byte `i` of `s` is missing or out of the bounds.
+fn misses(s: &[u8], i: usize, low: u8, high: u8) -> bool
+    ensures { λ r. ⌜ r ≡ not (byteFits (low to high) (now (s .entry)) i) ⌝ }
+{
+    if s.len() <= i {
+        return true;
+    }
+    let b = s[i];
+    if b < low {
+        return true;
+    }
+    high < b
+}
+
+// The sequence at the head of `s`, whose first byte has this lead.
+fn finish(s: &[u8], lead: Lead) -> Step
+    requires { ⌜ (0 < length (now s)) × (lead .len ≤ 4) ⌝ }
+    ensures { λ r. ⌜ r ≡ stepBy lead (now (s .entry)) ⌝ }
+{
+    let len = lead.len;
+    if len == 0 {
+        return Step::IllFormed;
+    }
+    if len == 1 {
+        return Step::Scalar {
+            code: join1(s[0]),
+            len: 1,
+        };
+    }
+    if misses(s, 1, lead.low, lead.high) {
+        return Step::IllFormed;
+    }
+    if len == 2 {
+        return Step::Scalar {
+            code: join2(s[0], s[1]),
+            len: 2,
+        };
+    }
+    if misses(s, 2, 0x80, 0xBF) {
+        return Step::IllFormed;
+    }
+    if len == 3 {
+        return Step::Scalar {
+            code: join3(s[0], s[1], s[2]),
+            len: 3,
+        };
+    }
+    if misses(s, 3, 0x80, 0xBF) {
+        return Step::IllFormed;
+    }
+    Step::Scalar {
+        code: join4(s[0], s[1], s[2], s[3]),
+        len: 4,
+    }
+}
+
+// The sequence at the head of `s`.
+pub fn decode(s: &[u8]) -> Step
+    ensures { λ r. ⌜ r ≡ stepOf (now (s .entry)) ⌝ }
+{
+    if s.len() == 0 {
+        return Step::End;
+    }
+    let b = s[0];
+    if b < 0x80 {
+        return Step::Scalar {
+            code: join1(b),
+            len: 1,
+        };
+    }
+    finish(s, read_lead(b))
+}
+
+// The first place of `s` at which no well-formed sequence begins, or that there is none.
+pub fn check_text(s: &[u8]) -> Text
+    ensures { λ r. ⌜ r ≡ textOf (now (s .entry)) ⌝ }
+{
+    let mut at = 0;
+    while at < s.len() {
+        if s[at] < 0x80 {
+            at += 1;
+            continue;
+        }
+        let step = decode(&s[at..]);
+        match step {
+            Step::Scalar { code: _, len } => at += len,
+            Step::IllFormed => return Text::IllFormed(at),
+            Step::End => return Text::WellFormed,
+        }
+    }
+    Text::WellFormed
 }

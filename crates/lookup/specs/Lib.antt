@@ -1,0 +1,4 @@
+pub mod Halving
+pub mod Lookup
+pub mod Stretch
+pub mod Reach

@@ -1,0 +1,36 @@
+-- What a lookup answers (document 01, "Lookup and its count", and refusals 1 to 4 and 9).
+use Prim.Native.Nat.{ℕ}
+use mathlib.Core.List.{List}
+use mathlib.Core.Bool.{Bool, true, false}
+use mathlib.Core.Option.{Option, none, some}
+use Rattle.utf8.specs.Scalar.{isScalar}
+use Rattle.refusal.specs.declared.Refusal.{Refusal}
+use Rattle.refusal.specs.declared.Refusal.the-variants as refusal
+use Rattle.image.specs.Header.{rangeCount}
+use Rattle.image.specs.Ranges.{rangeAt}
+use Rattle.image.specs.Check.{refusalOf, classOf}
+use Rattle.image.specs.declared.Profile.{Profile}
+use Rattle.lookup.specs.Halving.{seekOf}
+use Rattle.lookup.specs.declared.Found.{Found}
+use Rattle.lookup.specs.declared.Found.the-variants as found
+
+-- the profile with these code points, roles and used length
+abbrev pub profileBy : List ℕ → List ℕ → ℕ → Profile
+profileBy points roles used = record { points = points; roles = roles; used = used }
+
+abbrev pub pickFound : Bool → Found → Found → Found
+pickFound true a b = a
+pickFound false a b = b
+
+-- in an accepted image: the class after the profile and the number of the search's steps, or 9
+abbrev pub foundIn : List ℕ → ℕ → Found
+foundIn s x =
+    pickFound (isScalar x) (found.Class (classOf s x) (seekOf (rangeAt s) 0 (rangeCount s) x .count)) (found.Refused (refusal.NotScalar x))
+
+abbrev pub lookupBy : List ℕ → ℕ → Option Refusal → Found
+lookupBy s x none = foundIn s x
+lookupBy s x (some r) = found.Refused r
+
+-- refusals 1 to 4 of the image come first
+unfoldable pub lookupOf : List ℕ → ℕ → Found
+lookupOf s x = lookupBy s x (refusalOf s)

@@ -1,0 +1,4 @@
+pub mod TableLaws
+pub mod LeadLaws
+pub mod SequenceLaws
+pub mod TextLaws

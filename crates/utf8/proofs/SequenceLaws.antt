@@ -1,0 +1,188 @@
+-- The step at the head of a text and the sequences of Table 3-7: each finds the other, and nothing else.
+-- Assumes nothing.
+use Prim.Native.Nat.{ℕ, zero, suc, _+_, _*_, _%_, _≤_, _<_}
+use mathlib.Core.Path.{_≡_, refl, sym, ap, _∙_}
+use mathlib.Core.Bool.{Bool, true, false, _&&_, false≢true}
+use mathlib.Core.List.{List, [], _∷_, _++_}
+use mathlib.Core.Logic.{_⊎_, inl, inr}
+use native.Mathlib.Omega.{arith}
+use lib.Dec.{leb}
+use lib.ListN.{length, take, drop, take-append-drop}
+use borrow.Author.Tests.{lt-ltb, le-ltb, le-leb}
+use Rattle.lists.proofs.BoolLaws.{and-left, and-right}
+use Rattle.utf8.specs.declared.Step.{Step}
+use Rattle.utf8.specs.declared.Step.the-variants.{Scalar, IllFormed, End}
+use Rattle.utf8.specs.Scalar.{isScalar}
+use Rattle.utf8.specs.Table.{Bytes, _to_, Row, table, inside, fits, Fills, FillsOne, Sequence, codePoint}
+use Rattle.utf8.specs.Head.{pickStep, stepIn, stepOf}
+use Rattle.utf8.proofs.TableLaws.{inside-in, inside-out, inside-above}
+use Rattle.utf8.proofs.LeadLaws.{rising, rising-parts}
+
+-- a row and the bytes that fill it
+fills-fits : (gs : Row) (q t : List ℕ) → Fills gs q → (fits gs (q ++ t) ≡ true) × (length gs ≡ length q) × (take (length gs) (q ++ t) ≡ q)
+fills-fits [] [] t f = (refl, refl, refl)
+fills-fits (g ∷ gs) (b ∷ q) t f =
+    let h = fills-fits gs q t (f .2) in
+    (rw (inside-in g b (f .0) (f .1), h .0), ap suc (h .1), ap (λ (l : List ℕ). b ∷ l) (h .2))
+
+fits-fills : (gs : Row) (s : List ℕ) → fits gs s ≡ true → Fills gs (take (length gs) s) × (length gs ≡ length (take (length gs) s))
+fits-fills [] s e = (tt, refl)
+fits-fills (g ∷ gs) [] e = absurd (false≢true e)
+fits-fills (g ∷ gs) (b ∷ s) e =
+    let o = inside-out g b (and-left (inside g b) (fits gs s) e) in
+    let h = fits-fills gs s (and-right (inside g b) (fits gs s) e) in
+    ((o .0, o .1, h .0), ap suc (h .1))
+
+-- what a step says of the bytes at the head
+abbrev Found : List Row → List ℕ → Step → Type 0
+Found rs s (Scalar x n) = FillsOne rs (take n s) × (x ≡ codePoint (take n s)) × (n ≡ length (take n s))
+Found rs s IllFormed = Unit {0}
+Found rs s End = Unit {0}
+
+later-row : (r : Row) (rs : List Row) (s : List ℕ) (t : Step) → Found rs s t → Found (r ∷ rs) s t
+later-row r rs s (Scalar x n) f = (inr (f .0), f .1, f .2)
+later-row r rs s IllFormed f = tt
+later-row r rs s End f = tt
+
+found : (rs : List Row) (s : List ℕ) → Found rs s (stepIn rs s)
+found [] s = tt
+found (r ∷ rs) s = go (found rs s) (fits r s) refl
+  where
+    go : Found rs s (stepIn rs s) → (t : Bool) → fits r s ≡ t → Found (r ∷ rs) s (pickStep t (Scalar (codePoint (take (length r) s)) (length r)) (stepIn rs s))
+    go ih true e = let h = fits-fills r s e in (inl (h .0), refl, h .1)
+    go ih false e = later-row r rs s (stepIn rs s) ih
+
+-- the first byte of what fills a later row is above this row's first bytes
+rises : (rs : List Row) (m b : ℕ) (q : List ℕ) → rising m rs ≡ true → FillsOne rs (b ∷ q) → m ≤ b
+rises ([] ∷ rs) m b q t f = let z : _≡_ {A = ℕ} 0 1 = cc in absurd (omega arith)
+rises ((g ∷ gs) ∷ rs) m b q t (inl f) = let p = rising-parts m g gs rs t in omega arith
+rises ((g ∷ gs) ∷ rs) m b q t (inr f) = let p = rising-parts m g gs rs t in omega (arith, rises rs (suc (g .high)) b q (p .2) f)
+
+finds : (rs : List Row) (m b : ℕ) (q t : List ℕ) → rising m rs ≡ true → FillsOne rs (b ∷ q) → stepIn rs (b ∷ (q ++ t)) ≡ Scalar (codePoint (b ∷ q)) (length (b ∷ q))
+finds ([] ∷ rs) m b q t r f = let z : _≡_ {A = ℕ} 0 1 = cc in absurd (omega arith)
+finds ((g ∷ gs) ∷ rs) m b q t r (inl f) =
+    let h = fills-fits (g ∷ gs) (b ∷ q) t f in
+    rw (h .0) (λ i. Scalar (codePoint (b ∷ take (length gs) (q ++ t))) (suc (length gs))) ∙ (λ i. Scalar (codePoint (h .2 i)) (h .1 i))
+finds ((g ∷ gs) ∷ rs) m b q t r (inr f) =
+    let p = rising-parts m g gs rs r in
+    rw (inside-above g b (p .1) (rises rs (suc (g .high)) b q (p .2) f)) (finds rs (suc (g .high)) b q t (p .2) f)
+
+nothing-fills : (rs : List Row) (m : ℕ) → rising m rs ≡ true → FillsOne rs [] → ⊥
+nothing-fills ([] ∷ rs) m r f = let z : _≡_ {A = ℕ} 0 1 = cc in absurd (omega arith)
+nothing-fills ((g ∷ gs) ∷ rs) m r (inl f) = f
+nothing-fills ((g ∷ gs) ∷ rs) m r (inr f) = let p = rising-parts m g gs rs r in nothing-fills rs (suc (g .high)) (p .2) f
+
+pub not-empty : Sequence [] → ⊥
+unfolding Sequence
+not-empty f = nothing-fills table 0 refl f
+
+-- a sequence is found wherever it stands at the head, whatever follows
+pub step-of-sequence : (q t : List ℕ) → Sequence q → stepOf (q ++ t) ≡ Scalar (codePoint q) (length q)
+unfolding stepOf Sequence
+step-of-sequence [] t f = absurd (not-empty f)
+step-of-sequence (b ∷ q) t f = finds table 0 b q t refl f
+
+-- what is found is the sequence of the bytes taken
+pub record IsSequence (s : List ℕ) (x n : ℕ) : Type 0 where
+  pub sequence : Sequence (take n s)
+  pub code : x ≡ codePoint (take n s)
+  pub long : n ≡ length (take n s)
+
+sequence-found : (s : List ℕ) (x n : ℕ) → stepIn table s ≡ Scalar x n → IsSequence s x n
+unfolding Sequence
+sequence-found s x n e = let f : Found table s (Scalar x n) = rw e at (found table s) in record { sequence = f .0; code = f .1; long = f .2 }
+
+pub sequence-of-step : (s : List ℕ) (x n : ℕ) → stepOf s ≡ Scalar x n → IsSequence s x n
+unfolding stepOf
+sequence-of-step [] x n e = let z : _≡_ {A = ℕ} 0 1 = cc in absurd (omega arith)
+sequence-of-step (b ∷ s) x n e = sequence-found (b ∷ s) x n e
+
+-- decoding looks at no more bytes than it takes
+pub looks-no-further : (s t : List ℕ) (x n : ℕ) → stepOf s ≡ Scalar x n → stepOf (take n s ++ t) ≡ Scalar x n
+looks-no-further s t x n e =
+    let f = sequence-of-step s x n e in
+    step-of-sequence (take n s) t (f .sequence) ∙ (λ i. Scalar (sym (f .code) i) (sym (f .long) i))
+
+-- where the head is ill-formed no sequence begins
+pub no-sequence-at : (s : List ℕ) → stepOf s ≡ IllFormed → (q r : List ℕ) → s ≡ q ++ r → Sequence q → ⊥
+no-sequence-at s e q r p f =
+    let g = step-of-sequence q r f in
+    let h = ap stepOf p in
+    let z : _≡_ {A = ℕ} 0 1 = cc in
+    omega arith
+
+pub end-empty : (s : List ℕ) → stepOf s ≡ End → s ≡ []
+unfolding stepOf
+end-empty [] e = refl
+end-empty (b ∷ s) e = absurd (go table e)
+  where
+    go : (rs : List Row) → stepIn rs (b ∷ s) ≡ End → ⊥
+    go [] f = let z : _≡_ {A = ℕ} 0 1 = cc in omega arith
+    go (r ∷ rs) f = pick (go rs) (fits r (b ∷ s)) refl
+      where
+        pick : (stepIn rs (b ∷ s) ≡ End → ⊥) → (t : Bool) → fits r (b ∷ s) ≡ t → ⊥
+        pick ih true g = let h : Scalar (codePoint (take (length r) (b ∷ s))) (length r) ≡ End = rw (g, stepIn) at f in let z : _≡_ {A = ℕ} 0 1 = cc in omega arith
+        pick ih false g = ih (rw (g, stepIn) at f)
+
+-- every sequence has one to four bytes and stands for a scalar value
+low : (x : ℕ) → x < 0xD800 → isScalar x ≡ true
+unfolding isScalar
+low x h = simp (lt-ltb _ _ h)
+
+high : (x : ℕ) → 0xE000 ≤ x → x ≤ 0x10FFFF → isScalar x ≡ true
+unfolding isScalar
+high x h l = let g : 0xD800 ≤ x = omega arith in simp (le-ltb _ _ g, le-ltb _ _ h, le-leb _ _ l)
+
+abbrev Right : List ℕ → Type 0
+Right q = (0 < length q) × (length q ≤ 4) × (isScalar (codePoint q) ≡ true)
+
+abbrev within : Bytes → ℕ → Type 0
+within g b = (g .low ≤ b) × (b ≤ g .high)
+
+abbrev later : ℕ → Type 0
+later b = (0x80 ≤ b) × (b ≤ 0xBF)
+
+-- the bytes of a row of one, two, three and four ranges
+row-1 : (g : Bytes) → ((b : ℕ) → within g b → isScalar (codePoint (b ∷ [])) ≡ true) → (q : List ℕ) → Fills (g ∷ []) q → Right q
+row-1 g k (b ∷ []) f = (omega arith, omega arith, k b (f .0, f .1))
+row-1 g k (b ∷ c ∷ q) f = absurd (f .2)
+
+row-2 : (g h : Bytes) → ((b c : ℕ) → within g b → within h c → isScalar (codePoint (b ∷ c ∷ [])) ≡ true) → (q : List ℕ) → Fills (g ∷ h ∷ []) q → Right q
+row-2 g h k (b ∷ []) f = absurd (f .2)
+row-2 g h k (b ∷ c ∷ []) f = (omega arith, omega arith, k b c (f .0, f .1) (f .2 .0, f .2 .1))
+row-2 g h k (b ∷ c ∷ d ∷ q) f = absurd (f .2 .2)
+
+row-3 : (g h : Bytes) → ((b c d : ℕ) → within g b → within h c → later d → isScalar (codePoint (b ∷ c ∷ d ∷ [])) ≡ true) →
+    (q : List ℕ) → Fills (g ∷ h ∷ 0x80 to 0xBF ∷ []) q → Right q
+row-3 g h k (b ∷ []) f = absurd (f .2)
+row-3 g h k (b ∷ c ∷ []) f = absurd (f .2 .2)
+row-3 g h k (b ∷ c ∷ d ∷ []) f = (omega arith, omega arith, k b c d (f .0, f .1) (f .2 .0, f .2 .1) (f .2 .2 .0, f .2 .2 .1))
+row-3 g h k (b ∷ c ∷ d ∷ e ∷ q) f = absurd (f .2 .2 .2)
+
+row-4 : (g h : Bytes) → ((b c d e : ℕ) → within g b → within h c → later d → later e → isScalar (codePoint (b ∷ c ∷ d ∷ e ∷ [])) ≡ true) →
+    (q : List ℕ) → Fills (g ∷ h ∷ 0x80 to 0xBF ∷ 0x80 to 0xBF ∷ []) q → Right q
+row-4 g h k (b ∷ []) f = absurd (f .2)
+row-4 g h k (b ∷ c ∷ []) f = absurd (f .2 .2)
+row-4 g h k (b ∷ c ∷ d ∷ []) f = absurd (f .2 .2 .2)
+row-4 g h k (b ∷ c ∷ d ∷ e ∷ []) f = (omega arith, omega arith, k b c d e (f .0, f .1) (f .2 .0, f .2 .1) (f .2 .2 .0, f .2 .2 .1) (f .2 .2 .2 .0, f .2 .2 .2 .1))
+row-4 g h k (b ∷ c ∷ d ∷ e ∷ x ∷ q) f = absurd (f .2 .2 .2 .2)
+
+-- one line for each row of the table
+right : (q : List ℕ) → FillsOne table q → Right q
+right q (inl f) = row-1 _ (λ b u. low _ (omega arith)) q f
+right q (inr (inl f)) = row-2 _ _ (λ b c u v. low _ (omega arith)) q f
+right q (inr (inr (inl f))) = row-3 _ _ (λ b c d u v w. low _ (omega arith)) q f
+right q (inr (inr (inr (inl f)))) = row-3 _ _ (λ b c d u v w. low _ (omega arith)) q f
+right q (inr (inr (inr (inr (inl f))))) = row-3 _ _ (λ b c d u v w. low _ (omega arith)) q f
+right q (inr (inr (inr (inr (inr (inl f)))))) = row-3 _ _ (λ b c d u v w. high _ (omega arith) (omega arith)) q f
+right q (inr (inr (inr (inr (inr (inr (inl f))))))) = row-4 _ _ (λ b c d e u v w x. high _ (omega arith) (omega arith)) q f
+right q (inr (inr (inr (inr (inr (inr (inr (inl f)))))))) = row-4 _ _ (λ b c d e u v w x. high _ (omega arith) (omega arith)) q f
+right q (inr (inr (inr (inr (inr (inr (inr (inr (inl f))))))))) = row-4 _ _ (λ b c d e u v w x. high _ (omega arith) (omega arith)) q f
+
+pub sequence-length : (q : List ℕ) → Sequence q → (0 < length q) × (length q ≤ 4)
+unfolding Sequence
+sequence-length q f = let r = right q f in (r .0, r .1)
+
+pub sequence-scalar : (q : List ℕ) → Sequence q → isScalar (codePoint q) ≡ true
+unfolding Sequence
+sequence-scalar q f = (right q f) .2

@@ -1,0 +1,86 @@
+-- Bytes and rows of Table 3-7: whether a byte is in a range, and whether a text begins with the bytes of a row, byte by byte.
+-- Assumes nothing.
+use Prim.Native.Nat.{ℕ, zero, suc, _+_, _≤_, _<_}
+use mathlib.Core.Path.{_≡_, refl, sym, ap, _∙_}
+use mathlib.Core.Bool.{Bool, true, false, not, _&&_, false≢true, true≢false}
+use mathlib.Core.List.{List, [], _∷_, _++_}
+use native.Mathlib.Omega.{arith}
+use native.Mathlib.Decide.{decLt}
+use lib.Dec.{leb, ltb}
+use lib.ListN.{length, take, drop, getD, length-drop, drop-of-length-le}
+use lib.Seq.{drop-cons}
+use borrow.Author.Tests.{leb-true, le-leb, lt-leb, lt-ltb, le-ltb, ltb-true, ltb-false}
+use Rattle.lists.proofs.BoolLaws.{and-left, and-right}
+use Rattle.utf8.specs.Table.{Bytes, _to_, Row, inside, fits, Fills}
+use Rattle.utf8.specs.Lead.{byteFits}
+
+pub inside-in : (g : Bytes) (b : ℕ) → g .low ≤ b → b ≤ g .high → inside g b ≡ true
+inside-in g b l h = rw (le-leb (g .low) b l, le-leb b (g .high) h)
+
+pub inside-out : (g : Bytes) (b : ℕ) → inside g b ≡ true → (g .low ≤ b) × (b ≤ g .high)
+inside-out g b e =
+    (leb-true (g .low) b (and-left (leb (g .low) b) (leb b (g .high)) e), leb-true b (g .high) (and-right (leb (g .low) b) (leb b (g .high)) e))
+
+pub inside-above : (g : Bytes) (b : ℕ) → g .low ≤ g .high → g .high < b → inside g b ≡ false
+inside-above g b l h = rw (le-leb (g .low) b (omega arith), lt-leb b (g .high) h)
+
+pub inside-below : (g : Bytes) (b : ℕ) → b < g .low → inside g b ≡ false
+inside-below g b h = rw (lt-leb (g .low) b h)
+
+pub ltb-not : (a b : ℕ) → ltb a b ≡ not (leb b a)
+ltb-not a b =
+    elim (decLt a b) [
+      | yes h ↦ lt-ltb a b h ∙ sym (ap not (lt-leb b a h))
+      | no h ↦ (let g : b ≤ a = omega arith in le-ltb a b g ∙ sym (ap not (le-leb b a g)))
+    ]
+
+-- byte i of a text, and the row from byte i on
+module _ (g : Bytes) (gs : Row) (s : List ℕ) (i : ℕ) where
+  pub byte-past : length s ≤ i → byteFits g s i ≡ false
+  unfolding byteFits
+  byte-past h = rw (le-ltb i (length s) h)
+
+  pub byte-here : i < length s → byteFits g s i ≡ inside g (getD s i 0)
+  unfolding byteFits
+  byte-here h = rw (lt-ltb i (length s) h)
+
+  pub byte-there : byteFits g s i ≡ true → i < length s
+  unfolding byteFits
+  byte-there e = ltb-true i (length s) (and-left (ltb i (length s)) (inside g (getD s i 0)) e)
+
+  fits-step : i < length s → fits (g ∷ gs) (drop i s) ≡ (inside g (getD s i 0) && fits gs (drop (suc i) s))
+  fits-step h = ap (fits (g ∷ gs)) (drop-cons s i 0 h)
+
+  pub fits-in : byteFits g s i ≡ true → fits (g ∷ gs) (drop i s) ≡ fits gs (drop (suc i) s)
+  fits-in e = let h = byte-there e in fits-step h ∙ rw (sym (byte-here h) ∙ e)
+
+  pub fits-out : byteFits g s i ≡ false → fits (g ∷ gs) (drop i s) ≡ false
+  unfolding byteFits
+  fits-out e = go (ltb i (length s)) refl
+    where
+      go : (t : Bool) → ltb i (length s) ≡ t → fits (g ∷ gs) (drop i s) ≡ false
+      go true f = let h = ltb-true i (length s) f in fits-step h ∙ rw (sym (byte-here h) ∙ e)
+      go false f = ap (fits (g ∷ gs)) (drop-of-length-le s (let z : length s ≤ i = omega (arith, ltb-false i (length s) f) in z))
+
+-- the first bytes of a text, one by one
+pub first-bytes : (s : List ℕ) (i n : ℕ) → i < length s → take (suc n) (drop i s) ≡ getD s i 0 ∷ take n (drop (suc i) s)
+first-bytes s i n h = ap (take (suc n)) (drop-cons s i 0 h)
+
+module _ (s : List ℕ) where
+  pub one-byte : 0 < length s → take 1 s ≡ getD s 0 0 ∷ []
+  one-byte h = first-bytes s 0 0 h
+
+  pub two-bytes : 1 < length s → take 2 s ≡ getD s 0 0 ∷ getD s 1 0 ∷ []
+  two-bytes h = first-bytes s 0 1 (omega arith) ∙ ap (λ (l : List ℕ). getD s 0 0 ∷ l) (first-bytes s 1 0 h)
+
+  pub three-bytes : 2 < length s → take 3 s ≡ getD s 0 0 ∷ getD s 1 0 ∷ getD s 2 0 ∷ []
+  three-bytes h =
+      first-bytes s 0 2 (omega arith)
+      ∙ ap (λ (l : List ℕ). getD s 0 0 ∷ l) (first-bytes s 1 1 (omega arith) ∙ ap (λ (l : List ℕ). getD s 1 0 ∷ l) (first-bytes s 2 0 h))
+
+  pub four-bytes : 3 < length s → take 4 s ≡ getD s 0 0 ∷ getD s 1 0 ∷ getD s 2 0 ∷ getD s 3 0 ∷ []
+  four-bytes h =
+      first-bytes s 0 3 (omega arith)
+      ∙ ap (λ (l : List ℕ). getD s 0 0 ∷ l)
+      (first-bytes s 1 2 (omega arith)
+      ∙ ap (λ (l : List ℕ). getD s 1 0 ∷ l) (first-bytes s 2 1 (omega arith) ∙ ap (λ (l : List ℕ). getD s 2 0 ∷ l) (first-bytes s 3 0 h)))
