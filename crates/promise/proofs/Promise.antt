@@ -5,16 +5,16 @@ use mathlib.Core.List.{List}
 use lib.ListN.{length}
 use Rattle.image.proofs.ImageLaws.{refused-none}
 use Rattle.pair.specs.declared.Pair.the-variants as pair
-use Rattle.pair.specs.Pair.{pairOf}
 use Rattle.pair.proofs.PairLaws.{pair-means, profiles-equal}
+use Rattle.promise.specs.Yes.{SaysYes}
 use Rattle.division.specs.Record.{roomOf}
 use Rattle.division.specs.Promise.{Later, Demand3}
 use Rattle.division.proofs.Demand3.{demand-3}
 
-module _ (older newer : List ℕ) (yes-said : pairOf older newer ≡ pair.Permitted) where
+module _ (older newer : List ℕ) (says-yes : SaysYes older newer) where
   pub later-of-pair : Later older newer
   later-of-pair =
-      let m = pair-means older newer pair.Permitted yes-said in
+      let m = pair-means older newer pair.Permitted says-yes in
       record {
         olderAccepted = refused-none older (m .0 .0);
         newerAccepted = refused-none newer (m .0 .1);
