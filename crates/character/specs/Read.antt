@@ -1,0 +1,35 @@
+-- The traits of characters without a search for each: a memo, a table for ASCII, and what reading a character gives.
+use Prim.Native.Nat.{ℕ, _≤_, _<_}
+use mathlib.Core.Path.{_≡_}
+use mathlib.Core.List.{List}
+use lib.ListN.{length, getD, drop}
+use Rattle.utf8.specs.declared.Step.the-variants.{Scalar, IllFormed}
+use Rattle.utf8.specs.Head.{stepOf}
+use Rattle.character.specs.Traits.{traitsOf}
+use Rattle.character.specs.declared.Memo.{Memo}
+use Rattle.character.specs.declared.Character.{Character}
+
+-- every code point of the memo has its traits under the image s
+abbrev pub MemoOf : List ℕ → Memo → Type 0
+MemoOf s m = (y : ℕ) → m .first ≤ y → y ≤ m .last → traitsOf s y ≡ m .traits
+
+-- .. and x is one of them
+pub record MemoAt (s : List ℕ) (x : ℕ) (m : Memo) : Type 0 where
+  pub from : m .first ≤ x
+  pub to : x ≤ m .last
+  pub all : MemoOf s m
+
+-- the first k places of the table hold the traits of the code points below k
+pub record Filled (s t : List ℕ) (k : ℕ) : Type 0 where
+  pub long : length t ≡ 128
+  pub each : (y : ℕ) → y < k → getD t y 0 ≡ traitsOf s y
+
+-- the table holds the traits of ASCII
+abbrev pub TableOf : List ℕ → List ℕ → Type 0
+TableOf s t = Filled s t 128
+
+-- the character of `text` at a place, under the image s: its length and traits; length 0 where the text is ill-formed
+pub record ReadAs (s text : List ℕ) (at : ℕ) (r : Character) : Type 0 where
+  pub memo : MemoOf s (r .memo)
+  pub none : r .len ≡ 0 → stepOf (drop at text) ≡ IllFormed
+  pub some : 0 < r .len → (x : ℕ) × (stepOf (drop at text) ≡ Scalar x (r .len)) × (r .traits ≡ traitsOf s x)

@@ -1,0 +1,12 @@
+pub mod ScanLaws
+pub mod DivisionLaws
+pub mod GrammarLaws
+pub mod Stability
+pub mod KindsStable
+pub mod RoleLaws
+pub mod CasesHold
+pub mod RecordLaws
+pub mod OutcomeLaws
+pub mod AnswerLaws
+pub mod Demand2
+pub mod Demand3

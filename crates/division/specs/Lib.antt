@@ -1,0 +1,14 @@
+pub mod All
+pub mod Scan
+pub mod Division
+pub mod Meaning
+pub mod Grammar
+pub mod Kinds
+pub mod Permitted
+pub mod Firm
+pub mod Outcome
+pub mod Record
+pub mod Reading
+pub mod Cases
+pub mod Divided
+pub mod Promise
