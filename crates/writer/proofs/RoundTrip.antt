@@ -2,31 +2,29 @@
 -- and profile. Over the definitions alone. Assumes nothing.
 use Prim.Native.Nat.{ℕ, zero, suc, _+_, _-_, _*_, _%_, _≤_, _<_}
 use mathlib.Core.Path.{_≡_, refl, sym, ap, subst, _∙_}
-use mathlib.Core.List.{List, [], _∷_, _++_, append-assoc, append-nil}
-use mathlib.Core.Bool.{Bool, true, false}
-use mathlib.Core.Option.{Option, none, some}
-use native.Mathlib.Nat.{add-assoc}
+use mathlib.Core.List.{List, [], _∷_, _++_, append-nil}
+use mathlib.Core.Bool.{true}
+use mathlib.Core.Option.{none}
 use native.Mathlib.Omega.{arith}
-use lib.ListN.{length, take, drop, getD, length-append, length-drop, take-append-drop, replicate, length-replicate, List·getD-append}
+use lib.ListN.{length, take, drop, getD, length-drop, take-append-drop, replicate, List·getD-append}
 use lib.Seq.{getD-drop, getD-append-add, take-at, take-all, drop-drop}
 use Rattle.lists.specs.Each.{each, eachFrom, single, column}
-use Rattle.lists.specs.Laid.{laid}
 use Rattle.lists.proofs.EachLaws.{drop-each, each-same, length-each, length-singles, column-at}
 use Rattle.image.specs.declared.Range.{Range}
 use Rattle.image.specs.declared.Profile.{Profile}
-use Rattle.image.specs.Limits.{maxRanges, maxEntries, maxImage}
+use Rattle.image.specs.Limits.{maxRanges, maxEntries}
 use Rattle.image.specs.Word.{wordAt}
 use Rattle.image.specs.Header.{versionOf, rangeCount, entryCount, entriesAt, imageEnd}
 use Rattle.image.specs.Ranges.{rangeAt, rangeIn, rangeWords, goodRange}
 use Rattle.image.specs.Profile.{pointAt, roleAt, pointIn, roleIn, goodEntry, profileOf}
 use Rattle.image.specs.Image.{headerWords, entryWords, imageWords, bytesOfAll, imageOf}
 use Rattle.image.specs.Check.{refusalOf}
-use Rattle.image.proofs.ImageLaws.{Headed, Accepted, accepted, refused-none}
+use Rattle.image.proofs.ImageLaws.{Headed, accepted, refused-none}
 use Rattle.writer.specs.declared.Written.the-variants as written
 use Rattle.writer.specs.Write.{rangesIn, writeOf, bytesAfter}
 use Rattle.writer.proofs.WordLaws.{Bytes, Words, word-is, wordsFrom, bytes-from, bytes-each, all-append}
-use Rattle.writer.proofs.PartLaws.{whole, words-back, image-words, length-entries, length-words, length-image}
-use Rattle.writer.proofs.WriteLaws.{Counted, Writable, says}
+use Rattle.writer.proofs.PartLaws.{whole, words-back, image-words, length-words, length-image}
+use Rattle.writer.proofs.WriteLaws.{Writable, says}
 
 -- profiles are the same if the used lengths and the entries before them are
 pub record SameEntries (p q : Profile) : Type 0 where
