@@ -1,6 +1,6 @@
 -- The ranges of a list of words are its words, and an image is its header, its ranges and its entries, one after the other.
 -- Assumes nothing.
-use Prim.Native.Nat.{ℕ, zero, suc, _+_, _-_, _*_, _/_, _%_, _≤_, _<_}
+use Prim.Native.Nat.{ℕ, zero, suc, _+_, _-_, _*_, _%_, _≤_}
 use mathlib.Core.Path.{_≡_, refl, sym, ap, _∙_}
 use mathlib.Core.List.{List, [], _∷_, _++_, append-assoc}
 use native.Mathlib.Nat.{add-zero}
@@ -10,7 +10,7 @@ use lib.Seq.{getD-drop, drop-drop}
 use Rattle.lists.specs.Each.{each, eachFrom}
 use Rattle.lists.proofs.EachLaws.{length-each}
 use Rattle.image.specs.declared.Profile.{Profile}
-use Rattle.image.specs.Header.{entriesAt, imageEnd}
+use Rattle.image.specs.Header.{imageEnd}
 use Rattle.image.specs.Ranges.{rangeIn, rangeWords}
 use Rattle.image.specs.Image.{headerWords, entryWords, imageWords, bytesOfAll, imageOf}
 use Rattle.writer.specs.Write.{rangesIn}

@@ -1,32 +1,34 @@
 -- Demand 2: an image that was written reads back as what was written, and an accepted image is the only one for its version, ranges
 -- and profile. Over the definitions alone. Assumes nothing.
-use Prim.Native.Nat.{ℕ, zero, suc, _+_, _-_, _*_, _%_, _≤_, _<_}
+use Prim.Native.Nat.{ℕ, zero, suc, _+_, _-_, _*_, _/_, _%_, _≤_, _<_}
 use mathlib.Core.Path.{_≡_, refl, sym, ap, subst, _∙_}
-use mathlib.Core.List.{List, [], _∷_, _++_, append-assoc, append-nil}
-use mathlib.Core.Bool.{Bool, true, false}
-use mathlib.Core.Option.{Option, none, some}
-use native.Mathlib.Nat.{add-assoc}
+use mathlib.Core.List.{List, [], _∷_, _++_, append-nil}
+use mathlib.Core.Bool.{true}
+use mathlib.Core.Option.{Option, none}
 use native.Mathlib.Omega.{arith}
-use lib.ListN.{length, take, drop, getD, length-append, length-drop, take-append-drop, replicate, length-replicate, List·getD-append}
+use lib.ListN.{length, take, drop, getD, length-drop, take-append-drop, replicate, List·getD-append}
 use lib.Seq.{getD-drop, getD-append-add, take-at, take-all, drop-drop}
 use Rattle.lists.specs.Each.{each, eachFrom, single, column}
 use Rattle.lists.specs.Laid.{laid}
 use Rattle.lists.proofs.EachLaws.{drop-each, each-same, length-each, length-singles, column-at}
+use borrow.Author.Tests.{le-ltb}
+use Rattle.refusal.specs.declared.Refusal.{Refusal}
 use Rattle.image.specs.declared.Range.{Range}
 use Rattle.image.specs.declared.Profile.{Profile}
-use Rattle.image.specs.Limits.{maxRanges, maxEntries, maxImage}
+use Rattle.image.specs.Limits.{maxRanges, maxEntries}
 use Rattle.image.specs.Word.{wordAt}
 use Rattle.image.specs.Header.{versionOf, rangeCount, entryCount, entriesAt, imageEnd}
 use Rattle.image.specs.Ranges.{rangeAt, rangeIn, rangeWords, goodRange}
 use Rattle.image.specs.Profile.{pointAt, roleAt, pointIn, roleIn, goodEntry, profileOf}
 use Rattle.image.specs.Image.{headerWords, entryWords, imageWords, bytesOfAll, imageOf}
-use Rattle.image.specs.Check.{refusalOf}
-use Rattle.image.proofs.ImageLaws.{Headed, Accepted, accepted, refused-none}
+use Rattle.image.specs.Check.{refusalOf, checkBy, readRefusal, readOf, wordsBy, wordsAfter}
+use Rattle.image.specs.declared.Answer.the-variants as answer
+use Rattle.image.proofs.ImageLaws.{Headed, accepted, refused-none}
 use Rattle.writer.specs.declared.Written.the-variants as written
-use Rattle.writer.specs.Write.{rangesIn, writeOf, bytesAfter}
+use Rattle.writer.specs.Write.{rangesIn, bytesNeeded, writtenBy, writeOf, bytesBy, bytesAfter}
 use Rattle.writer.proofs.WordLaws.{Bytes, Words, word-is, wordsFrom, bytes-from, bytes-each, all-append}
-use Rattle.writer.proofs.PartLaws.{whole, words-back, image-words, length-entries, length-words, length-image}
-use Rattle.writer.proofs.WriteLaws.{Counted, Writable, says}
+use Rattle.writer.proofs.PartLaws.{whole, words-back, image-words, length-words, length-image}
+use Rattle.writer.proofs.WriteLaws.{Writable, decides, says}
 
 -- profiles are the same if the used lengths and the entries before them are
 pub record SameEntries (p q : Profile) : Type 0 where
@@ -382,3 +384,30 @@ written-back version words p out len hv hw hp hr e =
     let z : take len (bytesAfter version words p out) ≡ s =
     ap (take len) (k .3) ∙ take-at s (drop (0 + length s) out) len l in
     subst (ReadBack version words p) (sym z) (read-back version words p (k .0) hv hw hp hr)
+
+-- reading such an image into a buffer with room for the words gives the version, the number of ranges, the profile and the words
+pub read-gives :
+    (version : ℕ) (words : List ℕ) (p : Profile) (s buffer : List ℕ) → ReadBack version words p s → length words ≤ length buffer
+    → (readOf s (length buffer) .answer ≡ answer.Accepted version (rangesIn words)) × SameEntries p (readOf s (length buffer) .profile) × (wordsAfter s buffer ≡ laid buffer 0 words)
+unfolding readOf wordsAfter
+read-gives version words p s buffer k l =
+    let c = k .same-count in
+    let room : rangeCount s ≤ length buffer / 3 = omega arith in
+    let r : readRefusal s (length buffer) (refusalOf s) ≡ none =
+    ap (readRefusal s (length buffer)) (k .is-accepted) ∙ simp (le-ltb (length buffer / 3) (rangeCount s) room) in (
+      ap (λ (o : Option Refusal). checkBy s o .answer) r ∙ (λ d. answer.Accepted (k .same-version d) (c d)),
+      subst (λ (o : Option Refusal). SameEntries p (checkBy s o .profile)) (sym r) (k .same-entries),
+      ap (wordsBy s buffer) r ∙ ap (laid buffer 0) (k .same-words),
+    )
+
+-- writing what was read from an accepted image gives its bytes again
+pub write-again :
+    (s : List ℕ) → Bytes s → refusalOf s ≡ none → (out : List ℕ) → length s ≤ length out
+    → (writeOf (wordsRead s) (profileOf s) (length out) ≡ written.Image (length s)) × (bytesAfter (versionOf s) (wordsRead s) (profileOf s) out ≡ laid out 0 s)
+unfolding writeOf bytesAfter profileOf
+write-again s b a out l =
+    let z : bytesNeeded (wordsRead s) (profileOf s) ≡ length s = omega (arith, count-read s b a, accepted s a .header .size) in
+    let r = decides (wordsRead s) (profileOf s) (length out) none (may-rewrite s b a, omega arith) in (
+      ap (writtenBy (wordsRead s) (profileOf s)) r ∙ ap written.Image z,
+      ap (bytesBy (versionOf s) (wordsRead s) (profileOf s) out) r ∙ ap (laid out 0) (rewritten s b a),
+    )

@@ -1,14 +1,14 @@
 -- The bytes of numbers: lengths, joining, and one number at a time. Assumes nothing.
 use Prim.Native.Nat.{ℕ, zero, suc, _+_, _-_, _*_, _/_, _%_, _≤_, _<_}
 use mathlib.Core.Path.{_≡_, refl, sym, ap, _∙_}
-use mathlib.Core.List.{List, [], _∷_, _++_, append-assoc, append-nil}
+use mathlib.Core.List.{List, [], _∷_, _++_, append-assoc}
 use native.Mathlib.Numerals.{add-one}
 use native.Mathlib.Nat.{add-zero, add-assoc, mul-zero, mul-suc, div-div-eq-div-mul, mod-add-div, mod-eq-of-lt}
 use native.Mathlib.Omega.{arith}
-use lib.ListN.{length, take, drop, getD, length-append, length-drop, drop-of-length-le, List·getD-append}
+use lib.ListN.{length, take, drop, getD, length-append, length-drop, drop-of-length-le}
 use lib.Seq.{drop-cons, drop-drop, take-add, getD-drop, getD-append-add}
 use Rattle.lists.specs.Each.{each, eachFrom}
-use Rattle.lists.proofs.EachLaws.{each-next, each-end, drop-each}
+use Rattle.lists.proofs.EachLaws.{each-next, each-end}
 use Rattle.image.specs.Word.{wordAt, bytesOf, joinOf}
 use Rattle.image.specs.Image.{bytesOfAll}
 

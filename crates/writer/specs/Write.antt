@@ -25,7 +25,7 @@ rangesIn words = length words / 3
 abbrev pub bytesNeeded : List ℕ → Profile → ℕ
 bytesNeeded words p = imageEnd (rangesIn words) (p .used)
 
--- a profile's record, of its two arrays and the used length, and the two words of its entry i
+-- the record of a profile's two arrays and its used length
 abbrev pub profileWith : List ℕ → List ℕ → ℕ → Profile
 profileWith points roles m = record { points = points; roles = roles; used = m }
 
@@ -33,6 +33,7 @@ profileWith points roles m = record { points = points; roles = roles; used = m }
 abbrev pub at : List ℕ → ℕ → ℕ
 at l i = getD l i 0
 
+-- the two words of entry i
 abbrev pub pairAt : List ℕ → List ℕ → ℕ → List ℕ
 pairAt points roles i = getD points i 0 ∷ getD roles i 0 ∷ []
 

@@ -1,5 +1,4 @@
 -- `writer::is_good_entry` meets its contract. Assumes nothing.
-use mathlib.Core.Path.{sym, _∙_}
 use borrow.Author.Tests.{eq-eqb, ne-eqb}
 use Rattle.writer.proofs.JudgeLaws.{entry-parts}
 use borrow.Author.Needs.{needs}
