@@ -25,7 +25,8 @@ use Rattle.image.specs.Profile.{pointAt, roleAt, profileOf, roleOf, afterRole, 
 use Rattle.image.specs.Check.{refusalOf, rangeClass, classOf, medialOf}
 use Rattle.image.proofs.ImageLaws.{Accepted, accepted, refused-none}
 use Rattle.lookup.proofs.ClassLaws.{class-known}
-use Rattle.pair.specs.Change.{Permitted, same, permitted}
+use Rattle.image.specs.Permitted.{Permitted, same}
+use Rattle.pair.specs.Change.{permitted}
 use Rattle.pair.specs.Pair.{
   forbiddenAt,
   codePoints,
@@ -231,28 +232,3 @@ module _ (older newer : List ℕ) where
       let p = column-same (pointAt older) (pointAt newer) (entryCount older) (s .point) in
       let r = column-same (roleAt older) (roleAt newer) (entryCount older) (s .role) in
       rw (p, r, s .count)
-
-  -- so each code point has one role
-  pub roles-equal : SameProfile older newer → (y : ℕ) → roleOf (profileOf older) y ≡ roleOf (profileOf newer) y
-  roles-equal s y = ap (λ p. roleOf p y) (profiles-equal s)
-
-  pub medials-equal : SameProfile older newer → (y : ℕ) → medialOf older y ≡ medialOf newer y
-  unfolding medialOf
-  medials-equal s y = ap (λ p. isMedial p y) (profiles-equal s)
-
-  -- and after equal profiles too the classes differ only by permitted changes
-  after-by : (p q t : Bool) (a b : ℕ) → Permitted (classNamed a) (classNamed b)
-      → Permitted (classNamed (pickN p 1 (pickN q 2 (pickN t 5 a)))) (classNamed (pickN p 1 (pickN q 2 (pickN t 5 b))))
-  after-by true q t a b c = same refl
-  after-by false true t a b c = same refl
-  after-by false false true a b c = same refl
-  after-by false false false a b c = c
-
-  after-permitted : (r a b : ℕ) → Permitted (classNamed a) (classNamed b) → Permitted (classNamed (afterRole r a)) (classNamed (afterRole r b))
-  unfolding afterRole
-  after-permitted r a b c = after-by (eqb r 1) (eqb r 2) (eqb r 4) a b c
-
-  pub classes-permitted : SameProfile older newer → OnlyPermitted older newer → (x : ℕ) → isScalar x ≡ true
-      → Permitted (classNamed (classOf older x)) (classNamed (classOf newer x))
-  unfolding classOf
-  classes-permitted s f x e = rw (roles-equal s x) (after-permitted (roleOf (profileOf newer) x) (rangeClass older x) (rangeClass newer x) (f x e))

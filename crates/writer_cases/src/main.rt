@@ -1,5 +1,6 @@
 // Writes image M of document 01, reads it back, and gives the writer what it refuses.
 ghost use Prim.Native.Nat.{_≤_};
+ghost use lib.ListN.{length};
 use image::Answer;
 use image::MAX_ENTRIES;
 use image::Profile;
@@ -52,6 +53,10 @@ fn wide(b: u8) -> u64 {
     b as u64
 }
 
+fn wide_word(w: u32) -> u64 {
+    w as u64
+}
+
 // The separator after the i-th of `columns` to a line.
 fn print_gap(i: usize, columns: usize)
     requires { ⌜ 1 ≤ columns ⌝ }
@@ -77,8 +82,7 @@ fn print_bytes(s: &[u8]) {
 fn print_words(w: &[u32]) {
     let mut i = 0;
     while i < w.len() {
-        let x = w[i];
-        io::print_hex(STDOUT_FILENO, x as u64, 4);
+        io::print_hex(STDOUT_FILENO, wide_word(w[i]), 4);
         print_gap(i, 3);
         i += 1;
     }
@@ -120,19 +124,25 @@ fn print_answer(a: Written) {
     }
 }
 
-// What the writer answers with a buffer of `room` bytes, and whether it changed the buffer.
-fn show(what: &[u8], words: &[u32], profile: Profile, room: usize)
-    requires { ⌜ room ≤ 104 ⌝ }
+// What the writer answers with the first `room` bytes of a buffer, and whether it changed the buffer.
+fn try_write(what: &[u8], words: &[u32], profile: Profile, out: &mut [u8], room: usize)
+    requires { ⌜ room ≤ length (now out) ⌝ }
 {
-    let mut out = [BEFORE; 104];
     let a = writer::write(VERSION, words, profile, &mut out[..room]);
     print_text(what);
     print_text(b": ");
     print_answer(a);
-    if is_unchanged(&out) {
+    if is_unchanged(out) {
         print_text(b", buffer unchanged");
     }
     print_text(b"\n");
+}
+
+fn show(what: &[u8], words: &[u32], profile: Profile, room: usize)
+    requires { ⌜ room ≤ 104 ⌝ }
+{
+    let mut out = [BEFORE; 104];
+    try_write(what, words, profile, &mut out, room);
 }
 
 // What is read from an image.
@@ -153,11 +163,19 @@ fn show_read(s: &[u8]) {
     print_text(b", entries ");
     print_number(p.used);
     print_text(b": ");
-    io::print_hex(STDOUT_FILENO, p.points[0] as u64, 4);
+    io::print_hex(STDOUT_FILENO, wide_word(p.points[0]), 4);
     print_text(b" role ");
-    print_number(p.roles[0] as usize);
+    io::print_decimal(STDOUT_FILENO, wide_word(p.roles[0]));
     print_text(b"\n");
     print_words(&words);
+}
+
+// What is read from the image in the first 100 bytes.
+fn show_front(s: &[u8]) {
+    if s.len() < 100 {
+        return;
+    }
+    show_read(&s[..100]);
 }
 
 // M, its bytes in a longer buffer, and what is read from it.
@@ -167,7 +185,7 @@ fn show_m() {
     print_answer(a);
     print_text(b"\n");
     print_bytes(&out);
-    show_read(&out[..100]);
+    show_front(&out);
 }
 
 // The words of M with another one at a place.

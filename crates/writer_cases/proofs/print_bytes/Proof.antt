@@ -1,52 +1,42 @@
+-- `writer_cases::print_bytes` stays within its slice and ends. Assumes nothing.
+use Prim.Native.Nat.{_≤_, _-_}
+use borrow.Author.Needs.{needs}
+use lib.ListN.{length}
 use Rattle.writer_cases.proofs.print_bytes.Statement.{statement}
 use Rattle.writer_cases.proofs.print_bytes.Tie as tie
-use Rattle.writer_cases.proofs.print_bytes.Reads as reads
-use Rattle.writer_cases.proofs.print_bytes.Lts as lts
-use Rattle.io.proofs.print_hex.Reads as print-hex-reads
-use Rattle.writer_cases.proofs.print_gap.Reads as print-gap-reads
-use Rattle.writer_cases.proofs.wide.Reads as wide-reads
 
 abbrev Inv-loop : tie.InvT-loop
-Inv-loop s i₀ i = ?
+Inv-loop s i₀ i = i ≤ length s
 
 abbrev μ-loop : tie.MeasureT-loop
-μ-loop s i₀ i = ?
+μ-loop s i₀ i = length s - i
 
--- src/main.rt:69:5
 loop-holds : tie.Need-loop-holds Inv-loop μ-loop
-loop-holds c = ?
+loop-holds c = search needs
 
--- src/main.rt:70:43
 shared-slice-read-wide : tie.Need-shared-slice-read-wide Inv-loop μ-loop
-shared-slice-read-wide c = ?
+shared-slice-read-wide c = search needs
 
--- src/main.rt:70:38
 wide-requires : tie.Need-wide-requires Inv-loop μ-loop
-wide-requires c κs = ?
+wide-requires c κs = search needs
 
--- src/main.rt:70:9
 print-hex-requires : tie.Need-print-hex-requires Inv-loop μ-loop
-print-hex-requires c κs = ?
+print-hex-requires c κs = search needs
 
--- src/main.rt:71:9
 print-gap-requires : tie.Need-print-gap-requires Inv-loop μ-loop
-print-gap-requires c κs = ?
+print-gap-requires c κs = search needs
 
--- src/main.rt:72:9
 add-i : tie.Need-add-i Inv-loop μ-loop
-add-i c = ?
+add-i c = search needs
 
--- src/main.rt:69:5
 loop-less : tie.Need-loop-less Inv-loop μ-loop
-loop-less c = ?
+loop-less c = search needs
 
--- src/main.rt:69:5
 loop-again : tie.Need-loop-again Inv-loop μ-loop
-loop-again c = ?
+loop-again c = search needs
 
--- src/main.rt:67:1
 returns : tie.Need-returns Inv-loop μ-loop
-returns c = ?
+returns c = search needs
 
 pub print-bytes-spec : {M : Type 1} → statement M
 print-bytes-spec =

@@ -1,55 +1,45 @@
+-- `writer_cases::print_words` stays within its slice and ends. Assumes nothing.
+use Prim.Native.Nat.{_≤_, _-_}
+use borrow.Author.Needs.{needs}
+use lib.ListN.{length}
 use Rattle.writer_cases.proofs.print_words.Statement.{statement}
 use Rattle.writer_cases.proofs.print_words.Tie as tie
-use Rattle.writer_cases.proofs.print_words.Reads as reads
-use Rattle.writer_cases.proofs.print_words.Lts as lts
-use Rattle.io.proofs.print_hex.Reads as print-hex-reads
-use Rattle.writer_cases.proofs.print_gap.Reads as print-gap-reads
 
 abbrev Inv-loop : tie.InvT-loop
-Inv-loop w i₀ i = ?
+Inv-loop w i₀ i = i ≤ length w
 
 abbrev μ-loop : tie.MeasureT-loop
-μ-loop w i₀ i = ?
+μ-loop w i₀ i = length w - i
 
--- src/main.rt:79:5
 loop-holds : tie.Need-loop-holds Inv-loop μ-loop
-loop-holds c = ?
+loop-holds c = search needs
 
--- src/main.rt:80:17
-mul-x : tie.Need-mul-x Inv-loop μ-loop
-mul-x c = ?
+mul-wide-word : tie.Need-mul-wide-word Inv-loop μ-loop
+mul-wide-word c = search needs
 
--- src/main.rt:80:17
-shared-slice-read-x : tie.Need-shared-slice-read-x Inv-loop μ-loop
-shared-slice-read-x c = ?
+shared-slice-read-wide-word : tie.Need-shared-slice-read-wide-word Inv-loop μ-loop
+shared-slice-read-wide-word c = search needs
 
--- src/main.rt:81:38
-cast-print-hex : tie.Need-cast-print-hex Inv-loop μ-loop
-cast-print-hex c = ?
+wide-word-requires : tie.Need-wide-word-requires Inv-loop μ-loop
+wide-word-requires c κs = search needs
 
--- src/main.rt:81:9
 print-hex-requires : tie.Need-print-hex-requires Inv-loop μ-loop
-print-hex-requires c κs = ?
+print-hex-requires c κs = search needs
 
--- src/main.rt:82:9
 print-gap-requires : tie.Need-print-gap-requires Inv-loop μ-loop
-print-gap-requires c κs = ?
+print-gap-requires c κs = search needs
 
--- src/main.rt:83:9
 add-i : tie.Need-add-i Inv-loop μ-loop
-add-i c = ?
+add-i c = search needs
 
--- src/main.rt:79:5
 loop-less : tie.Need-loop-less Inv-loop μ-loop
-loop-less c = ?
+loop-less c = search needs
 
--- src/main.rt:79:5
 loop-again : tie.Need-loop-again Inv-loop μ-loop
-loop-again c = ?
+loop-again c = search needs
 
--- src/main.rt:77:1
 returns : tie.Need-returns Inv-loop μ-loop
-returns c = ?
+returns c = search needs
 
 pub print-words-spec : {M : Type 1} → statement M
 print-words-spec =
@@ -58,9 +48,9 @@ print-words-spec =
     Inv-loop
     μ-loop
     loop-holds
-    mul-x
-    shared-slice-read-x
-    cast-print-hex
+    mul-wide-word
+    shared-slice-read-wide-word
+    wide-word-requires
     print-hex-requires
     print-gap-requires
     add-i
