@@ -11,13 +11,13 @@ use borrow.Author.Tests.{leb-true, eqb-true, ltb-true, ltb-false, le-leb, eq-eqb
 use Rattle.lists.specs.First.{firstWhere}
 use Rattle.lists.specs.Each.{each}
 use Rattle.lists.specs.Laid.{laid}
-use Rattle.lists.proofs.BoolLaws.{and-left, and-right, and-in}
-use Rattle.lists.proofs.FirstLaws.{first-le, first-passed, first-holds, first-is, first-none}
+use Rattle.lists.proofs.BoolLaws.{and-left, and-right}
+use Rattle.lists.proofs.FirstLaws.{first-passed, first-holds, first-is, first-none}
 use Rattle.refusal.specs.declared.Refusal.{Refusal}
 use Rattle.refusal.specs.declared.Refusal.the-variants as refusal
 use Rattle.utf8.specs.Scalar.{isScalar}
 use Rattle.image.specs.Word.{wordAt}
-use Rattle.image.specs.Limits.{maxRanges, maxEntries, headerBytes, rangeBytes, entryBytes, maxImage}
+use Rattle.image.specs.Limits.{maxRanges, maxEntries, headerBytes, entryBytes, maxImage}
 use Rattle.image.specs.Header.{
   formatOf,
   versionOf,
@@ -34,7 +34,7 @@ use Rattle.image.specs.Header.{
 }
 use Rattle.image.specs.Ranges.{rangeAt, rangeWords, goodRange, firstBadRange}
 use Rattle.image.specs.Profile.{pointAt, roleAt, goodEntry, firstBadEntry, profileOf, noProfile}
-use Rattle.image.specs.Check.{pickRefusal, refuseAt, refusalOf, checkBy, checkOf, readRefusal, readOf, wordsBy, wordsAfter}
+use Rattle.image.specs.Check.{pickRefusal, refuseAt, refusalOf, checkBy, checkOf, readRefusal, readOf, wordsAfter}
 use Rattle.image.specs.declared.Profile.{Profile}
 use Rattle.image.specs.declared.Answer.{Answer}
 use Rattle.image.specs.declared.Answer.the-variants as answer

@@ -1,6 +1,5 @@
 -- `image::judge` meets its contract. Assumes nothing.
-use mathlib.Core.Path.{_≡_, sym, ap, _∙_}
-use Rattle.image.specs.Check.{refusalOf}
+use mathlib.Core.Path.{sym, _∙_}
 use Rattle.image.proofs.ImageLaws.{long-enough, refuses, decides}
 use borrow.Author.Needs.{needs}
 use Rattle.image.proofs.judge.Statement.{statement}

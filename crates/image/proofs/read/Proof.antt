@@ -1,6 +1,6 @@
 -- `image::read` meets its contract. Assumes nothing.
 use Prim.Native.Nat.{ℕ, _/_, _≤_, _<_}
-use mathlib.Core.Path.{_≡_, refl, sym, ap, _∙_}
+use mathlib.Core.Path.{_≡_, sym, ap, _∙_}
 use mathlib.Core.List.{List}
 use mathlib.Core.Option.{Option, none, some}
 use native.Mathlib.Omega.{arith}
@@ -12,7 +12,7 @@ use Rattle.refusal.specs.declared.Refusal.{Refusal}
 use Rattle.refusal.specs.declared.Refusal.the-variants as refusal
 use Rattle.image.specs.Header.{rangeCount}
 use Rattle.image.specs.Ranges.{rangeAt, rangeWords}
-use Rattle.image.specs.Check.{refusalOf, acceptedOf, refusedBy, checkBy, readRefusal, readOf, wordsBy, wordsAfter}
+use Rattle.image.specs.Check.{refusalOf, checkBy, readRefusal, readOf, wordsBy, wordsAfter}
 use Rattle.image.proofs.ImageLaws.{accepted, refused-by, accepted-by}
 use borrow.Author.Needs.{needs}
 use Rattle.image.proofs.read.Statement.{statement}
