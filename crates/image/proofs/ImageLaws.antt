@@ -1,8 +1,8 @@
 -- What the answers of checking and reading an image say of its bytes, each refusal exactly when. Assumes nothing.
-use Prim.Native.Nat.{ℕ, _+_, _*_, _≤_, _<_, _/_}
+use Prim.Native.Nat.{ℕ, _+_, _-_, _*_, _/_, _≤_, _<_}
 use mathlib.Core.Path.{_≡_, refl, sym, ap, subst, _∙_}
 use mathlib.Core.List.{List, [], _∷_}
-use mathlib.Core.Bool.{Bool, true, false, not, _&&_}
+use mathlib.Core.Bool.{Bool, true, false, not, _&&_, _||_}
 use mathlib.Core.Option.{Option, none, some}
 use native.Mathlib.Omega.{arith}
 use lib.ListN.{length}
@@ -11,11 +11,13 @@ use borrow.Author.Tests.{leb-true, eqb-true, ltb-true, ltb-false, le-leb, eq-eqb
 use Rattle.lists.specs.First.{firstWhere}
 use Rattle.lists.specs.Each.{each}
 use Rattle.lists.specs.Laid.{laid}
-use Rattle.lists.proofs.BoolLaws.{and-left, and-right, and-in}
-use Rattle.lists.proofs.FirstLaws.{first-le, first-passed, first-holds, first-is, first-none}
+use Rattle.lists.proofs.BoolLaws.{and-left, and-right}
+use Rattle.lists.proofs.FirstLaws.{first-passed, first-holds, first-is, first-none}
 use Rattle.refusal.specs.declared.Refusal.{Refusal}
 use Rattle.refusal.specs.declared.Refusal.the-variants as refusal
-use Rattle.image.specs.Limits.{maxRanges, maxEntries, headerBytes, rangeBytes, entryBytes, maxImage}
+use Rattle.utf8.specs.Scalar.{isScalar}
+use Rattle.image.specs.Word.{wordAt}
+use Rattle.image.specs.Limits.{maxRanges, maxEntries, headerBytes, entryBytes, maxImage}
 use Rattle.image.specs.Header.{
   formatOf,
   versionOf,
@@ -32,7 +34,7 @@ use Rattle.image.specs.Header.{
 }
 use Rattle.image.specs.Ranges.{rangeAt, rangeWords, goodRange, firstBadRange}
 use Rattle.image.specs.Profile.{pointAt, roleAt, goodEntry, firstBadEntry, profileOf, noProfile}
-use Rattle.image.specs.Check.{pickRefusal, refuseAt, refusalOf, checkBy, checkOf, readRefusal, readOf, wordsBy, wordsAfter}
+use Rattle.image.specs.Check.{pickRefusal, refuseAt, refusalOf, checkBy, checkOf, readRefusal, readOf, wordsAfter}
 use Rattle.image.specs.declared.Profile.{Profile}
 use Rattle.image.specs.declared.Answer.{Answer}
 use Rattle.image.specs.declared.Answer.the-variants as answer
@@ -92,6 +94,10 @@ module _ (s : List ℕ) where
         size = sym (eqb-true _ _ t) ∙ eqb-true _ _ k;
       }
 
+  pub long-enough : lengthRight s ≡ true → headerBytes ≤ length s
+  unfolding lengthRight
+  long-enough l = leb-true _ _ (and-left (leb headerBytes (length s)) (leb (length s) maxImage && eqb (totalOf s) (length s)) l)
+
   pub length-right : Headed s → lengthRight s ≡ true
   unfolding lengthRight
   length-right h = simp (le-leb _ _ (h .long), le-leb _ _ (h .short), eq-eqb _ _ (h .total))
@@ -100,6 +106,28 @@ module _ (s : List ℕ) where
   unfolding headerRight
   header-right h =
       simp (eq-eqb _ _ (h .format), eq-eqb _ _ (h .zeros), le-leb _ _ (h .few-ranges), le-leb _ _ (h .few-entries), eq-eqb _ _ (h .ranges-begin), eq-eqb _ _ (h .entries-begin), eq-eqb _ _ (h .total ∙ h .size))
+
+-- the words of a profile entry, and its tests apart from the order
+module _ (s : List ℕ) (base i : ℕ) (e : base ≡ entriesAt (rangeCount s)) where
+  pub point-is : wordAt s (base + entryBytes * i) ≡ pointAt s i
+  unfolding pointAt
+  point-is = ap (λ (b : ℕ). wordAt s (b + entryBytes * i)) e
+
+  pub role-is : wordAt s (base + entryBytes * i + 4) ≡ roleAt s i
+  unfolding roleAt
+  role-is = ap (λ (b : ℕ). wordAt s (b + entryBytes * i + 4)) e
+
+and-last : (a b c d : Bool) → (a && (b && (c && d))) ≡ ((a && (b && c)) && d)
+and-last true true c d = refl
+and-last true false c d = refl
+and-last false b c d = refl
+
+pub entry-tests :
+    (point role : ℕ → ℕ) (i p r : ℕ) → p ≡ point i → r ≡ role i
+    → goodEntry point role i ≡ ((isScalar p && (leb 1 r && leb r 4)) && (eqb i 0 || ltb (point (i - 1)) p))
+unfolding goodEntry
+entry-tests point role i p r e f =
+    rw (e, f) (and-last (isScalar (point i)) (leb 1 (role i)) (leb (role i) 4) (eqb i 0 || ltb (point (i - 1)) (point i)))
 
 -- good at every index below n
 abbrev pub AllGood : (ℕ → Bool) → ℕ → Type 0
@@ -158,17 +186,17 @@ Because s (some (refusal.Buffer n)) = ⊥
 Because s (some refusal.Shape) = ⊥
 
 module _ (s : List ℕ) where
-  abbrev badRange : ℕ
+  abbrev pub badRange : ℕ
   badRange = firstBadRange (rangeAt s) (rangeCount s)
 
-  abbrev badEntry : ℕ
+  abbrev pub badEntry : ℕ
   badEntry = firstBadEntry (pointAt s) (roleAt s) (entryCount s)
 
   -- the refusals of the ranges and of the entries, and none
-  abbrev afterRanges : Option Refusal
+  abbrev pub afterRanges : Option Refusal
   afterRanges = refuseAt refusal.Entry badEntry (entryCount s) none
 
-  abbrev afterHeader : Option Refusal
+  abbrev pub afterHeader : Option Refusal
   afterHeader = refuseAt refusal.Range badRange (rangeCount s) afterRanges
 
   because-entries :
@@ -204,11 +232,11 @@ module _ (s : List ℕ) where
   pub accepted : refusalOf s ≡ none → Accepted s
   accepted e = why none e
 
-  past-header : Headed s → refusalOf s ≡ afterHeader
+  pub past-header : Headed s → refusalOf s ≡ afterHeader
   unfolding refusalOf
   past-header h = simp (length-right s h, header-right s h)
 
-  past-ranges : Headed s → AllGood (goodRange (rangeAt s)) (rangeCount s) → refusalOf s ≡ afterRanges
+  pub past-ranges : Headed s → AllGood (goodRange (rangeAt s)) (rangeCount s) → refusalOf s ≡ afterRanges
   unfolding firstBadRange
   past-ranges h g =
       let e = first-is-none (goodRange (rangeAt s)) (rangeCount s) g in
@@ -249,6 +277,26 @@ module _ (s : List ℕ) where
   -- for a caller that has the answer in hand
   pub says : (k : Checked) → k ≡ checkOf s → (a : Answer) → k .answer ≡ a → Says s a (k .profile)
   says k e a f = subst (λ (x : Answer). Says s x (k .profile)) f (subst (λ (x : Checked). Says s (x .answer) (x .profile)) (sym e) says-of)
+
+-- the answer with a refusal, and without one
+module _ (s : List ℕ) where
+  pub refuses : (r : Refusal) → refusalOf s ≡ some r → answer.Refused r ≡ checkOf s .answer
+  unfolding checkOf
+  refuses r e = ap (λ (o : Option Refusal). checkBy s o .answer) (sym e)
+
+  pub accepts : refusalOf s ≡ none → (v n : ℕ) → v ≡ versionOf s → n ≡ rangeCount s → answer.Accepted v n ≡ checkOf s .answer
+  unfolding checkOf
+  accepts e v n ev en = rw (ev, en) (ap (λ (o : Option Refusal). checkBy s o .answer) (sym e))
+
+  -- and back, from an answer in hand
+  pub refused-by : (a : Answer) → a ≡ checkOf s .answer → (r : Refusal) → a ≡ answer.Refused r → refusalOf s ≡ some r
+  refused-by a e r f = says s (checkOf s) refl (answer.Refused r) (sym e ∙ f) .0
+
+  pub accepted-by :
+      (a : Answer) → a ≡ checkOf s .answer → (v n : ℕ) → a ≡ answer.Accepted v n → (refusalOf s ≡ none) × (v ≡ versionOf s) × (n ≡ rangeCount s)
+  accepted-by a e v n f =
+      let (o, ev, en, ep) = says s (checkOf s) refl (answer.Accepted v n) (sym e ∙ f) in
+      (o, ev, en)
 
 -- what the answer of a read into a buffer says, and what the buffer then holds
 abbrev pub ReadSays : List ℕ → List ℕ → Answer → Profile → Type 0

@@ -1,1 +1,3 @@
 pub mod ImageLaws
+pub mod SearchLaws
+pub mod WriteLaws

@@ -1,35 +1,64 @@
 -- The answer of a lookup, case by case; its count is at most 13, and a class after the profile at most 5. Assumes nothing.
-use Prim.Native.Nat.{ℕ, _≤_}
-use mathlib.Core.Path.{_≡_, refl, sym, ap, _∙_}
+use Prim.Native.Nat.{ℕ, _+_, _*_, _≤_}
+use mathlib.Core.Path.{_≡_, refl, ap, _∙_}
 use mathlib.Core.Bool.{Bool, true, false}
 use mathlib.Core.List.{List}
 use mathlib.Core.Option.{Option, none, some}
 use native.Mathlib.Omega.{arith}
 use lib.Dec.{eqb}
+use lib.ListN.{length}
 use Rattle.lists.specs.First.{pickN}
 use Rattle.utf8.specs.Scalar.{isScalar}
 use Rattle.refusal.specs.declared.Refusal.{Refusal}
 use Rattle.refusal.specs.declared.Refusal.the-variants as refusal
+use Rattle.image.specs.Limits.{headerBytes, rangeBytes, maxEntries}
 use Rattle.image.specs.Header.{rangeCount}
-use Rattle.image.specs.Ranges.{rangeAt, classIn}
+use Rattle.image.specs.Ranges.{rangeAt}
 use Rattle.image.specs.Profile.{profileOf, roleOf, afterRole}
-use Rattle.image.specs.Check.{refusalOf, rangeClass, classOf}
+use Rattle.image.specs.Check.{refusalOf, checkOf, rangeClass, classOf}
 use Rattle.image.specs.declared.Profile.{Profile}
 use Rattle.image.specs.declared.Answer.the-variants as answer
-use Rattle.image.proofs.ImageLaws.{Says, Accepted, accepted}
+use Rattle.image.specs.declared.Checked.{Checked}
+use Rattle.image.proofs.ImageLaws.{Accepted, accepted, says}
 use Rattle.lookup.specs.declared.Probe.{Probe}
-use Rattle.lookup.specs.declared.Found.{Found}
 use Rattle.lookup.specs.declared.Found.the-variants as found
 use Rattle.lookup.specs.Halving.{seekOf}
-use Rattle.lookup.specs.Lookup.{pickFound, foundIn, lookupBy, lookupOf}
+use Rattle.lookup.specs.Stretch.{GoodRanges}
+use Rattle.lookup.specs.Lookup.{pickFound, lookupBy, lookupOf}
 use Rattle.lookup.proofs.HalvingLaws.{seek-thirteen}
 use Rattle.lookup.proofs.ClassLaws.{seek-class, class-known}
 
-module _ (s : List ℕ) (x : ℕ) where
-  pub refused-first : (r : Refusal) → refusalOf s ≡ some r → found.Refused r ≡ lookupOf s x
-  unfolding lookupOf
-  refused-first r e = simp e
+-- an image that a check accepted, with n ranges, and the profile that the check gave
+pub record Opened (s : List ℕ) (n : ℕ) (p : Profile) : Type 0 where
+  pub accepts : refusalOf s ≡ none
+  pub count : n ≡ rangeCount s
+  pub whole : p ≡ profileOf s
+  pub room : p .used ≤ maxEntries
+  pub bytes : headerBytes + rangeBytes * n ≤ length s
+  pub good : GoodRanges (rangeAt s) n
 
+pub opened : (s : List ℕ) (k : Checked) → k ≡ checkOf s → (v n : ℕ) → k .answer ≡ answer.Accepted v n → Opened s n (k .profile)
+unfolding profileOf
+opened s k e v n f =
+    let t = says s k e (answer.Accepted v n) f in
+    let a = accepted s (t .0) in
+    let h = a .header in
+    let c = t .2 in
+    let u = ap (λ (p : Profile). p .used) (t .3) in
+    record {
+      accepts = t .0;
+      count = c;
+      whole = t .3;
+      room = omega (arith, h .few-entries);
+      bytes = omega (arith, h .size);
+      good = λ i l. a .ranges i (omega arith);
+    }
+
+pub refused-check : (s : List ℕ) (x : ℕ) (k : Checked) → k ≡ checkOf s → (r : Refusal) → k .answer ≡ answer.Refused r → found.Refused r ≡ lookupOf s x
+unfolding lookupOf
+refused-check s x k e r f = simp (says s k e (answer.Refused r) f .0)
+
+module _ (s : List ℕ) (x : ℕ) where
   pub no-scalar : refusalOf s ≡ none → isScalar x ≡ false → found.Refused (refusal.NotScalar x) ≡ lookupOf s x
   unfolding lookupOf
   no-scalar e f = simp (e, f)
@@ -40,15 +69,15 @@ module _ (s : List ℕ) (x : ℕ) where
   class-found e = seek-class (rangeAt s) (rangeCount s) (accepted s e .ranges) x
 
   pub found-class :
-      (p : Profile) (q : Probe) (role c n : ℕ) → refusalOf s ≡ none → n ≡ rangeCount s → p ≡ profileOf s → isScalar x ≡ true
-      → role ≡ roleOf p x → q ≡ seekOf (rangeAt s) 0 n x → c ≡ afterRole role (q .class) → found.Class c (q .count) ≡ lookupOf s x
+      (n : ℕ) (p : Profile) (role : ℕ) (q : Probe) (c : ℕ) → Opened s n p → isScalar x ≡ true → role ≡ roleOf p x
+      → q ≡ seekOf (rangeAt s) 0 n x → c ≡ afterRole role (q .class) → found.Class c (q .count) ≡ lookupOf s x
   unfolding lookupOf classOf
-  found-class p q role c n e f g h i j k =
-      let t = ap (λ (m : ℕ). seekOf (rangeAt s) 0 m x) f in
-      let u = ap (λ (z : Probe). z .class) (j ∙ t) ∙ class-found e in
-      let v : c ≡ afterRole (roleOf (profileOf s) x) (rangeClass s x) =
-      k ∙ (λ d. afterRole ((i ∙ ap (λ (z : Profile). roleOf z x) g) d) (u d)) in
-      (λ d. found.Class (v d) ((ap (λ (z : Probe). z .count) (j ∙ t)) d)) ∙ simp (e, h)
+  found-class n p role q c o h i j k =
+      let t = j ∙ ap (λ (m : ℕ). seekOf (rangeAt s) 0 m x) (o .count) in
+      let u = ap (λ (z : Probe). z .class) t ∙ class-found (o .accepts) in
+      let w = i ∙ ap (λ (z : Profile). roleOf z x) (o .whole) in
+      let v = k ∙ (λ d. afterRole (w d) (u d)) in
+      (λ d. found.Class (v d) (t d .count)) ∙ simp (o .accepts, h)
 
   thirteen-in : (c k : ℕ) → refusalOf s ≡ none → (b : Bool) → pickFound b (found.Class (classOf s x) (seekOf (rangeAt s) 0 (rangeCount s) x .count)) (found.Refused (refusal.NotScalar x)) ≡ found.Class c k → k ≤ 13
   thirteen-in c k e true f =

@@ -6,9 +6,10 @@ ghost use Rattle.image.specs.Limits.{headerBytes, rangeBytes, maxEntries};
 ghost use Rattle.image.specs.Ranges.{rangeAt};
 ghost use Rattle.image.specs.Profile.{roleOf, afterRole};
 ghost use Rattle.lookup.specs.Halving.{seekOf};
-ghost use Rattle.lookup.specs.Lookup.{profileBy};
+ghost use Rattle.lookup.specs.Lookup.{profileBy, lookupOf};
 ghost use Rattle.lookup.specs.Stretch.{GoodRanges, Passed, Placed, StretchOf};
 ghost use Rattle.lookup.specs.Reach.{CutBy, CutOf, ReachOf};
+use image::Answer;
 use image::MAX_ENTRIES;
 use refusal::Refusal;
 
@@ -48,15 +49,15 @@ pub fn seek(image: &[u8], lo: usize, hi: usize, x: u32) -> Probe
         return Probe { class: 0, count: 0 };
     }
     let mid = (lo + hi) / 2;
-    let r = image::range_at(image, mid);
-    if x < r.first {
+    let range = image::range_at(image, mid);
+    if x < range.first {
         let p = seek(image, lo, mid, x);
         return Probe {
             class: p.class,
             count: p.count + 1,
         };
     }
-    if r.last < x {
+    if range.last < x {
         let p = seek(image, mid + 1, hi, x);
         return Probe {
             class: p.class,
@@ -64,7 +65,7 @@ pub fn seek(image: &[u8], lo: usize, hi: usize, x: u32) -> Probe
         };
     }
     Probe {
-        class: r.class,
+        class: range.class,
         count: 1,
     }
 }
@@ -106,6 +107,31 @@ pub fn after_role(role: u32, class: u32) -> u32
         2 => 2,
         4 => 5,
         _ => class,
+    }
+}
+
+// The class of x after the profile of an image, and how many ranges the search looked at.
+pub fn lookup(image: &[u8], x: u32) -> Found
+    ensures { λ r. ⌜ r ≡ lookupOf (now (image .entry)) x ⌝ }
+{
+    let checked = image::check(image);
+    let answer = checked.answer;
+    match answer {
+        Answer::Refused(r) => Found::Refused(r),
+        Answer::Accepted { version: _, ranges } => {
+            if utf8::is_scalar(x) {
+                let profile = checked.profile;
+                let points = profile.points;
+                let roles = profile.roles;
+                let role = role_of(&points, &roles, profile.used, x);
+                let probe = find(image, ranges, x);
+                return Found::Class {
+                    class: after_role(role, probe.class),
+                    count: probe.count,
+                };
+            }
+            Found::Refused(Refusal::NotScalar(x as usize))
+        }
     }
 }
 

@@ -1,0 +1,51 @@
+-- `image::first_bad_entry` meets its contract. Assumes nothing.
+use Prim.Native.Nat.{_-_}
+use mathlib.Core.Path.{sym, _∙_}
+use native.Mathlib.Omega.{arith}
+use Rattle.image.specs.Profile.{pointAt, roleAt, goodEntry, firstBadEntry}
+use Rattle.image.proofs.SearchLaws.{Searching, search-begins, good-next, bad-here, none-bad}
+use Rattle.image.proofs.first_bad_entry.Statement.{statement}
+use Rattle.image.proofs.first_bad_entry.Tie as tie
+
+abbrev Inv-loop : tie.InvT-loop
+Inv-loop image base m i₀ i = Searching (goodEntry (pointAt image) (roleAt image)) m i
+
+abbrev μ-loop : tie.MeasureT-loop
+μ-loop image base m i₀ i = m - i
+
+loop-holds : tie.Need-loop-holds Inv-loop μ-loop
+loop-holds c = search-begins (goodEntry (pointAt (c .before .args .image .now)) (roleAt (c .before .args .image .now))) _
+
+is-good-entry-requires : tie.Need-is-good-entry-requires Inv-loop μ-loop
+is-good-entry-requires c κs = (c .before .before .before .pre .0, omega arith)
+
+add-i : tie.Need-add-i Inv-loop μ-loop
+add-i c = omega arith
+
+loop-less : tie.Need-loop-less Inv-loop μ-loop
+loop-less c = omega arith
+
+loop-again : tie.Need-loop-again Inv-loop μ-loop
+loop-again c = good-next (goodEntry (pointAt (c .before .before .before .before .before .args .image .now)) (roleAt (c .before .before .before .before .before .args .image .now))) _ _ (c .before .before .before .loop .inv) (c .before .before .loop-test .taken) (sym (c .before .is-good-entry .ensures) ∙ c .if1 .taken)
+
+returns : tie.Need-returns Inv-loop μ-loop
+unfolding firstBadEntry
+returns c = bad-here (goodEntry (pointAt (c .before .before .before .before .before .args .image .now)) (roleAt (c .before .before .before .before .before .args .image .now))) _ _ (c .before .before .before .loop .inv) (c .before .before .loop-test .taken) (sym (c .before .is-good-entry .ensures) ∙ c .if1 .left)
+
+returns-2 : tie.Need-returns-2 Inv-loop μ-loop
+unfolding firstBadEntry
+returns-2 c = none-bad (goodEntry (pointAt (c .before .before .before .args .image .now)) (roleAt (c .before .before .before .args .image .now))) _ _ (c .before .loop .inv) (c .loop-test .left)
+
+pub first-bad-entry-spec : {M : Type 1} → statement M
+first-bad-entry-spec =
+    tie.close
+    (tie.spec
+    Inv-loop
+    μ-loop
+    loop-holds
+    is-good-entry-requires
+    add-i
+    loop-less
+    loop-again
+    returns
+    returns-2)

@@ -1,0 +1,51 @@
+-- `image::first_bad_range` meets its contract. Assumes nothing.
+use Prim.Native.Nat.{_-_}
+use mathlib.Core.Path.{sym, _∙_}
+use native.Mathlib.Omega.{arith}
+use Rattle.image.specs.Ranges.{rangeAt, goodRange, firstBadRange}
+use Rattle.image.proofs.SearchLaws.{Searching, search-begins, good-next, bad-here, none-bad}
+use Rattle.image.proofs.first_bad_range.Statement.{statement}
+use Rattle.image.proofs.first_bad_range.Tie as tie
+
+abbrev Inv-loop : tie.InvT-loop
+Inv-loop image n i₀ i = Searching (goodRange (rangeAt image)) n i
+
+abbrev μ-loop : tie.MeasureT-loop
+μ-loop image n i₀ i = n - i
+
+loop-holds : tie.Need-loop-holds Inv-loop μ-loop
+loop-holds c = search-begins (goodRange (rangeAt (c .before .args .image .now))) _
+
+is-good-range-requires : tie.Need-is-good-range-requires Inv-loop μ-loop
+is-good-range-requires c κs = omega arith
+
+add-i : tie.Need-add-i Inv-loop μ-loop
+add-i c = omega arith
+
+loop-less : tie.Need-loop-less Inv-loop μ-loop
+loop-less c = omega arith
+
+loop-again : tie.Need-loop-again Inv-loop μ-loop
+loop-again c = good-next (goodRange (rangeAt (c .before .before .before .before .before .args .image .now))) _ _ (c .before .before .before .loop .inv) (c .before .before .loop-test .taken) (sym (c .before .is-good-range .ensures) ∙ c .if1 .taken)
+
+returns : tie.Need-returns Inv-loop μ-loop
+unfolding firstBadRange
+returns c = bad-here (goodRange (rangeAt (c .before .before .before .before .before .args .image .now))) _ _ (c .before .before .before .loop .inv) (c .before .before .loop-test .taken) (sym (c .before .is-good-range .ensures) ∙ c .if1 .left)
+
+returns-2 : tie.Need-returns-2 Inv-loop μ-loop
+unfolding firstBadRange
+returns-2 c = none-bad (goodRange (rangeAt (c .before .before .before .args .image .now))) _ _ (c .before .loop .inv) (c .loop-test .left)
+
+pub first-bad-range-spec : {M : Type 1} → statement M
+first-bad-range-spec =
+    tie.close
+    (tie.spec
+    Inv-loop
+    μ-loop
+    loop-holds
+    is-good-range-requires
+    add-i
+    loop-less
+    loop-again
+    returns
+    returns-2)

@@ -1,0 +1,64 @@
+-- `image::is_header_right` meets its contract. Assumes nothing.
+use borrow.Author.Tests.{le-leb, lt-leb, eq-eqb, ne-eqb}
+use Rattle.image.specs.Header.{headerRight}
+use borrow.Author.Needs.{needs}
+use Rattle.image.proofs.is_header_right.Statement.{statement}
+use Rattle.image.proofs.is_header_right.Tie as tie
+
+word-requires : tie.Need-word-requires
+word-requires c κs = search needs
+
+returns : tie.Need-returns
+unfolding headerRight
+returns c = simp (← c .before .word .ensures, ne-eqb _ _ (c .if1 .taken))
+
+word-requires-2 : tie.Need-word-requires-2
+word-requires-2 c κs = search needs
+
+returns-2 : tie.Need-returns-2
+unfolding headerRight
+returns-2 c = simp (← c .before .before .before .word .ensures, ← c .before .word2 .ensures, eq-eqb _ _ (c .before .before .if1 .left), ne-eqb _ _ (c .if2 .taken))
+
+word-requires-3 : tie.Need-word-requires-3
+word-requires-3 c κs = search needs
+
+cast-n : tie.Need-cast-n
+cast-n c = search needs
+
+returns-3 : tie.Need-returns-3
+unfolding headerRight
+returns-3 c = simp (← c .before .before .before .before .before .word .ensures, ← c .before .before .before .word2 .ensures, ← c .before .word3 .ensures, eq-eqb _ _ (c .before .before .before .before .if1 .left), eq-eqb _ _ (c .before .before .if2 .left), lt-leb _ _ (c .if3 .taken))
+
+word-requires-4 : tie.Need-word-requires-4
+word-requires-4 c κs = search needs
+
+cast-m : tie.Need-cast-m
+cast-m c = search needs
+
+returns-4 : tie.Need-returns-4
+unfolding headerRight
+returns-4 c = simp (← c .before .before .before .before .before .before .before .word .ensures, ← c .before .before .before .before .before .word2 .ensures, ← c .before .before .before .word3 .ensures, ← c .before .word4 .ensures, eq-eqb _ _ (c .before .before .before .before .before .before .if1 .left), eq-eqb _ _ (c .before .before .before .before .if2 .left), le-leb _ _ (c .before .before .if3 .left), lt-leb _ _ (c .if4 .taken))
+
+are-offsets-right-requires : tie.Need-are-offsets-right-requires
+are-offsets-right-requires c κs = search needs
+
+returns-5 : tie.Need-returns-5
+unfolding headerRight
+returns-5 c = simp (c .are-offsets-right .ensures, ← c .before .before .before .before .before .before .before .before .word .ensures, ← c .before .before .before .before .before .before .word2 .ensures, ← c .before .before .before .before .word3 .ensures, ← c .before .before .word4 .ensures, eq-eqb _ _ (c .before .before .before .before .before .before .before .if1 .left), eq-eqb _ _ (c .before .before .before .before .before .if2 .left), le-leb _ _ (c .before .before .before .if3 .left), le-leb _ _ (c .before .if4 .left))
+
+pub is-header-right-spec : {M : Type 1} → statement M
+is-header-right-spec =
+    tie.close
+    (tie.spec
+    word-requires
+    returns
+    word-requires-2
+    returns-2
+    word-requires-3
+    cast-n
+    returns-3
+    word-requires-4
+    cast-m
+    returns-4
+    are-offsets-right-requires
+    returns-5)

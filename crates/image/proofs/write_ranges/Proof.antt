@@ -1,0 +1,87 @@
+-- `image::write_ranges` meets its contract. The loop: the first i ranges stand in the buffer. Assumes nothing.
+use Prim.Native.Nat.{ℕ, _-_, _*_}
+use mathlib.Core.Path.{refl, ap, _∙_}
+use mathlib.Core.List.{List}
+use native.Mathlib.Omega.{arith}
+use lib.ListN.{length-take, length-drop}
+use Rattle.lists.specs.Laid.{laid}
+use Rattle.lists.proofs.LaidLaws.{lent}
+use Rattle.image.specs.Ranges.{rangeAt, rangeWords}
+use Rattle.image.specs.declared.Range.{Range}
+use Rattle.image.proofs.WriteLaws.{Writing, writing-begins, writing-next, writing-ends}
+use Rattle.image.proofs.write_ranges.Statement.{statement}
+use Rattle.image.proofs.write_ranges.Tie as tie
+
+abbrev wordsOf : List ℕ → ℕ → List ℕ
+wordsOf s i = rangeWords (rangeAt s i)
+
+abbrev Inv-loop : tie.InvT-loop
+Inv-loop image n out₀ i₀ out i = Writing (wordsOf image) 3 n out₀ out i
+
+abbrev μ-loop : tie.MeasureT-loop
+μ-loop image n out₀ i₀ out i = n - i
+
+loop-holds : tie.Need-loop-holds Inv-loop μ-loop
+loop-holds c = writing-begins (wordsOf _) 3 _ _
+
+range-at-requires : tie.Need-range-at-requires Inv-loop μ-loop
+range-at-requires c κs = omega arith
+
+mul-at : tie.Need-mul-at Inv-loop μ-loop
+mul-at c = omega arith
+
+mul-put-range : tie.Need-mul-put-range Inv-loop μ-loop
+mul-put-range c = omega arith
+
+sub-put-range : tie.Need-sub-put-range Inv-loop μ-loop
+sub-put-range c = omega arith
+
+part-put-range-start : tie.Need-part-put-range-start Inv-loop μ-loop
+part-put-range-start c = omega arith
+
+part-put-range-end : tie.Need-part-put-range-end Inv-loop μ-loop
+part-put-range-end c = omega arith
+
+put-range-requires : tie.Need-put-range-requires Inv-loop μ-loop
+put-range-requires c κs = simp (length-take, length-drop) (omega arith)
+
+add-i : tie.Need-add-i Inv-loop μ-loop
+add-i c = omega arith
+
+loop-less : tie.Need-loop-less Inv-loop μ-loop
+loop-less c = omega arith
+
+loop-again : tie.Need-loop-again Inv-loop μ-loop
+loop-again c = let a = c .before .before .before .before .before .before .before .before .before .args in
+    let l = c .before .before .before .before .before .before .loop in
+    let s = a .image .now in
+    let r = c .before .before .before .before .range-at in
+    writing-next (wordsOf s) 3 _ _ (l .out) (l .i) (l .inv) refl (omega arith) (omega arith) _
+    (lent (l .out) (rangeWords (r .result)) (3 * l .i) (omega arith) _ (c .before .before .put-range .ensures)
+    ∙ ap (λ (x : Range). laid (l .out) (3 * l .i) (rangeWords x)) (r .ensures))
+
+same-length : tie.Need-same-length Inv-loop μ-loop
+same-length c = c .before .loop .inv .size
+
+returns : tie.Need-returns Inv-loop μ-loop
+returns c = writing-ends (wordsOf _) 3 _ _ _ _ (c .before .loop .inv) (c .loop-test .left)
+
+pub write-ranges-spec : {M : Type 1} → statement M
+write-ranges-spec =
+    tie.close
+    (tie.spec
+    Inv-loop
+    μ-loop
+    loop-holds
+    range-at-requires
+    mul-at
+    mul-put-range
+    sub-put-range
+    part-put-range-start
+    part-put-range-end
+    put-range-requires
+    add-i
+    loop-less
+    loop-again
+    same-length
+    returns)
