@@ -1,0 +1,62 @@
+-- `writer::first_bad_range` meets its contract. The loop's invariant: the first bad range from i on is the first bad one. Assumes nothing.
+use Prim.Native.Nat.{ℕ, _≤_, _-_}
+use mathlib.Core.Path.{_≡_, sym, ap, _∙_}
+use mathlib.Core.Bool.{not}
+use native.Mathlib.Omega.{arith}
+use Rattle.lists.specs.First.{firstFrom}
+use Rattle.lists.proofs.FirstLaws.{first-here, first-next, first-end, first-begins}
+use Rattle.image.specs.Ranges.{rangeIn, goodRange, firstBadRange}
+use Rattle.writer.proofs.first_bad_range.Statement.{statement}
+use Rattle.writer.proofs.first_bad_range.Tie as tie
+
+abbrev Inv-loop : tie.InvT-loop
+Inv-loop words n i₀ i = (i ≤ n) × (firstFrom (λ (j : ℕ). not (goodRange (rangeIn words) j)) (n - i) i ≡ firstBadRange (rangeIn words) n)
+
+abbrev μ-loop : tie.MeasureT-loop
+μ-loop words n i₀ i = n - i
+
+loop-holds : tie.Need-loop-holds Inv-loop μ-loop
+unfolding firstBadRange
+loop-holds c =
+    let s = c .before .args in
+    (omega arith, first-begins (λ (i : ℕ). not (goodRange (rangeIn (s .words .now)) i)) (s .n))
+
+is-good-range-requires : tie.Need-is-good-range-requires Inv-loop μ-loop
+is-good-range-requires c κs = omega arith
+
+add-i : tie.Need-add-i Inv-loop μ-loop
+add-i c = omega arith
+
+loop-less : tie.Need-loop-less Inv-loop μ-loop
+loop-less c = omega arith
+
+loop-again : tie.Need-loop-again Inv-loop μ-loop
+loop-again c =
+    let s = c .before .before .before .before .before .args in
+    let l = c .before .before .before .loop in
+    (omega arith, sym (first-next (λ (i : ℕ). not (goodRange (rangeIn (s .words .now)) i)) (s .n) (l .i) (ap not (sym (c .before .is-good-range .ensures) ∙ c .if1 .taken)) (c .before .before .loop-test .taken)) ∙ l .inv .1)
+
+returns : tie.Need-returns Inv-loop μ-loop
+returns c =
+    let s = c .before .before .before .before .before .args in
+    let l = c .before .before .before .loop in
+    sym (first-here (λ (i : ℕ). not (goodRange (rangeIn (s .words .now)) i)) (s .n) (l .i) (ap not (sym (c .before .is-good-range .ensures) ∙ c .if1 .left)) (c .before .before .loop-test .taken)) ∙ l .inv .1
+
+returns-2 : tie.Need-returns-2 Inv-loop μ-loop
+returns-2 c =
+    let s = c .before .before .before .args in
+    sym (first-end (λ (i : ℕ). not (goodRange (rangeIn (s .words .now)) i)) (s .n) (c .before .loop .i) (omega arith)) ∙ c .before .loop .inv .1
+
+pub first-bad-range-spec : {M : Type 1} → statement M
+first-bad-range-spec =
+    tie.close
+    (tie.spec
+    Inv-loop
+    μ-loop
+    loop-holds
+    is-good-range-requires
+    add-i
+    loop-less
+    loop-again
+    returns
+    returns-2)

@@ -1,0 +1,50 @@
+-- `writer::write` meets its contract. Assumes nothing.
+use mathlib.Core.Path.{sym, _∙_}
+use native.Mathlib.Omega.{arith}
+use Rattle.writer.proofs.WriteLaws.{says}
+use borrow.Author.Needs.{needs}
+use Rattle.writer.proofs.write.Statement.{statement}
+use Rattle.writer.proofs.write.Tie as tie
+
+judge-requires : tie.Need-judge-requires
+judge-requires c κs = search needs
+
+enum-known-answer : tie.Need-enum-known-answer
+enum-known-answer c = search needs
+
+enum-known-answer-2 : tie.Need-enum-known-answer-2
+enum-known-answer-2 c = search needs
+
+put-image-requires : tie.Need-put-image-requires
+put-image-requires c κs =
+    let a = c .before .before .before .before .before .before .before .before .before .before .before .before .before .args in
+    let k = says (a .version) (a .words .now) (a .t3) (a .out .now) _ _ (c .before .before .before .before .before .before .before .judge .ensures) (c .before .before .before .before .before .answer2 .given .1) in
+    let n = k .1 .0 .counted in
+    (n .thirds, n .few-ranges, n .few-entries, omega arith)
+
+returns : tie.Need-returns
+returns c =
+    let a = c .before .before .before .before .before .before .before .before .before .args in
+    let k = says (a .version) (a .words .now) (a .t3) (a .out .now) _ _ (c .before .before .before .judge .ensures) (c .before .answer .given .1) in
+    (k .0, sym (k .1 .1))
+
+same-length : tie.Need-same-length
+same-length c = search needs
+
+returns-2 : tie.Need-returns-2
+returns-2 c =
+    let a = c .before .before .before .before .before .before .before .before .before .before .before .before .before .before .before .before .args in
+    let k = says (a .version) (a .words .now) (a .t3) (a .out .now) _ _ (c .before .before .before .before .before .before .before .before .before .before .judge .ensures) (c .before .before .before .before .before .before .before .before .answer2 .given .1) in
+    (k .0, c .before .before .put-image .ensures ∙ sym (k .1 .3))
+
+pub write-spec : {M : Type 1} → statement M
+write-spec =
+    tie.close
+    (tie.spec
+    judge-requires
+    enum-known-answer
+    enum-known-answer-2
+    put-image-requires
+    returns
+    same-length
+    returns-2)

@@ -1,0 +1,67 @@
+-- What writing an image gives (document 01, "Named refusals": the writer checks 13, then 2 for counts, 3, 4, 12).
+use Prim.Native.Nat.{ℕ, _/_, _%_}
+use mathlib.Core.List.{List, [], _∷_}
+use mathlib.Core.Option.{Option, none, some}
+use lib.ListN.{length, getD}
+use lib.Dec.{leb, eqb}
+use Rattle.lists.specs.Laid.{laid}
+use Rattle.refusal.specs.declared.Refusal.{Refusal}
+use Rattle.refusal.specs.declared.Refusal.the-variants as refusal
+use Rattle.image.specs.declared.Profile.{Profile}
+use Rattle.image.specs.Limits.{maxRanges, maxEntries}
+use Rattle.image.specs.Header.{imageEnd}
+use Rattle.image.specs.Ranges.{rangeIn, firstBadRange}
+use Rattle.image.specs.Profile.{pointIn, roleIn, firstBadEntry}
+use Rattle.image.specs.Image.{imageOf}
+use Rattle.image.specs.Check.{pickRefusal, refuseAt}
+use Rattle.writer.specs.declared.Written.{Written}
+use Rattle.writer.specs.declared.Written.the-variants as written
+
+-- a range is three words
+abbrev pub rangesIn : List ℕ → ℕ
+rangesIn words = length words / 3
+
+-- the bytes of the image with these ranges and this profile
+abbrev pub bytesNeeded : List ℕ → Profile → ℕ
+bytesNeeded words p = imageEnd (rangesIn words) (p .used)
+
+-- a profile's record, of its two arrays and the used length, and the two words of its entry i
+abbrev pub profileWith : List ℕ → List ℕ → ℕ → Profile
+profileWith points roles m = record { points = points; roles = roles; used = m }
+
+-- the value at each index of an array
+abbrev pub at : List ℕ → ℕ → ℕ
+at l i = getD l i 0
+
+abbrev pub pairAt : List ℕ → List ℕ → ℕ → List ℕ
+pairAt points roles i = getD points i 0 ∷ getD roles i 0 ∷ []
+
+-- 13: the words are no multiple of 3. 2: a count is above its limit. 3 and 4: a range or an entry is bad.
+-- 12: the buffer of `room` bytes is too short. Entries past the used length are not looked at.
+unfoldable pub writeRefusal : List ℕ → Profile → ℕ → Option Refusal
+writeRefusal words p room =
+    pickRefusal (eqb (length words % 3) 0)
+    (pickRefusal (leb (rangesIn words) maxRanges)
+    (pickRefusal (leb (p .used) maxEntries)
+    (refuseAt refusal.Range (firstBadRange (rangeIn words) (rangesIn words)) (rangesIn words)
+    (refuseAt refusal.Entry (firstBadEntry (pointIn p) (roleIn p) (p .used)) (p .used)
+    (pickRefusal (leb (bytesNeeded words p) room) none (some (refusal.Buffer (bytesNeeded words p))))))
+    (some refusal.Header))
+    (some refusal.Header))
+    (some refusal.Shape)
+
+abbrev pub writtenBy : List ℕ → Profile → Option Refusal → Written
+writtenBy words p none = written.Image (bytesNeeded words p)
+writtenBy words p (some r) = written.Refused r
+
+-- the answer of the writer: a refusal, or the length of the image
+unfoldable pub writeOf : List ℕ → Profile → ℕ → Written
+writeOf words p room = writtenBy words p (writeRefusal words p room)
+
+abbrev pub bytesBy : ℕ → List ℕ → Profile → List ℕ → Option Refusal → List ℕ
+bytesBy version words p out none = laid out 0 (imageOf version (rangeIn words) (rangesIn words) p)
+bytesBy version words p out (some r) = out
+
+-- what the buffer then holds: the image, and past it what was there; a refusal leaves all as it was
+unfoldable pub bytesAfter : ℕ → List ℕ → Profile → List ℕ → List ℕ
+bytesAfter version words p out = bytesBy version words p out (writeRefusal words p (length out))
