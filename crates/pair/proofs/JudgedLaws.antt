@@ -1,0 +1,35 @@
+-- What two accepted images give a walk over their ranges and a comparison of their profiles. Assumes nothing.
+use Prim.Native.Nat.{ℕ, _+_, _*_, _≤_}
+use mathlib.Core.Path.{_≡_}
+use mathlib.Core.List.{List}
+use mathlib.Core.Option.{none}
+use native.Mathlib.Omega.{arith}
+use lib.ListN.{length}
+use Rattle.image.specs.Header.{rangeCount, entryCount, imageEnd}
+use Rattle.image.specs.Check.{refusalOf}
+use Rattle.image.proofs.ImageLaws.{accepted}
+use Rattle.pair.specs.Walk.{Walk}
+use Rattle.pair.specs.Judged.{EntriesFrom}
+
+-- the walk begins at code point 0
+pub walk-begins : (s : List ℕ) (n : ℕ) → refusalOf s ≡ none → n ≡ rangeCount s → Walk s n 0 0
+walk-begins s n e p =
+    let a = accepted s e in
+    let z = a .header .size in
+    record {
+      room = omega arith;
+      good = rw p (a .ranges);
+      place = record { within = omega arith; passed = λ l. absurd (omega arith); reached = λ l. omega arith };
+    }
+
+-- the header, the ranges and the entries fill the image
+pub filled : (s : List ℕ) (n : ℕ) → refusalOf s ≡ none → n ≡ rangeCount s → (length s ≡ imageEnd n (entryCount s)) × (entryCount s ≤ 64) × (n ≤ 4096)
+filled s n e p =
+    let h = accepted s e .header in
+    let a = h .few-ranges in
+    let b = h .few-entries in
+    (rw p (h .size), b, omega arith)
+
+-- where the profile entries begin
+pub entries-begin : (s : List ℕ) (n count : ℕ) → refusalOf s ≡ none → n ≡ rangeCount s → count ≡ entryCount s → EntriesFrom s (32 + 12 * n) count
+entries-begin s n count e p q = let (z, u, v) = filled s n e p in record { begin = rw p; room = omega arith }

@@ -1,0 +1,237 @@
+-- What each answer of the pair check says of the two images, exactly when. Assumes nothing.
+use Prim.Native.Nat.{ℕ, _-_, _≤_, _<_}
+use mathlib.Core.Path.{_≡_, refl, sym, ap, subst, _∙_}
+use mathlib.Core.List.{List, [], _∷_, _++_}
+use mathlib.Core.Bool.{Bool, true, false, true≢false}
+use mathlib.Core.Option.{Option, none, some}
+use native.Mathlib.Omega.{arith}
+use native.Mathlib.Decide.{decLt}
+use lib.Dec.{ltb, eqb, leb}
+use lib.ListN.{replicate}
+use borrow.Author.Tests.{lt-ltb, le-ltb, eq-eqb, eqb-true, ltb-true, ltb-false, leb-true, not-true, not-false}
+use Rattle.lists.specs.First.{firstWhere}
+use Rattle.lists.specs.Each.{each, single, column}
+use Rattle.lists.proofs.BoolLaws.{and-left, and-right, or-false}
+use Rattle.lists.proofs.FirstLaws.{first-is, first-none, first-passed, first-holds}
+use Rattle.lists.proofs.EachLaws.{each-same}
+use Rattle.utf8.specs.Scalar.{isScalar}
+use Rattle.refusal.specs.declared.Refusal.{Refusal}
+use Rattle.refusal.specs.declared.Refusal.the-variants as refusal
+use Rattle.image.specs.Class.{classNamed}
+use Rattle.image.specs.Limits.{maxEntries}
+use Rattle.image.specs.Header.{rangeCount, entryCount}
+use Rattle.image.specs.Ranges.{rangeAt}
+use Rattle.image.specs.Profile.{pointAt, roleAt, profileOf, roleOf}
+use Rattle.image.specs.Check.{refusalOf, rangeClass}
+use Rattle.image.proofs.ImageLaws.{Accepted, accepted, refused-none}
+use Rattle.lookup.proofs.ClassLaws.{class-known}
+use Rattle.pair.specs.Change.{Permitted, permitted}
+use Rattle.pair.specs.Pair.{
+  forbiddenAt,
+  codePoints,
+  firstForbidden,
+  differsAt,
+  sameEntries,
+  sameProfile,
+  pickPair,
+  comparedOf,
+  pairBy,
+  pairOf,
+}
+use Rattle.pair.specs.declared.Pair.{Pair}
+use Rattle.pair.specs.declared.Pair.the-variants as pair
+use Rattle.pair.proofs.ChangeLaws.{permitted-is, is-permitted}
+
+-- the change of x from the older image's ranges to the newer's is permitted
+abbrev pub PermittedAt : List ℕ → List ℕ → ℕ → Type 0
+PermittedAt older newer x = Permitted (classNamed (rangeClass older x)) (classNamed (rangeClass newer x))
+
+-- the newer differs from the older only by permitted changes
+abbrev pub OnlyPermitted : List ℕ → List ℕ → Type 0
+OnlyPermitted older newer = (x : ℕ) → isScalar x ≡ true → PermittedAt older newer x
+
+-- x is the smallest scalar value with a forbidden change
+pub record FirstChange (older newer : List ℕ) (x : ℕ) : Type 0 where
+  pub scalar : isScalar x ≡ true
+  pub forbidden : PermittedAt older newer x → ⊥
+  pub before : (y : ℕ) → y < x → isScalar y ≡ true → PermittedAt older newer y
+
+-- equal profile sections: m and the entries before it
+pub record SameProfile (older newer : List ℕ) : Type 0 where
+  pub count : entryCount older ≡ entryCount newer
+  pub point : (i : ℕ) → i < entryCount older → pointAt older i ≡ pointAt newer i
+  pub role : (i : ℕ) → i < entryCount older → roleAt older i ≡ roleAt newer i
+
+-- two accepted images
+abbrev pub BothAccepted : List ℕ → List ℕ → Type 0
+BothAccepted older newer = Accepted older × Accepted newer
+
+-- what is so exactly where the pair check gives this answer
+abbrev pub Means : List ℕ → List ℕ → Pair → Type 0
+Means older newer (pair.Older r) = refusalOf older ≡ some r
+Means older newer (pair.Newer r) = Accepted older × (refusalOf newer ≡ some r)
+Means older newer (pair.Refused refusal.Profiles) = BothAccepted older newer × (SameProfile older newer → ⊥)
+Means older newer (pair.Refused (refusal.Change x)) = BothAccepted older newer × SameProfile older newer × FirstChange older newer x
+Means older newer (pair.Refused refusal.Length) = ⊥
+Means older newer (pair.Refused refusal.Header) = ⊥
+Means older newer (pair.Refused (refusal.Range i)) = ⊥
+Means older newer (pair.Refused (refusal.Entry i)) = ⊥
+Means older newer (pair.Refused refusal.TextLength) = ⊥
+Means older newer (pair.Refused (refusal.IllFormed p)) = ⊥
+Means older newer (pair.Refused (refusal.Characters p)) = ⊥
+Means older newer (pair.Refused (refusal.Room n)) = ⊥
+Means older newer (pair.Refused (refusal.NotScalar x)) = ⊥
+Means older newer (pair.Refused (refusal.Buffer n)) = ⊥
+Means older newer (pair.Refused refusal.Shape) = ⊥
+Means older newer pair.Permitted = BothAccepted older newer × SameProfile older newer × OnlyPermitted older newer
+
+-- scalar values are code points
+scalar-below : (x : ℕ) → isScalar x ≡ true → x < codePoints
+unfolding isScalar
+scalar-below x e = go (decLt x 0xD800) (decLt x 0xE000)
+  where
+    go : Dec (x < 0xD800) → Dec (x < 0xE000) → x < codePoints
+    go (yes p) d = omega arith
+    go (no p) (yes q) = absurd (true≢false (sym e ∙ simp (le-ltb x 0xD800 (omega arith), lt-ltb x 0xE000 q)))
+    go (no p) (no q) =
+        let l : leb x 0x10FFFF ≡ true = simp (le-ltb x 0xD800 (omega arith), le-ltb x 0xE000 (omega arith)) at e in
+        let h = leb-true x 0x10FFFF l in
+        omega arith
+
+module _ (older newer : List ℕ) where
+  -- one code point: the test and what it says
+  not-forbidden : (x : ℕ) → forbiddenAt older newer x ≡ false → isScalar x ≡ true → PermittedAt older newer x
+  unfolding forbiddenAt
+  not-forbidden x e s = permitted-is _ _ (not-false _ (simp s at e))
+
+  class-small : (s : List ℕ) → Accepted s → (x : ℕ) → rangeClass s x ≤ 5
+  unfolding rangeClass
+  class-small s a x = class-known (rangeAt s) (rangeCount s) (a .ranges) x
+
+  module _ (both : BothAccepted older newer) where
+    permits : (x : ℕ) → PermittedAt older newer x → permitted (rangeClass older x) (rangeClass newer x) ≡ true
+    permits x p = is-permitted _ _ (class-small older (both .0) x) (class-small newer (both .1) x) p
+
+    is-forbidden : (x : ℕ) → forbiddenAt older newer x ≡ true → PermittedAt older newer x → ⊥
+    unfolding forbiddenAt
+    is-forbidden x e p = true≢false (sym (permits x p) ∙ not-true _ (and-right (isScalar x) _ e))
+
+    forbids-none : (x : ℕ) → (isScalar x ≡ true → PermittedAt older newer x) → (b : Bool) → isScalar x ≡ b → forbiddenAt older newer x ≡ false
+    unfolding forbiddenAt
+    forbids-none x f true e = rw (e, permits x (f e))
+    forbids-none x f false e = rw e
+
+    forbids : (x : ℕ) → isScalar x ≡ true → (PermittedAt older newer x → ⊥) → (b : Bool) → permitted (rangeClass older x) (rangeClass newer x) ≡ b → forbiddenAt older newer x ≡ true
+    unfolding forbiddenAt
+    forbids x s f true e = absurd (f (permitted-is _ _ e))
+    forbids x s f false e = rw (s, e)
+
+    -- the search over all code points
+    only-permitted : codePoints ≤ firstForbidden older newer → OnlyPermitted older newer
+    unfolding firstForbidden
+    only-permitted l x s = not-forbidden x (first-passed (forbiddenAt older newer) codePoints x (let h = scalar-below x s in omega arith)) s
+
+    none-forbidden : OnlyPermitted older newer → firstForbidden older newer ≡ codePoints
+    unfolding firstForbidden
+    none-forbidden f = first-none (forbiddenAt older newer) codePoints (λ x l. forbids-none x (f x) (isScalar x) refl)
+
+    first-change : firstForbidden older newer < codePoints → FirstChange older newer (firstForbidden older newer)
+    unfolding firstForbidden forbiddenAt
+    first-change l =
+        let x = firstForbidden older newer in
+        let h : forbiddenAt older newer x ≡ true = first-holds (forbiddenAt older newer) codePoints l in
+        record {
+          scalar = and-left _ _ h;
+          forbidden = is-forbidden x h;
+          before = λ y u s. not-forbidden y (first-passed (forbiddenAt older newer) codePoints y u) s;
+        }
+
+    change-first : (x : ℕ) → FirstChange older newer x → firstForbidden older newer ≡ x
+    unfolding firstForbidden
+    change-first x f =
+        first-is (forbiddenAt older newer) codePoints x (scalar-below x (f .scalar)) (forbids x (f .scalar) (f .forbidden) _ refl)
+        (λ y u. forbids-none y (f .before y u) (isScalar y) refl)
+
+  -- profiles: the test and what it says
+  entry-same : (i : ℕ) → differsAt older newer i ≡ false → (pointAt older i ≡ pointAt newer i) × (roleAt older i ≡ roleAt newer i)
+  unfolding differsAt
+  entry-same i e = let (p, r) = or-false _ _ e in (eqb-true _ _ (not-false _ p), eqb-true _ _ (not-false _ r))
+
+  same-profile : sameProfile older newer ≡ true → SameProfile older newer
+  unfolding sameProfile sameEntries
+  same-profile e =
+      record { count = sym (eqb-true _ _ (and-left _ _ e)); point = λ i l. at i l .0; role = λ i l. at i l .1 }
+    where
+      at : (i : ℕ) → i < entryCount older → (pointAt older i ≡ pointAt newer i) × (roleAt older i ≡ roleAt newer i)
+      at i l =
+          let z : firstWhere (differsAt older newer) (entryCount older) ≡ entryCount older =
+          eqb-true _ _ (and-right (eqb (entryCount newer) (entryCount older)) _ e) in
+          entry-same i (first-passed (differsAt older newer) (entryCount older) i (omega arith))
+
+  profile-same : SameProfile older newer → sameProfile older newer ≡ true
+  unfolding sameProfile sameEntries differsAt
+  profile-same s =
+      let f = first-none (differsAt older newer) (entryCount older) (λ i l. simp (eq-eqb _ _ (s .point i l), eq-eqb _ _ (s .role i l))) in
+      simp (eq-eqb _ _ (sym (s .count)), f, eq-eqb (entryCount older) (entryCount older) refl)
+
+  profile-differs : (SameProfile older newer → ⊥) → (b : Bool) → sameProfile older newer ≡ b → b ≡ false
+  profile-differs f true e = absurd (f (same-profile e))
+  profile-differs f false e = refl
+
+  -- the answers
+  module _ (both : BothAccepted older newer) where
+    means-change : SameProfile older newer → (b : Bool) → ltb (firstForbidden older newer) codePoints ≡ b
+        → Means older newer (pickPair b (pair.Refused (refusal.Change (firstForbidden older newer))) pair.Permitted)
+    means-change s true e = (both, s, first-change both (ltb-true _ _ e))
+    means-change s false e = (both, s, only-permitted both (ltb-false _ _ e))
+
+    means-compared : (b : Bool) → sameProfile older newer ≡ b
+        → Means older newer
+        (pickPair b (pickPair (ltb (firstForbidden older newer) codePoints) (pair.Refused (refusal.Change (firstForbidden older newer))) pair.Permitted) (pair.Refused refusal.Profiles))
+    means-compared true e = means-change (same-profile e) _ refl
+    means-compared false e = (both, λ s. true≢false (sym (profile-same s) ∙ e))
+
+  means-by : (o p : Option Refusal) → refusalOf older ≡ o → refusalOf newer ≡ p → Means older newer (pairBy older newer o p)
+  unfolding comparedOf
+  means-by (some r) p e f = e
+  means-by none (some r) e f = (accepted older e, f)
+  means-by none none e f = means-compared (accepted older e, accepted newer f) _ refl
+
+  -- what an answer says
+  pub pair-means : (p : Pair) → pairOf older newer ≡ p → Means older newer p
+  unfolding pairOf
+  pair-means p e = subst (Means older newer) e (means-by _ _ refl refl)
+
+  compared : BothAccepted older newer → pairOf older newer ≡ comparedOf older newer
+  unfolding pairOf
+  compared both = simp (refused-none older (both .0), refused-none newer (both .1))
+
+  -- and back: where it is so, that is the answer
+  pub means-pair : (p : Pair) → Means older newer p → pairOf older newer ≡ p
+  unfolding pairOf comparedOf
+  means-pair (pair.Older r) e = simp e
+  means-pair (pair.Newer r) (a, e) = simp (refused-none older a, e)
+  means-pair (pair.Refused refusal.Profiles) (both, d) = compared both ∙ simp (profile-differs d _ refl)
+  means-pair (pair.Refused (refusal.Change x)) (both, s, f) =
+      let e = change-first both x f in
+      compared both ∙ simp (profile-same s, e, lt-ltb x codePoints (scalar-below x (f .scalar)))
+  means-pair pair.Permitted (both, s, f) =
+      let e = none-forbidden both f in
+      compared both ∙ simp (profile-same s, e)
+
+  -- equal profile sections give equal profile records
+  column-same : (f g : ℕ → ℕ) (m : ℕ) → ((i : ℕ) → i < m → f i ≡ g i) → column maxEntries f m ≡ column maxEntries g m
+  unfolding column each
+  column-same f g m e =
+      ap (λ (l : List ℕ). l ++ replicate (maxEntries - m) 0) (each-same (single f) (single g) m 0 (λ j l u. ap (λ (v : ℕ). v ∷ []) (e j (omega arith))))
+
+  pub profiles-equal : SameProfile older newer → profileOf older ≡ profileOf newer
+  unfolding profileOf
+  profiles-equal s =
+      let p = column-same (pointAt older) (pointAt newer) (entryCount older) (s .point) in
+      let r = column-same (roleAt older) (roleAt newer) (entryCount older) (s .role) in
+      rw (p, r, s .count)
+
+  -- so each code point has one role
+  pub roles-equal : SameProfile older newer → (y : ℕ) → roleOf (profileOf older) y ≡ roleOf (profileOf newer) y
+  roles-equal s y = ap (λ p. roleOf p y) (profiles-equal s)

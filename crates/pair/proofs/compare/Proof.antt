@@ -1,0 +1,39 @@
+-- `pair::compare` meets its contract. Assumes nothing.
+use mathlib.Core.Path.{sym, _∙_}
+use borrow.Author.Tests.{lt-ltb, le-ltb}
+use Rattle.pair.specs.Pair.{comparedOf}
+use borrow.Author.Needs.{needs}
+use Rattle.pair.proofs.compare.Statement.{statement}
+use Rattle.pair.proofs.compare.Tie as tie
+
+has-same-profile-requires : tie.Need-has-same-profile-requires
+has-same-profile-requires c κs = search needs
+
+first-forbidden-requires : tie.Need-first-forbidden-requires
+first-forbidden-requires c κs = search needs
+
+cast-t8 : tie.Need-cast-t8
+cast-t8 c = search needs
+
+returns : tie.Need-returns
+unfolding comparedOf
+returns c = simp (sym (c .before .before .before .has-same-profile .ensures) ∙ c .before .before .if1 .taken, ← c .before .first-forbidden .ensures, lt-ltb _ _ (c .if2 .taken))
+
+returns-2 : tie.Need-returns-2
+unfolding comparedOf
+returns-2 c = simp (sym (c .before .before .before .has-same-profile .ensures) ∙ c .before .before .if1 .taken, ← c .before .first-forbidden .ensures, le-ltb _ _ (c .if2 .left))
+
+returns-3 : tie.Need-returns-3
+unfolding comparedOf
+returns-3 c = simp (sym (c .before .has-same-profile .ensures) ∙ c .if1 .left)
+
+pub compare-spec : {M : Type 1} → statement M
+compare-spec =
+    tie.close
+    (tie.spec
+    has-same-profile-requires
+    first-forbidden-requires
+    cast-t8
+    returns
+    returns-2
+    returns-3)

@@ -1,0 +1,55 @@
+-- `pair::first_forbidden` meets its contract. The invariant: no code point below x has a forbidden change. Assumes nothing.
+use Prim.Native.Nat.{_-_}
+use mathlib.Core.Path.{sym, _∙_}
+use native.Mathlib.Omega.{arith}
+use borrow.Author.Needs.{needs}
+use Rattle.pair.specs.Pair.{codePoints}
+use Rattle.pair.proofs.JudgedLaws.{walk-begins}
+use Rattle.pair.proofs.ForbidLaws.{Clear, clear-begin, clear-next, clear-here, clear-end}
+use Rattle.pair.proofs.first_forbidden.Statement.{statement}
+use Rattle.pair.proofs.first_forbidden.Tie as tie
+
+abbrev Inv-loop : tie.InvT-loop
+Inv-loop older newer n m x₀ i₀ j₀ x i j = Clear older newer n m x i j
+
+abbrev μ-loop : tie.MeasureT-loop
+μ-loop older newer n m x₀ i₀ j₀ x i j = codePoints - x
+
+loop-holds : tie.Need-loop-holds Inv-loop μ-loop
+loop-holds c = let p = c .before .before .pre in clear-begin _ _ _ _ (walk-begins _ _ (p .was) (p .ranges)) (walk-begins _ _ (p .is) (p .newRanges))
+
+walk-step-requires : tie.Need-walk-step-requires Inv-loop μ-loop
+walk-step-requires c κs = (c .before .loop .inv .was, (c .before .loop .inv .is, omega arith))
+
+is-permitted-requires : tie.Need-is-permitted-requires Inv-loop μ-loop
+is-permitted-requires c κs = search needs
+
+add-x : tie.Need-add-x Inv-loop μ-loop
+add-x c = let t = c .before .before .before .walk-step .ensures .to in omega arith
+
+loop-less : tie.Need-loop-less Inv-loop μ-loop
+loop-less c = let t = c .before .before .before .walk-step .ensures .from in omega arith
+
+loop-again : tie.Need-loop-again Inv-loop μ-loop
+loop-again c = clear-next _ _ _ _ _ _ _ (c .before .before .before .before .before .before .before .before .pre .ranges) (c .before .before .before .before .before .before .before .before .pre .newRanges) (c .before .before .before .before .before .loop .inv) _ (c .before .before .before .walk-step .ensures) (sym (c .before .before .is-permitted .ensures) ∙ c .before .if1 .taken)
+
+returns : tie.Need-returns Inv-loop μ-loop
+returns c = clear-here _ _ _ _ _ _ _ (c .before .before .before .before .before .before .before .pre .ranges) (c .before .before .before .before .before .before .before .pre .newRanges) (c .before .before .before .before .loop .inv) _ (c .before .before .walk-step .ensures) (sym (c .before .is-permitted .ensures) ∙ c .if1 .left)
+
+returns-2 : tie.Need-returns-2 Inv-loop μ-loop
+returns-2 c = clear-end _ _ _ _ _ _ _ (c .before .loop .inv) (c .loop-test .left)
+
+pub first-forbidden-spec : {M : Type 1} → statement M
+first-forbidden-spec =
+    tie.close
+    (tie.spec
+    Inv-loop
+    μ-loop
+    loop-holds
+    walk-step-requires
+    is-permitted-requires
+    add-x
+    loop-less
+    loop-again
+    returns
+    returns-2)

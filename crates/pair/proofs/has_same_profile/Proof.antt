@@ -1,0 +1,60 @@
+-- `pair::has_same_profile` meets its contract. Assumes nothing.
+use mathlib.Core.Path.{sym, _∙_}
+use native.Mathlib.Omega.{arith}
+use borrow.Author.Tests.{eq-eqb, ne-eqb}
+use Rattle.pair.specs.Pair.{sameProfile}
+use Rattle.pair.proofs.JudgedLaws.{filled, entries-begin}
+use borrow.Author.Needs.{needs}
+use Rattle.pair.proofs.has_same_profile.Statement.{statement}
+use Rattle.pair.proofs.has_same_profile.Tie as tie
+
+word-requires : tie.Need-word-requires
+word-requires c κs = let h = c .before .before .pre in let (z, u, v) = filled _ _ (h .was) (h .ranges) in omega arith
+
+cast-count : tie.Need-cast-count
+cast-count c = search needs
+
+word-requires-2 : tie.Need-word-requires-2
+word-requires-2 c κs = let h = c .before .before .before .pre in let (z, u, v) = filled _ _ (h .is) (h .newRanges) in omega arith
+
+cast-if1 : tie.Need-cast-if1
+cast-if1 c = search needs
+
+returns : tie.Need-returns
+unfolding sameProfile
+returns c = simp (← c .before .before .word .ensures, ← c .before .word2 .ensures, ne-eqb _ _ (c .if1 .taken))
+
+mul-are-entries-same : tie.Need-mul-are-entries-same
+mul-are-entries-same c = let h = c .before .before .before .before .before .pre in let (z, u, v) = filled _ _ (h .was) (h .ranges) in omega arith
+
+add-are-entries-same : tie.Need-add-are-entries-same
+add-are-entries-same c = let h = c .before .before .before .before .before .pre in let (z, u, v) = filled _ _ (h .was) (h .ranges) in omega arith
+
+mul-are-entries-same-2 : tie.Need-mul-are-entries-same-2
+mul-are-entries-same-2 c = let h = c .before .before .before .before .before .pre in let (z, u, v) = filled _ _ (h .is) (h .newRanges) in omega arith
+
+add-are-entries-same-2 : tie.Need-add-are-entries-same-2
+add-are-entries-same-2 c = let h = c .before .before .before .before .before .pre in let (z, u, v) = filled _ _ (h .is) (h .newRanges) in omega arith
+
+are-entries-same-requires : tie.Need-are-entries-same-requires
+are-entries-same-requires c κs = let h = c .before .before .before .before .before .pre in (entries-begin _ _ _ (h .was) (h .ranges) (c .before .before .word .ensures), entries-begin _ _ _ (h .is) (h .newRanges) (sym (c .if1 .left) ∙ c .before .word2 .ensures))
+
+returns-2 : tie.Need-returns-2
+unfolding sameProfile
+returns-2 c = c .are-entries-same .ensures ∙ simp (← c .before .before .before .word .ensures, ← c .before .before .word2 .ensures, eq-eqb _ _ (c .before .if1 .left))
+
+pub has-same-profile-spec : {M : Type 1} → statement M
+has-same-profile-spec =
+    tie.close
+    (tie.spec
+    word-requires
+    cast-count
+    word-requires-2
+    cast-if1
+    returns
+    mul-are-entries-same
+    add-are-entries-same
+    mul-are-entries-same-2
+    add-are-entries-same-2
+    are-entries-same-requires
+    returns-2)

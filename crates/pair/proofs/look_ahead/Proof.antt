@@ -1,0 +1,27 @@
+-- `pair::look_ahead` meets its contract. Assumes nothing.
+use native.Mathlib.Omega.{arith}
+use borrow.Author.Needs.{needs}
+use Rattle.pair.proofs.WalkLaws.{ends-ahead, gap-ahead, range-ahead}
+use Rattle.pair.proofs.look_ahead.Statement.{statement}
+use Rattle.pair.proofs.look_ahead.Tie as tie
+
+returns : tie.Need-returns
+returns c = ends-ahead _ _ _ _ (c .before .before .pre .0) (c .before .before .pre .1) (c .if1 .taken)
+
+range-at-requires : tie.Need-range-at-requires
+range-at-requires c κs = let w = c .before .before .pre .0 .room in omega arith
+
+sub-t7 : tie.Need-sub-t7
+sub-t7 c = search needs
+
+returns-2 : tie.Need-returns-2
+returns-2 c = gap-ahead _ _ _ _ (c .before .before .before .before .before .before .pre .0) (c .before .before .before .before .before .before .pre .1) (c .before .before .before .before .if1 .left) _ (c .before .before .before .range-at .ensures) (c .before .if2 .taken)
+
+add-t8 : tie.Need-add-t8
+add-t8 c = search needs
+
+returns-3 : tie.Need-returns-3
+returns-3 c = range-ahead _ _ _ _ (c .before .before .before .before .before .pre .0) (c .before .before .before .before .before .pre .1) (c .before .before .before .if1 .left) _ (c .before .before .range-at .ensures) (c .if2 .left)
+
+pub look-ahead-spec : {M : Type 1} → statement M
+look-ahead-spec = tie.close (tie.spec returns range-at-requires sub-t7 returns-2 add-t8 returns-3)

@@ -1,0 +1,37 @@
+-- `pair::walk_step` meets its contract. Assumes nothing.
+use mathlib.Core.Logic.{⊎-elim}
+use native.Mathlib.Omega.{arith}
+use borrow.Author.Needs.{needs}
+use Rattle.pair.proofs.WalkLaws.{both-ahead}
+use Rattle.pair.proofs.walk_step.Statement.{statement}
+use Rattle.pair.proofs.walk_step.Tie as tie
+
+look-ahead-requires : tie.Need-look-ahead-requires
+look-ahead-requires c κs = search needs
+
+look-ahead-requires-2 : tie.Need-look-ahead-requires-2
+look-ahead-requires-2 c κs = search needs
+
+place-after-requires : tie.Need-place-after-requires
+place-after-requires c κs = search needs
+
+place-after-requires-2 : tie.Need-place-after-requires-2
+place-after-requires-2 c κs = search needs
+
+returns : tie.Need-returns
+returns c =
+    let f = c .before .before .before .before .before .look-ahead .ensures in
+    let g = c .before .before .before .before .look-ahead2 .ensures in
+    let p = f .from in
+    let q = g .from in
+    both-ahead _ _ _ _ _ _ _ (c .before .before .if1 .last) _ _ _ _ f g (⊎-elim (λ w. (omega arith, omega arith, omega arith)) (λ w. (omega arith, omega arith, omega arith)) (c .before .before .if1 .came)) (c .before .place-after .ensures) (c .place-after2 .ensures)
+
+pub walk-step-spec : {M : Type 1} → statement M
+walk-step-spec =
+    tie.close
+    (tie.spec
+    look-ahead-requires
+    look-ahead-requires-2
+    place-after-requires
+    place-after-requires-2
+    returns)

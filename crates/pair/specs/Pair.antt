@@ -1,0 +1,89 @@
+-- What the pair check of two images answers (document 01, "Permitted changes", and refusals 10 and 11).
+use Prim.Native.Nat.{ℕ}
+use mathlib.Core.List.{List, []}
+use mathlib.Core.Bool.{Bool, true, false, not, _&&_, _||_}
+use mathlib.Core.Option.{Option, none, some}
+use lib.Dec.{ltb, eqb}
+use Rattle.lists.specs.First.{firstWhere}
+use Rattle.utf8.specs.Scalar.{isScalar}
+use Rattle.refusal.specs.Refusal.{numberOf, carriedBy}
+use Rattle.refusal.specs.declared.Refusal.{Refusal}
+use Rattle.refusal.specs.declared.Refusal.the-variants as refusal
+use Rattle.image.specs.Header.{entryCount}
+use Rattle.image.specs.Profile.{pointAt, roleAt}
+use Rattle.image.specs.Check.{refusalOf, rangeClass}
+use Rattle.pair.specs.Change.{permitted}
+use Rattle.pair.specs.declared.Pair.{Pair}
+use Rattle.pair.specs.declared.Pair.the-variants as pair
+
+-- x is a scalar value whose classes in the ranges are no permitted change
+unfoldable pub forbiddenAt : List ℕ → List ℕ → ℕ → Bool
+forbiddenAt older newer x = isScalar x && not (permitted (rangeClass older x) (rangeClass newer x))
+
+-- one more than the last code point
+abbrev pub codePoints : ℕ
+codePoints = 0x110000
+
+-- the smallest code point with a forbidden change; 110000 hex where there is none
+unfoldable pub firstForbidden : List ℕ → List ℕ → ℕ
+firstForbidden older newer = firstWhere (forbiddenAt older newer) codePoints
+
+-- the profile entries at index i differ: the code point or the role does
+unfoldable pub differsAt : List ℕ → List ℕ → ℕ → Bool
+differsAt older newer i = not (eqb (pointAt older i) (pointAt newer i)) || not (eqb (roleAt older i) (roleAt newer i))
+
+-- the entries before the count are the same
+unfoldable pub sameEntries : List ℕ → List ℕ → ℕ → Bool
+sameEntries older newer count = eqb (firstWhere (differsAt older newer) count) count
+
+-- profiles are the same if m and the entries before it are
+unfoldable pub sameProfile : List ℕ → List ℕ → Bool
+sameProfile older newer = eqb (entryCount newer) (entryCount older) && sameEntries older newer (entryCount older)
+
+abbrev pub pickPair : Bool → Pair → Pair → Pair
+pickPair true a b = a
+pickPair false a b = b
+
+-- of two accepted images: 11, then 10 with the smallest code point
+unfoldable pub comparedOf : List ℕ → List ℕ → Pair
+comparedOf older newer =
+    pickPair (sameProfile older newer)
+    (pickPair (ltb (firstForbidden older newer) codePoints) (pair.Refused (refusal.Change (firstForbidden older newer))) pair.Permitted)
+    (pair.Refused refusal.Profiles)
+
+abbrev pub pairBy : List ℕ → List ℕ → Option Refusal → Option Refusal → Pair
+pairBy older newer (some r) o = pair.Older r
+pairBy older newer none (some r) = pair.Newer r
+pairBy older newer none none = comparedOf older newer
+
+-- the older image is judged wholly, then the newer, then the pair
+unfoldable pub pairOf : List ℕ → List ℕ → Pair
+pairOf older newer = pairBy older newer (refusalOf older) (refusalOf newer)
+
+-- the refusal in an answer, and the image that it tells of: 1 the older, 2 the newer, 0 neither
+abbrev pub refusalIn : Pair → Option Refusal
+refusalIn (pair.Older r) = some r
+refusalIn (pair.Newer r) = some r
+refusalIn (pair.Refused r) = some r
+refusalIn pair.Permitted = none
+
+abbrev pub imageIn : Pair → ℕ
+imageIn (pair.Older r) = 1
+imageIn (pair.Newer r) = 2
+imageIn (pair.Refused r) = 0
+imageIn pair.Permitted = 0
+
+abbrev pub numberBy : Option Refusal → ℕ
+numberBy none = 0
+numberBy (some r) = numberOf r
+
+abbrev pub carriedIn : Option Refusal → List ℕ
+carriedIn none = []
+carriedIn (some r) = carriedBy r
+
+-- document 01's number of an answer, 0 for yes, and the numbers that it carries
+abbrev pub pairNumber : Pair → ℕ
+pairNumber p = numberBy (refusalIn p)
+
+abbrev pub pairCarried : Pair → List ℕ
+pairCarried p = carriedIn (refusalIn p)

@@ -1,0 +1,240 @@
+// The pair check of two class images: whether the newer differs from the older only by permitted changes.
+ghost use mathlib.Core.Path.{_≡_};
+ghost use mathlib.Core.Option.{none};
+ghost use Prim.Native.Nat.{_+_, _≤_};
+ghost use lib.ListN.{length};
+ghost use Rattle.image.specs.Header.{rangeCount};
+ghost use Rattle.image.specs.Check.{refusalOf};
+ghost use Rattle.pair.specs.Change.{isContinueClass, permitted};
+ghost use Rattle.pair.specs.Walk.{Walk, placeAfter, AheadOf, StepOf};
+ghost use Rattle.pair.specs.Pair.{firstForbidden, sameEntries, sameProfile, comparedOf, pairOf};
+ghost use Rattle.pair.specs.Judged.{Judged, EntriesFrom, wordsDiffer};
+use image::Answer;
+use refusal::Refusal;
+
+// The class of a code point in no range.
+const UNASSIGNED: u32 = 0;
+
+// The last code point, and how many there are.
+const LAST_CODE_POINT: u32 = 0x10FFFF;
+
+const CODE_POINTS: u32 = 0x110000;
+
+// The answer of the pair check.
+pub enum Pair {
+    // Refusals 1 to 4 of the older image, or of the newer.
+    Older(Refusal),
+    Newer(Refusal),
+    // Refusals 10 and 11.
+    Refused(Refusal),
+    Permitted,
+}
+
+// Whether a class number is that of Start or Nonstart.
+fn is_continue(class: u32) -> bool
+    ensures { λ r. ⌜ r ≡ isContinueClass class ⌝ }
+{
+    if class == 1 {
+        return true;
+    }
+    class == 2
+}
+
+// Whether a class may become another, by their numbers.
+pub fn is_permitted(older: u32, newer: u32) -> bool
+    ensures { λ r. ⌜ r ≡ permitted older newer ⌝ }
+{
+    if newer == older {
+        return true;
+    }
+    if older == 0 {
+        if is_continue(newer) {
+            return true;
+        }
+        return newer == 5;
+    }
+    if older == 5 {
+        return is_continue(newer);
+    }
+    if older == 2 {
+        return newer == 1;
+    }
+    false
+}
+
+// Code points from a given one to `last` that have one class in the ranges of an image, and the place of what follows them.
+pub struct Ahead {
+    pub last: u32,
+    pub class: u32,
+    pub next: usize,
+}
+
+// Code points from a given one to `last` that have one class in each of two images, and the places of what follows them.
+pub struct Step {
+    pub last: u32,
+    pub older: u32,
+    pub newer: u32,
+    pub i: usize,
+    pub j: usize,
+}
+
+// What begins at code point x of an image with n ranges, where i is the place of x among them.
+pub fn look_ahead(s: &[u8], n: usize, i: usize, x: u32) -> Ahead
+    requires { ⌜ Walk (now s) n i x ⌝ }
+    requires { ⌜ x ≤ 0x10FFFF ⌝ }
+    ensures { λ r. ⌜ AheadOf (now (s .entry)) n i x r ⌝ }
+{
+    if n <= i {
+        return Ahead {
+            last: LAST_CODE_POINT,
+            class: UNASSIGNED,
+            next: i,
+        };
+    }
+    let r = image::range_at(s, i);
+    if x < r.first {
+        return Ahead {
+            last: r.first - 1,
+            class: UNASSIGNED,
+            next: i,
+        };
+    }
+    Ahead {
+        last: r.last,
+        class: r.class,
+        next: i + 1,
+    }
+}
+
+// The place of the code point after `end`, which is not past the last one of `a`.
+fn place_after(a: Ahead, i: usize, end: u32) -> usize
+    ensures { λ r. ⌜ r ≡ placeAfter (a .last) (a .next) i end ⌝ }
+{
+    if end < a.last {
+        return i;
+    }
+    a.next
+}
+
+// One step of the walk over two images, with n and m ranges, at code point x.
+pub fn walk_step(older: &[u8], newer: &[u8], n: usize, m: usize, i: usize, j: usize, x: u32) -> Step
+    requires { ⌜ Walk (now older) n i x ⌝ }
+    requires { ⌜ Walk (now newer) m j x ⌝ }
+    requires { ⌜ x ≤ 0x10FFFF ⌝ }
+    ensures { λ r. ⌜ StepOf (now (older .entry)) (now (newer .entry)) n m x r ⌝ }
+{
+    let a = look_ahead(older, n, i, x);
+    let b = look_ahead(newer, m, j, x);
+    let mut last = a.last;
+    if b.last < last {
+        last = b.last;
+    }
+    Step {
+        last,
+        older: a.class,
+        newer: b.class,
+        i: place_after(a, i, last),
+        j: place_after(b, j, last),
+    }
+}
+
+// The smallest code point with a forbidden change, or `CODE_POINTS`. The images have n and m ranges.
+fn first_forbidden(older: &[u8], newer: &[u8], n: usize, m: usize) -> u32
+    requires { ⌜ Judged (now older) (now newer) n m ⌝ }
+    ensures { λ r. ⌜ r ≡ firstForbidden (now (older .entry)) (now (newer .entry)) ⌝ }
+{
+    let mut x: u32 = 0;
+    let mut i: usize = 0;
+    let mut j: usize = 0;
+    while x < CODE_POINTS {
+        let t = walk_step(older, newer, n, m, i, j, x);
+        if is_permitted(t.older, t.newer) {
+            i = t.i;
+            j = t.j;
+            x = t.last + 1;
+        } else {
+            return x;
+        }
+    }
+    x
+}
+
+// Whether the profile entries at byte a of one image and at byte b of the other differ.
+fn entries_differ(older: &[u8], newer: &[u8], a: usize, b: usize) -> bool
+    requires { ⌜ (a + 8 ≤ length (now older)) × (b + 8 ≤ length (now newer)) ⌝ }
+    ensures { λ r. ⌜ r ≡ wordsDiffer (now (older .entry)) (now (newer .entry)) a b ⌝ }
+{
+    if image::word(older, a) != image::word(newer, b) {
+        return true;
+    }
+    image::word(older, a + 4) != image::word(newer, b + 4)
+}
+
+// Whether the profile entries, `count` from byte a of one image and from byte b of the other, are the same.
+fn are_entries_same(older: &[u8], newer: &[u8], a: usize, b: usize, count: usize) -> bool
+    requires { ⌜ EntriesFrom (now older) a count ⌝ }
+    requires { ⌜ EntriesFrom (now newer) b count ⌝ }
+    ensures { λ r. ⌜ r ≡ sameEntries (now (older .entry)) (now (newer .entry)) count ⌝ }
+{
+    let mut i: usize = 0;
+    while i < count {
+        if entries_differ(older, newer, a + 8 * i, b + 8 * i) {
+            return false;
+        }
+        i += 1;
+    }
+    true
+}
+
+// Whether the profile sections are the same, in images with n and m ranges.
+fn has_same_profile(older: &[u8], newer: &[u8], n: usize, m: usize) -> bool
+    requires { ⌜ Judged (now older) (now newer) n m ⌝ }
+    ensures { λ r. ⌜ r ≡ sameProfile (now (older .entry)) (now (newer .entry)) ⌝ }
+{
+    let count = image::word(older, 20) as usize;
+    if image::word(newer, 20) as usize != count {
+        return false;
+    }
+    are_entries_same(older, newer, 32 + 12 * n, 32 + 12 * m, count)
+}
+
+// The pair check of two accepted images, with n and m ranges.
+fn compare(older: &[u8], newer: &[u8], n: usize, m: usize) -> Pair
+    requires { ⌜ Judged (now older) (now newer) n m ⌝ }
+    ensures { λ r. ⌜ r ≡ comparedOf (now (older .entry)) (now (newer .entry)) ⌝ }
+{
+    if has_same_profile(older, newer, n, m) {
+        let x = first_forbidden(older, newer, n, m);
+        if x < CODE_POINTS {
+            return Pair::Refused(Refusal::Change(x as usize));
+        }
+        return Pair::Permitted;
+    }
+    Pair::Refused(Refusal::Profiles)
+}
+
+// Judges the newer image, after the older one, which is accepted and has n ranges.
+fn judge_newer(older: &[u8], newer: &[u8], n: usize) -> Pair
+    requires { ⌜ refusalOf (now older) ≡ none ⌝ }
+    requires { ⌜ n ≡ rangeCount (now older) ⌝ }
+    ensures { λ r. ⌜ r ≡ pairOf (now (older .entry)) (now (newer .entry)) ⌝ }
+{
+    let checked = image::check(newer);
+    let answer = checked.answer;
+    match answer {
+        Answer::Refused(r) => Pair::Newer(r),
+        Answer::Accepted { version: _, ranges } => compare(older, newer, n, ranges),
+    }
+}
+
+// Whether the newer image differs from the older only by permitted changes.
+pub fn check_pair(older: &[u8], newer: &[u8]) -> Pair
+    ensures { λ r. ⌜ r ≡ pairOf (now (older .entry)) (now (newer .entry)) ⌝ }
+{
+    let checked = image::check(older);
+    let answer = checked.answer;
+    match answer {
+        Answer::Refused(r) => Pair::Older(r),
+        Answer::Accepted { version: _, ranges } => judge_newer(older, newer, ranges),
+    }
+}
