@@ -14,7 +14,7 @@ use Rattle.division.specs.Division.{Division}
 use Rattle.division.specs.Meaning.{Meaning}
 use Rattle.division.specs.Grammar.{Kind, identifier, syntax, whitespace, Token}
 use Rattle.division.specs.Kinds.{isContinue, isWhite, kindOfClass, continues, continuesFirst, more, kindOf, rules}
-use Rattle.division.specs.Permitted.{
+use Rattle.image.specs.Permitted.{
   Permitted,
   same,
   unassigned-start,

@@ -6,7 +6,7 @@ use lib.Dec.{eqb}
 use Rattle.lists.specs.First.{pickN}
 use Rattle.image.specs.Class.{classNamed}
 use Rattle.image.specs.Profile.{afterRole}
-use Rattle.division.specs.Permitted.{Permitted, same}
+use Rattle.image.specs.Permitted.{Permitted, same}
 
 by-role : (start nonstart other : Bool) (a b : ℕ) → Permitted (classNamed a) (classNamed b) →
     Permitted (classNamed (pickN start 1 (pickN nonstart 2 (pickN other 5 a)))) (classNamed (pickN start 1 (pickN nonstart 2 (pickN other 5 b))))

@@ -4,7 +4,7 @@ use mathlib.Core.Bool.{true}
 use mathlib.Core.List.{List, [], _∷_}
 use mathlib.Core.Logic.{_⊎_}
 use Rattle.division.specs.Meaning.{Meaning}
-use Rattle.division.specs.Permitted.{Permitted}
+use Rattle.image.specs.Permitted.{Permitted}
 
 module _ {A : Type 0} (older newer : Meaning A) where
   -- the unit's class changes as is permitted, and it is a medial in both or in none

@@ -4,7 +4,6 @@ pub mod Division
 pub mod Meaning
 pub mod Grammar
 pub mod Kinds
-pub mod Permitted
 pub mod Firm
 pub mod Outcome
 pub mod Record

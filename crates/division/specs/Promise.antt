@@ -18,7 +18,7 @@ use Rattle.image.specs.Profile.{profileOf}
 use Rattle.image.specs.Check.{refusalOf, rangeClass, classOf, medialOf}
 use Rattle.division.specs.Scan.{Tok}
 use Rattle.division.specs.Grammar.{Kind}
-use Rattle.division.specs.Permitted.{Permitted}
+use Rattle.image.specs.Permitted.{Permitted}
 use Rattle.division.specs.Outcome.{Outcome, given, refused}
 use Rattle.division.specs.Record.{recordSize}
 use Rattle.division.specs.Reading.{countOf, listOf, listWords}

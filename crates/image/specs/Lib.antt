@@ -1,6 +1,7 @@
 pub mod Word
 pub mod Limits
 pub mod Class
+pub mod Permitted
 pub mod Header
 pub mod Ranges
 pub mod Profile

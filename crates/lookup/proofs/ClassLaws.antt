@@ -5,19 +5,18 @@ use mathlib.Core.Path.{_≡_, refl, sym, ap, _∙_}
 use mathlib.Core.Bool.{Bool, true, false, true≢false, _&&_, _||_}
 use mathlib.Core.Logic.{_⊎_, inl, inr, ⊎-elim}
 use native.Mathlib.Omega.{arith}
-use native.Mathlib.Decide.{decLt, decLe}
+use native.Mathlib.Decide.{decLt}
 use lib.Dec.{leb, ltb, eqb}
-use borrow.Author.Tests.{le-leb, lt-leb, lt-ltb, le-ltb, leb-true, ltb-true, leb-false, eqb-true}
-use Rattle.lists.specs.First.{pickN, firstWhere}
+use borrow.Author.Tests.{le-leb, lt-ltb, le-ltb, leb-true, ltb-true, leb-false, eqb-true}
+use Rattle.lists.specs.First.{firstWhere}
 use Rattle.lists.proofs.BoolLaws.{and-left, and-right, and-in, or-cases}
-use Rattle.lists.proofs.FirstLaws.{first-is, first-none, first-le, first-holds}
+use Rattle.lists.proofs.FirstLaws.{first-is, first-none, first-holds}
 use Rattle.utf8.specs.Scalar.{isScalar}
 use Rattle.image.specs.Ranges.{goodAlone, follows, goodRange, holds, classIn}
 use Rattle.image.specs.declared.Range.{Range}
 use Rattle.lookup.specs.declared.Probe.{Probe}
-use Rattle.lookup.specs.declared.Stretch.{Stretch}
-use Rattle.lookup.specs.Halving.{pickProbe, nothing, more, look, seekIn, seekOf}
-use Rattle.lookup.specs.Stretch.{GoodRanges, StretchOf, Placed}
+use Rattle.lookup.specs.Halving.{seekOf}
+use Rattle.lookup.specs.Stretch.{GoodRanges}
 use Rattle.lookup.proofs.HalvingLaws.{seek-none, seek-low, seek-high, seek-here}
 
 -- what a good range is by itself
@@ -182,8 +181,13 @@ module _ (at : ℕ → Range) (n : ℕ) (good : GoodRanges at n) where
         go (yes w) f = finds-step k f lo hi h w u p q (decLt x _) (decLt _ x)
         go (no w) f = finds-none lo hi (omega arith) l u p q
 
+    -- the search from lo to hi, where the range before lo ends before x and range hi begins after it
+    pub seek-part :
+        (lo hi : ℕ) → lo ≤ hi → hi ≤ n → (0 < lo → at (lo - 1) .last < x) → (hi < n → x < at hi .first) → seekOf at lo hi x .class ≡ classIn at n x
+    seek-part lo hi = finds (hi - lo) lo hi (omega arith)
+
     pub seek-class : seekOf at 0 n x .class ≡ classIn at n x
-    seek-class = finds n 0 n (omega arith) (omega arith) (omega arith) (λ l. absurd (omega arith)) (λ l. absurd (omega arith))
+    seek-class = seek-part 0 n (omega arith) (omega arith) (λ l. absurd (omega arith)) (λ l. absurd (omega arith))
 
     -- no number but a scalar value has a class in the ranges
     pub class-scalar : isScalar x ≡ false → classIn at n x ≡ 0

@@ -1,6 +1,6 @@
 -- The answer of a lookup, case by case; its count is at most 13, and a class after the profile at most 5. Assumes nothing.
 use Prim.Native.Nat.{ℕ, _+_, _*_, _≤_}
-use mathlib.Core.Path.{_≡_, refl, sym, ap, _∙_}
+use mathlib.Core.Path.{_≡_, refl, ap, _∙_}
 use mathlib.Core.Bool.{Bool, true, false}
 use mathlib.Core.List.{List}
 use mathlib.Core.Option.{Option, none, some}
@@ -13,7 +13,7 @@ use Rattle.refusal.specs.declared.Refusal.{Refusal}
 use Rattle.refusal.specs.declared.Refusal.the-variants as refusal
 use Rattle.image.specs.Limits.{headerBytes, rangeBytes, maxEntries}
 use Rattle.image.specs.Header.{rangeCount}
-use Rattle.image.specs.Ranges.{rangeAt, classIn}
+use Rattle.image.specs.Ranges.{rangeAt}
 use Rattle.image.specs.Profile.{profileOf, roleOf, afterRole}
 use Rattle.image.specs.Check.{refusalOf, checkOf, rangeClass, classOf}
 use Rattle.image.specs.declared.Profile.{Profile}
@@ -21,11 +21,10 @@ use Rattle.image.specs.declared.Answer.the-variants as answer
 use Rattle.image.specs.declared.Checked.{Checked}
 use Rattle.image.proofs.ImageLaws.{Accepted, accepted, says}
 use Rattle.lookup.specs.declared.Probe.{Probe}
-use Rattle.lookup.specs.declared.Found.{Found}
 use Rattle.lookup.specs.declared.Found.the-variants as found
 use Rattle.lookup.specs.Halving.{seekOf}
 use Rattle.lookup.specs.Stretch.{GoodRanges}
-use Rattle.lookup.specs.Lookup.{pickFound, foundIn, lookupBy, lookupOf}
+use Rattle.lookup.specs.Lookup.{pickFound, lookupBy, lookupOf}
 use Rattle.lookup.proofs.HalvingLaws.{seek-thirteen}
 use Rattle.lookup.proofs.ClassLaws.{seek-class, class-known}
 

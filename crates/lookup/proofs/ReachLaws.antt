@@ -1,7 +1,7 @@
 -- Stretches cut at the entries of a profile, entry by entry; every number of a reach has its role and its class after the profile.
 -- Assumes nothing.
 use Prim.Native.Nat.{ℕ, _+_, _≤_, _<_}
-use mathlib.Core.Path.{_≡_, refl, sym, ap, _∙_}
+use mathlib.Core.Path.{_≡_, refl, sym, _∙_}
 use mathlib.Core.List.{List}
 use native.Mathlib.Omega.{arith}
 use native.Mathlib.Decide.{decLt}
@@ -16,7 +16,7 @@ use Rattle.lookup.specs.declared.Stretch.{Stretch}
 use Rattle.lookup.specs.declared.Reach.{Reach}
 use Rattle.lookup.specs.Lookup.{profileBy}
 use Rattle.lookup.specs.Stretch.{StretchOf}
-use Rattle.lookup.specs.Reach.{PartOf, CutBy, CutOf, ReachOf}
+use Rattle.lookup.specs.Reach.{CutBy, CutOf, ReachOf}
 use Rattle.lookup.proofs.RoleLaws.{named}
 
 module _ (points : List ℕ) (x : ℕ) (s : Stretch) where

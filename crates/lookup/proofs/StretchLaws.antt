@@ -1,9 +1,8 @@
 -- The place of a number among the ranges, step by step, and the stretch at its place. Assumes nothing.
 use Prim.Native.Nat.{ℕ, _+_, _-_, _/_, _≤_, _<_}
-use mathlib.Core.Path.{_≡_, sym, ap, _∙_}
+use mathlib.Core.Path.{_≡_}
 use native.Mathlib.Omega.{arith}
 use Rattle.image.specs.declared.Range.{Range}
-use Rattle.lookup.specs.declared.Stretch.{Stretch}
 use Rattle.lookup.specs.Stretch.{GoodRanges, Passed, Placed, StretchOf}
 use Rattle.lookup.proofs.ClassLaws.{class-held, class-gap}
 

@@ -9,7 +9,7 @@ use borrow.Author.Tests.{eqb-true, eq-eqb}
 use Rattle.lists.proofs.BoolLaws.{or-cases}
 use Rattle.utf8.specs.Scalar.{pickB}
 use Rattle.image.specs.Class.{Class, classNumber, classNamed}
-use Rattle.pair.specs.Change.{
+use Rattle.image.specs.Permitted.{
   Permitted,
   same,
   unassigned-start,
@@ -18,9 +18,8 @@ use Rattle.pair.specs.Change.{
   other-start,
   other-nonstart,
   nonstart-start,
-  isContinueClass,
-  permitted,
 }
+use Rattle.pair.specs.Change.{isContinueClass, permitted}
 
 abbrev Named : ℕ → ℕ → Type 0
 Named a b = Permitted (classNamed a) (classNamed b)

@@ -22,13 +22,13 @@ and-none false = refl
 
 -- both images are at x, and no code point before it has a forbidden change
 pub record Clear (older newer : List ℕ) (n m x i j : ℕ) : Type 0 where
-  pub was : Walk older n i x
-  pub is : Walk newer m j x
+  pub older-at : Walk older n i x
+  pub newer-at : Walk newer m j x
   pub below : x ≤ codePoints
   pub none : (y : ℕ) → y < x → forbiddenAt older newer y ≡ false
 
 pub clear-begin : (older newer : List ℕ) (n m : ℕ) → Walk older n 0 0 → Walk newer m 0 0 → Clear older newer n m 0 0 0
-clear-begin older newer n m w v = record { was = w; is = v; below = omega arith; none = λ y l. absurd (omega arith) }
+clear-begin older newer n m w v = record { older-at = w; newer-at = v; below = omega arith; none = λ y l. absurd (omega arith) }
 
 pub clear-end : (older newer : List ℕ) (n m x i j : ℕ) → Clear older newer n m x i j → codePoints ≤ x → x ≡ firstForbidden older newer
 unfolding firstForbidden
@@ -40,12 +40,12 @@ module _ (older newer : List ℕ) (n m x i j : ℕ) (p : n ≡ rangeCount older)
   -- the step's classes are those of its code points
   changes : (y : ℕ) → x ≤ y → y ≤ r .last → permitted (rangeClass older y) (rangeClass newer y) ≡ permitted (r .older) (r .newer)
   unfolding rangeClass
-  changes y l u = rw (← p, ← q, t .wasOne y l u, t .isOne y l u)
+  changes y l u = rw (← p, ← q, t .older-same y l u, t .newer-same y l u)
 
   pub clear-next : permitted (r .older) (r .newer) ≡ true → Clear older newer n m (r .last + 1) (r .i) (r .j)
   unfolding forbiddenAt
   clear-next e =
-      record { was = t .onOlder; is = t .onNewer; below = (let b = t .to in omega arith); none = λ y u. go y u (decLt y x) }
+      record { older-at = t .older-next; newer-at = t .newer-next; below = (let b = t .to in omega arith); none = λ y u. go y u (decLt y x) }
     where
       go : (y : ℕ) → y < r .last + 1 → Dec (y < x) → forbiddenAt older newer y ≡ false
       go y u (yes l) = c .none y l
@@ -56,8 +56,8 @@ module _ (older newer : List ℕ) (n m x i j : ℕ) (p : n ≡ rangeCount older)
   unfolding permitted
   scalar e true h = refl
   scalar e false h =
-      let z = sym (t .wasOne x (omega arith) (t .from)) ∙ class-scalar (rangeAt older) n (c .was .good) x h in
-      let w = sym (t .isOne x (omega arith) (t .from)) ∙ class-scalar (rangeAt newer) m (c .is .good) x h in
+      let z = sym (t .older-same x (omega arith) (t .from)) ∙ class-scalar (rangeAt older) n (c .older-at .good) x h in
+      let w = sym (t .newer-same x (omega arith) (t .from)) ∙ class-scalar (rangeAt newer) m (c .newer-at .good) x h in
       absurd (true≢false (simp (z, w) at e))
 
   pub clear-here : permitted (r .older) (r .newer) ≡ false → x ≡ firstForbidden older newer

@@ -5,6 +5,7 @@ use mathlib.Core.List.{List}
 use mathlib.Core.Option.{none}
 use native.Mathlib.Omega.{arith}
 use lib.ListN.{length}
+use Rattle.image.specs.Limits.{maxRanges, maxEntries}
 use Rattle.image.specs.Header.{rangeCount, entryCount, imageEnd}
 use Rattle.image.specs.Check.{refusalOf}
 use Rattle.image.proofs.ImageLaws.{accepted}
@@ -19,11 +20,11 @@ walk-begins s n e p =
     record {
       room = omega arith;
       good = rw p (a .ranges);
-      place = record { within = omega arith; passed = λ l. absurd (omega arith); reached = λ l. omega arith };
+      place = record { passed = record { within = omega arith; before = λ l. absurd (omega arith) }; reached = λ l. omega arith };
     }
 
 -- the header, the ranges and the entries fill the image
-pub filled : (s : List ℕ) (n : ℕ) → refusalOf s ≡ none → n ≡ rangeCount s → (length s ≡ imageEnd n (entryCount s)) × (entryCount s ≤ 64) × (n ≤ 4096)
+pub filled : (s : List ℕ) (n : ℕ) → refusalOf s ≡ none → n ≡ rangeCount s → (length s ≡ imageEnd n (entryCount s)) × (entryCount s ≤ maxEntries) × (n ≤ maxRanges)
 filled s n e p =
     let h = accepted s e .header in
     let a = h .few-ranges in

@@ -9,7 +9,7 @@ use native.Mathlib.Decide.{decLt}
 use lib.Dec.{ltb, eqb, leb}
 use lib.ListN.{replicate}
 use borrow.Author.Tests.{lt-ltb, le-ltb, eq-eqb, eqb-true, ltb-true, ltb-false, leb-true, not-true, not-false}
-use Rattle.lists.specs.First.{firstWhere}
+use Rattle.lists.specs.First.{pickN, firstWhere}
 use Rattle.lists.specs.Each.{each, single, column}
 use Rattle.lists.proofs.BoolLaws.{and-left, and-right, or-false}
 use Rattle.lists.proofs.FirstLaws.{first-is, first-none, first-passed, first-holds}
@@ -21,11 +21,12 @@ use Rattle.image.specs.Class.{classNamed}
 use Rattle.image.specs.Limits.{maxEntries}
 use Rattle.image.specs.Header.{rangeCount, entryCount}
 use Rattle.image.specs.Ranges.{rangeAt}
-use Rattle.image.specs.Profile.{pointAt, roleAt, profileOf, roleOf}
-use Rattle.image.specs.Check.{refusalOf, rangeClass}
+use Rattle.image.specs.Profile.{pointAt, roleAt, profileOf, roleOf, afterRole, isMedial}
+use Rattle.image.specs.Check.{refusalOf, rangeClass, classOf, medialOf}
 use Rattle.image.proofs.ImageLaws.{Accepted, accepted, refused-none}
 use Rattle.lookup.proofs.ClassLaws.{class-known}
-use Rattle.pair.specs.Change.{Permitted, permitted}
+use Rattle.image.specs.Permitted.{Permitted, same}
+use Rattle.pair.specs.Change.{permitted}
 use Rattle.pair.specs.Pair.{
   forbiddenAt,
   codePoints,
@@ -231,7 +232,3 @@ module _ (older newer : List ℕ) where
       let p = column-same (pointAt older) (pointAt newer) (entryCount older) (s .point) in
       let r = column-same (roleAt older) (roleAt newer) (entryCount older) (s .role) in
       rw (p, r, s .count)
-
-  -- so each code point has one role
-  pub roles-equal : SameProfile older newer → (y : ℕ) → roleOf (profileOf older) y ≡ roleOf (profileOf newer) y
-  roles-equal s y = ap (λ p. roleOf p y) (profiles-equal s)

@@ -19,7 +19,11 @@ module _ (s : List ℕ) (n i x : ℕ) (w : Walk s n i x) (h : x ≤ lastCodePoin
       record {
         room = w .room;
         good = w .good;
-        place = record { within = w .place .within; passed = λ p. let q = w .place .passed p in omega arith; reached = f };
+        place =
+            record {
+              passed = record { within = w .place .passed .within; before = λ p. let q = w .place .passed .before p in omega arith };
+              reached = f;
+            };
       }
 
   on : (last next : ℕ) → ((e : ℕ) → x ≤ e → e < last → Walk s n i (e + 1)) → Walk s n next (last + 1) → (e : ℕ) → x ≤ e → e ≤ last → Walk s n (placeAfter last next i e) (e + 1)
@@ -35,7 +39,7 @@ module _ (s : List ℕ) (n i x : ℕ) (w : Walk s n i x) (h : x ≤ lastCodePoin
       record {
         from = h;
         to = omega arith;
-        same = λ y l u. class-gap (rangeAt s) n (w .good) i y (w .place .within) (λ p. let q = w .place .passed p in omega arith) (λ p. absurd (omega arith));
+        same = λ y l u. class-gap (rangeAt s) n (w .good) i y (w .place .passed .within) (λ p. let q = w .place .passed .before p in omega arith) (λ p. absurd (omega arith));
         onward = on _ _ (λ e l u. stay e l (λ p. absurd (omega arith))) (stay lastCodePoint h (λ p. absurd (omega arith)));
       }
 
@@ -48,7 +52,7 @@ module _ (s : List ℕ) (n i x : ℕ) (w : Walk s n i x) (h : x ≤ lastCodePoin
         record {
           from = omega arith;
           to = omega arith;
-          same = λ y l u. class-gap (rangeAt s) n (w .good) i y (w .place .within) (λ q. let t = w .place .passed q in omega arith) (λ q. omega arith);
+          same = λ y l u. class-gap (rangeAt s) n (w .good) i y (w .place .passed .within) (λ q. let t = w .place .passed .before q in omega arith) (λ q. omega arith);
           onward = on _ _ (λ e l u. stay e l (λ q. omega arith)) (stay (rangeAt s i .first - 1) (omega arith) (λ q. omega arith));
         }
 
@@ -78,8 +82,7 @@ module _ (s : List ℕ) (n i x : ℕ) (w : Walk s n i x) (h : x ≤ lastCodePoin
               good = w .good;
               place =
                   record {
-                    within = omega arith;
-                    passed = λ q. rw (let y : i + 1 - 1 ≡ i = omega arith in y) (omega arith);
+                    passed = record { within = omega arith; before = λ q. rw (let y : i + 1 - 1 ≡ i = omega arith in y) (omega arith) };
                     reached = next-follows;
                   };
             }
@@ -102,8 +105,8 @@ both-ahead older newer n m i j x e p q a b f g l u v =
     record {
       from = l .0;
       to = omega arith;
-      wasOne = λ y k h. f .same y k (omega arith);
-      isOne = λ y k h. g .same y k (omega arith);
-      onOlder = rw u (f .onward e (l .0) (l .1));
-      onNewer = rw v (g .onward e (l .0) (l .2));
+      older-same = λ y k h. f .same y k (omega arith);
+      newer-same = λ y k h. g .same y k (omega arith);
+      older-next = rw u (f .onward e (l .0) (l .1));
+      newer-next = rw v (g .onward e (l .0) (l .2));
     }

@@ -13,10 +13,10 @@ use Rattle.image.specs.Check.{refusalOf}
 
 -- two accepted images, of n and m ranges
 pub record Judged (older newer : List ℕ) (n m : ℕ) : Type 0 where
-  pub was : refusalOf older ≡ none
-  pub is : refusalOf newer ≡ none
-  pub ranges : n ≡ rangeCount older
-  pub newRanges : m ≡ rangeCount newer
+  pub older-accepted : refusalOf older ≡ none
+  pub newer-accepted : refusalOf newer ≡ none
+  pub older-ranges : n ≡ rangeCount older
+  pub newer-ranges : m ≡ rangeCount newer
 
 -- the profile entries of s begin at byte a, and there are at least so many
 pub record EntriesFrom (s : List ℕ) (a count : ℕ) : Type 0 where

@@ -33,7 +33,7 @@ pub record AheadOf (s : List ℕ) (n i x : ℕ) (r : Ahead) : Type 0 where
 pub record StepOf (older newer : List ℕ) (n m x : ℕ) (r : Step) : Type 0 where
   pub from : x ≤ r .last
   pub to : r .last ≤ lastCodePoint
-  pub wasOne : (y : ℕ) → x ≤ y → y ≤ r .last → classIn (rangeAt older) n y ≡ r .older
-  pub isOne : (y : ℕ) → x ≤ y → y ≤ r .last → classIn (rangeAt newer) m y ≡ r .newer
-  pub onOlder : Walk older n (r .i) (r .last + 1)
-  pub onNewer : Walk newer m (r .j) (r .last + 1)
+  pub older-same : (y : ℕ) → x ≤ y → y ≤ r .last → classIn (rangeAt older) n y ≡ r .older
+  pub newer-same : (y : ℕ) → x ≤ y → y ≤ r .last → classIn (rangeAt newer) m y ≡ r .newer
+  pub older-next : Walk older n (r .i) (r .last + 1)
+  pub newer-next : Walk newer m (r .j) (r .last + 1)

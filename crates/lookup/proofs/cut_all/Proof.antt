@@ -2,7 +2,6 @@
 use Prim.Native.Nat.{_-_, _≤_, _<_}
 use mathlib.Core.Path.{_≡_}
 use native.Mathlib.Omega.{arith}
-use borrow.Author.Needs.{needs}
 use Rattle.lookup.specs.Reach.{CutOf}
 use Rattle.lookup.proofs.ReachLaws.{cut-none, cut-next}
 use Rattle.lookup.proofs.cut_all.Statement.{statement}

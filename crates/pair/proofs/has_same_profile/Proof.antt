@@ -9,13 +9,13 @@ use Rattle.pair.proofs.has_same_profile.Statement.{statement}
 use Rattle.pair.proofs.has_same_profile.Tie as tie
 
 word-requires : tie.Need-word-requires
-word-requires c κs = let h = c .before .before .pre in let (z, u, v) = filled _ _ (h .was) (h .ranges) in omega arith
+word-requires c κs = let h = c .before .before .pre in let (z, u, v) = filled _ _ (h .older-accepted) (h .older-ranges) in omega arith
 
 cast-count : tie.Need-cast-count
 cast-count c = search needs
 
 word-requires-2 : tie.Need-word-requires-2
-word-requires-2 c κs = let h = c .before .before .before .pre in let (z, u, v) = filled _ _ (h .is) (h .newRanges) in omega arith
+word-requires-2 c κs = let h = c .before .before .before .pre in let (z, u, v) = filled _ _ (h .newer-accepted) (h .newer-ranges) in omega arith
 
 cast-if1 : tie.Need-cast-if1
 cast-if1 c = search needs
@@ -25,19 +25,19 @@ unfolding sameProfile
 returns c = simp (← c .before .before .word .ensures, ← c .before .word2 .ensures, ne-eqb _ _ (c .if1 .taken))
 
 mul-are-entries-same : tie.Need-mul-are-entries-same
-mul-are-entries-same c = let h = c .before .before .before .before .before .pre in let (z, u, v) = filled _ _ (h .was) (h .ranges) in omega arith
+mul-are-entries-same c = let h = c .before .before .before .before .before .pre in let (z, u, v) = filled _ _ (h .older-accepted) (h .older-ranges) in omega arith
 
 add-are-entries-same : tie.Need-add-are-entries-same
-add-are-entries-same c = let h = c .before .before .before .before .before .pre in let (z, u, v) = filled _ _ (h .was) (h .ranges) in omega arith
+add-are-entries-same c = let h = c .before .before .before .before .before .pre in let (z, u, v) = filled _ _ (h .older-accepted) (h .older-ranges) in omega arith
 
 mul-are-entries-same-2 : tie.Need-mul-are-entries-same-2
-mul-are-entries-same-2 c = let h = c .before .before .before .before .before .pre in let (z, u, v) = filled _ _ (h .is) (h .newRanges) in omega arith
+mul-are-entries-same-2 c = let h = c .before .before .before .before .before .pre in let (z, u, v) = filled _ _ (h .newer-accepted) (h .newer-ranges) in omega arith
 
 add-are-entries-same-2 : tie.Need-add-are-entries-same-2
-add-are-entries-same-2 c = let h = c .before .before .before .before .before .pre in let (z, u, v) = filled _ _ (h .is) (h .newRanges) in omega arith
+add-are-entries-same-2 c = let h = c .before .before .before .before .before .pre in let (z, u, v) = filled _ _ (h .newer-accepted) (h .newer-ranges) in omega arith
 
 are-entries-same-requires : tie.Need-are-entries-same-requires
-are-entries-same-requires c κs = let h = c .before .before .before .before .before .pre in (entries-begin _ _ _ (h .was) (h .ranges) (c .before .before .word .ensures), entries-begin _ _ _ (h .is) (h .newRanges) (sym (c .if1 .left) ∙ c .before .word2 .ensures))
+are-entries-same-requires c κs = let h = c .before .before .before .before .before .pre in (entries-begin _ _ _ (h .older-accepted) (h .older-ranges) (c .before .before .word .ensures), entries-begin _ _ _ (h .newer-accepted) (h .newer-ranges) (sym (c .if1 .left) ∙ c .before .word2 .ensures))
 
 returns-2 : tie.Need-returns-2
 unfolding sameProfile

@@ -16,7 +16,7 @@ enum-known-answer-2 : tie.Need-enum-known-answer-2
 enum-known-answer-2 c = search needs
 
 compare-requires : tie.Need-compare-requires
-compare-requires c κs = let t = says _ _ (c .before .before .before .check .ensures) _ (c .before .answer2 .given .1) in record { was = c .before .before .before .before .before .before .pre .0; is = t .0; ranges = c .before .before .before .before .before .before .pre .1; newRanges = t .2 }
+compare-requires c κs = let t = says _ _ (c .before .before .before .check .ensures) _ (c .before .answer2 .given .1) in record { older-accepted = c .before .before .before .before .before .before .pre .0; newer-accepted = t .0; older-ranges = c .before .before .before .before .before .before .pre .1; newer-ranges = t .2 }
 
 returns : tie.Need-returns
 unfolding pairOf
