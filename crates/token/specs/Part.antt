@@ -7,7 +7,8 @@ use lib.ListN.{length, take, drop}
 use lib.Dec.{ltb}
 use Rattle.refusal.specs.declared.Refusal.{Refusal}
 use Rattle.refusal.specs.declared.Refusal.the-variants as refusal
-use Rattle.refusal.specs.Refusal.{numberOf}
+use Rattle.token.specs.declared.Within.{Within}
+use Rattle.token.specs.declared.Within.the-variants.{Refused, Lies}
 
 abbrev pub pickPart : {T : Type 0} → Bool → T → T → T
 pickPart true a b = a
@@ -18,10 +19,10 @@ unfoldable pub partRefusal : List ℕ → ℕ → ℕ → Option Refusal
 partRefusal text start end =
     pickPart (ltb end start) (some refusal.Shape) (pickPart (ltb (length text) end) (some refusal.Shape) none)
 
--- the number of the refusal, or 0
-abbrev pub numberBy : Option Refusal → ℕ
-numberBy none = 0
-numberBy (some r) = numberOf r
+-- the enum's case
+abbrev pub withinBy : Option Refusal → Within
+withinBy none = Lies
+withinBy (some r) = Refused r
 
 -- the part from start to end; empty where it is refused
 abbrev pub partBy : List ℕ → ℕ → ℕ → Option Refusal → List ℕ

@@ -4,10 +4,14 @@ ghost use lib.ListN.{length};
 ghost use Rattle.character.specs.Opened.{Opened};
 ghost use Rattle.division.specs.Reading.{countOf, listOf, listWords};
 ghost use Rattle.scan.specs.Counted.{countedBy};
+ghost use Rattle.token.specs.Taken.{takenOf};
+ghost use Rattle.token.specs.Part.{partRefusal, withinBy, partOf};
 use image::Answer;
 use image::MAX_ENTRIES;
 use refusal::Refusal;
 use scan::Counted;
+use scan::First;
+use scan::RECORD_WORDS;
 
 // The most bytes that a text may have.
 pub const MAX_TEXT: usize = 1048576;
@@ -17,6 +21,12 @@ pub enum Taken {
     Refused(Refusal),
     Done,
     Token { kind: u32, start: usize, end: usize },
+}
+
+// Whether a part lies in a text.
+pub enum Within {
+    Refused(Refusal),
+    Lies,
 }
 
 // The number of a text's tokens, under an image that was checked.
@@ -53,4 +63,129 @@ pub fn count<'a>(image: &'a [u8], text: &'a [u8]) -> Counted
             count_checked(image, ranges, &points, &roles, profile.used, text)
         }
     }
+}
+
+// The list of a text's tokens, written whole, under an image that was checked. After a refusal the buffer is as it was.
+pub fn list_checked<'a>(
+    image: &'a [u8],
+    n: usize,
+    points: &'a [u32; MAX_ENTRIES],
+    roles: &'a [u32; MAX_ENTRIES],
+    used: usize,
+    text: &'a [u8],
+    out: &mut [u32],
+) -> Counted
+    requires { ⌜ Opened (now image) n (now points) (now roles) used ⌝ }
+    ensures { λ r. ⌜ r ≡ countedBy (listOf (now (image .entry)) (now (text .entry)) (length (now (out .entry)))) ⌝ }
+    ensures { λ r. ⌜ now (out .exit) ≡ listWords (now (image .entry)) (now (text .entry)) (now (out .entry)) ⌝ }
+{
+    if MAX_TEXT < text.len() {
+        return Counted::Refused(Refusal::TextLength);
+    }
+    let table = character::fill_table(image, n, points, roles, used);
+    let counted = scan::count_tokens(image, n, points, roles, used, &table, text);
+    match counted {
+        Counted::Refused(r) => Counted::Refused(r),
+        Counted::Tokens(count) => {
+            if out.len() / RECORD_WORDS < count {
+                return Counted::Refused(Refusal::Room(count));
+            }
+            scan::write_tokens(image, n, points, roles, used, &table, text, out);
+            Counted::Tokens(count)
+        }
+    }
+}
+
+// The list of a text's tokens, written whole. After a refusal the buffer is as it was.
+pub fn list<'a>(image: &'a [u8], text: &'a [u8], out: &mut [u32]) -> Counted
+    ensures { λ r. ⌜ r ≡ countedBy (listOf (now (image .entry)) (now (text .entry)) (length (now (out .entry)))) ⌝ }
+    ensures { λ r. ⌜ now (out .exit) ≡ listWords (now (image .entry)) (now (text .entry)) (now (out .entry)) ⌝ }
+{
+    let checked = image::check(image);
+    let answer = checked.answer;
+    match answer {
+        Answer::Refused(r) => Counted::Refused(r),
+        Answer::Accepted { version: _, ranges } => {
+            let profile = checked.profile;
+            let points = profile.points;
+            let roles = profile.roles;
+            list_checked(image, ranges, &points, &roles, profile.used, text, out)
+        }
+    }
+}
+
+// The token at a place, under an image that was checked.
+pub fn take_checked<'a>(
+    image: &'a [u8],
+    n: usize,
+    points: &'a [u32; MAX_ENTRIES],
+    roles: &'a [u32; MAX_ENTRIES],
+    used: usize,
+    text: &'a [u8],
+    place: usize,
+) -> Taken
+    requires { ⌜ Opened (now image) n (now points) (now roles) used ⌝ }
+    ensures { λ r. ⌜ r ≡ takenOf (now (image .entry)) (now (text .entry)) place ⌝ }
+{
+    if MAX_TEXT < text.len() {
+        return Taken::Refused(Refusal::TextLength);
+    }
+    if text.len() < place {
+        return Taken::Refused(Refusal::Shape);
+    }
+    let table = character::fill_table(image, n, points, roles, used);
+    let first = scan::first_token(image, n, points, roles, used, &table, &text[place..]);
+    match first {
+        First::Nothing => Taken::Done,
+        First::IllFormed => Taken::Refused(Refusal::IllFormed(place)),
+        First::NoToken => Taken::Refused(Refusal::Characters(place)),
+        First::Token { kind, end } => Taken::Token {
+            kind,
+            start: place,
+            end: place + end,
+        },
+    }
+}
+
+// The token at a place.
+pub fn take_token<'a>(image: &'a [u8], text: &'a [u8], place: usize) -> Taken
+    ensures { λ r. ⌜ r ≡ takenOf (now (image .entry)) (now (text .entry)) place ⌝ }
+{
+    let checked = image::check(image);
+    let answer = checked.answer;
+    match answer {
+        Answer::Refused(r) => Taken::Refused(r),
+        Answer::Accepted { version: _, ranges } => {
+            let profile = checked.profile;
+            let points = profile.points;
+            let roles = profile.roles;
+            take_checked(image, ranges, &points, &roles, profile.used, text, place)
+        }
+    }
+}
+
+// Whether the part of a text from `start` to `end` lies in it.
+pub fn check_part(text: &[u8], start: usize, end: usize) -> Within
+    ensures { λ r. ⌜ r ≡ withinBy (partRefusal (now (text .entry)) start end) ⌝ }
+{
+    if end < start {
+        return Within::Refused(Refusal::Shape);
+    }
+    if text.len() < end {
+        return Within::Refused(Refusal::Shape);
+    }
+    Within::Lies
+}
+
+// The part of a text from `start` to `end`; the empty part where it doesn't lie in the text.
+pub fn part(text: &[u8], start: usize, end: usize) -> &[u8]
+    ensures { λ r. ⌜ now r ≡ partOf (now (text .entry)) start end ⌝ }
+{
+    if end < start {
+        return &text[..0];
+    }
+    if text.len() < end {
+        return &text[..0];
+    }
+    &text[start..end]
 }
