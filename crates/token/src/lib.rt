@@ -1,11 +1,10 @@
-// The token calls: counting a text's tokens, writing their list, taking one token at a place, and a token's bytes.
+// The token calls: counting a text's tokens, writing their list, and taking one token at a place.
 ghost use mathlib.Core.Path.{_≡_};
 ghost use lib.ListN.{length};
 ghost use Rattle.character.specs.Opened.{Opened};
 ghost use Rattle.division.specs.Reading.{countOf, listOf, listWords};
 ghost use Rattle.scan.specs.Counted.{countedBy};
 ghost use Rattle.token.specs.Taken.{takenOf};
-ghost use Rattle.token.specs.Part.{partRefusal, withinBy, partOf};
 use image::Answer;
 use image::MAX_ENTRIES;
 use refusal::Refusal;
@@ -21,12 +20,6 @@ pub enum Taken {
     Refused(Refusal),
     Done,
     Token { kind: u32, start: usize, end: usize },
-}
-
-// Whether a part lies in a text.
-pub enum Within {
-    Refused(Refusal),
-    Lies,
 }
 
 // The number of a text's tokens, under an image that was checked.
@@ -162,30 +155,4 @@ pub fn take_token<'a>(image: &'a [u8], text: &'a [u8], place: usize) -> Taken
             take_checked(image, ranges, &points, &roles, profile.used, text, place)
         }
     }
-}
-
-// Whether the part of a text from `start` to `end` lies in it.
-pub fn check_part(text: &[u8], start: usize, end: usize) -> Within
-    ensures { λ r. ⌜ r ≡ withinBy (partRefusal (now (text .entry)) start end) ⌝ }
-{
-    if end < start {
-        return Within::Refused(Refusal::Shape);
-    }
-    if text.len() < end {
-        return Within::Refused(Refusal::Shape);
-    }
-    Within::Lies
-}
-
-// The part of a text from `start` to `end`; the empty part where it doesn't lie in the text.
-pub fn part(text: &[u8], start: usize, end: usize) -> &[u8]
-    ensures { λ r. ⌜ now r ≡ partOf (now (text .entry)) start end ⌝ }
-{
-    if end < start {
-        return &text[..0];
-    }
-    if text.len() < end {
-        return &text[..0];
-    }
-    &text[start..end]
 }

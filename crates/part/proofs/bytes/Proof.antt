@@ -1,22 +1,22 @@
--- `token::part` meets its contract. Assumes nothing.
+-- `part::bytes` meets its contract. Assumes nothing.
 use borrow.Author.Tests.{lt-ltb, le-ltb}
-use Rattle.token.specs.Part.{partRefusal, partOf}
+use Rattle.part.specs.Part.{refusalOf, bytesOf}
 use borrow.Author.Needs.{needs}
-use Rattle.token.proofs.part.Statement.{statement}
-use Rattle.token.proofs.part.Tie as tie
+use Rattle.part.proofs.bytes.Statement.{statement}
+use Rattle.part.proofs.bytes.Tie as tie
 
 slice-aggregate-result : tie.Need-slice-aggregate-result
 slice-aggregate-result c = search needs
 
 returns : tie.Need-returns
-unfolding partOf partRefusal
+unfolding bytesOf refusalOf
 returns c = simp (lt-ltb _ _ (c .before .if1 .taken))
 
 slice-aggregate-result-2 : tie.Need-slice-aggregate-result-2
 slice-aggregate-result-2 c = search needs
 
 returns-2 : tie.Need-returns-2
-unfolding partOf partRefusal
+unfolding bytesOf refusalOf
 returns-2 c = simp (le-ltb _ _ (c .before .before .if1 .left), lt-ltb _ _ (c .before .if2 .taken))
 
 part-result-start : tie.Need-part-result-start
@@ -26,11 +26,11 @@ part-result-end : tie.Need-part-result-end
 part-result-end c = search needs
 
 returns-3 : tie.Need-returns-3
-unfolding partOf partRefusal
+unfolding bytesOf refusalOf
 returns-3 c = simp (le-ltb _ _ (c .before .before .if1 .left), le-ltb _ _ (c .before .if2 .left))
 
-pub part-spec : {M : Type 1} → statement M
-part-spec =
+pub bytes-spec : {M : Type 1} → statement M
+bytes-spec =
     tie.close
     (tie.spec
     slice-aggregate-result
