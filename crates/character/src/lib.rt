@@ -112,7 +112,7 @@ pub fn fill_table<'a>(
 }
 
 // The character of `text` at a place before its end, by decoding it.
-fn read_decoded<'a>(
+pub fn read_decoded<'a>(
     image: &'a [u8],
     n: usize,
     points: &'a [u32; MAX_ENTRIES],
