@@ -1,19 +1,17 @@
 -- What each answer of the pair check says of the two images, exactly when. Assumes nothing.
 use Prim.Native.Nat.{ℕ, _-_, _≤_, _<_}
-use mathlib.Core.Path.{_≡_, refl, sym, ap, subst, _∙_}
-use mathlib.Core.List.{List, [], _∷_, _++_}
+use mathlib.Core.Path.{_≡_, refl, sym, subst, _∙_}
+use mathlib.Core.List.{List}
 use mathlib.Core.Bool.{Bool, true, false, true≢false}
 use mathlib.Core.Option.{Option, none, some}
 use native.Mathlib.Omega.{arith}
 use native.Mathlib.Decide.{decLt}
 use lib.Dec.{ltb, eqb, leb}
-use lib.ListN.{replicate}
 use borrow.Author.Tests.{lt-ltb, le-ltb, eq-eqb, eqb-true, ltb-true, ltb-false, leb-true, not-true, not-false}
-use Rattle.lists.specs.First.{pickN, firstWhere}
-use Rattle.lists.specs.Each.{each, single, column}
+use Rattle.lists.specs.First.{firstWhere}
 use Rattle.lists.proofs.BoolLaws.{and-left, and-right, or-false}
 use Rattle.lists.proofs.FirstLaws.{first-is, first-none, first-passed, first-holds}
-use Rattle.lists.proofs.EachLaws.{each-same}
+use Rattle.lists.proofs.EachLaws.{column-same}
 use Rattle.utf8.specs.Scalar.{isScalar}
 use Rattle.refusal.specs.declared.Refusal.{Refusal}
 use Rattle.refusal.specs.declared.Refusal.the-variants as refusal
@@ -21,11 +19,11 @@ use Rattle.image.specs.Class.{classNamed}
 use Rattle.image.specs.Limits.{maxEntries}
 use Rattle.image.specs.Header.{rangeCount, entryCount}
 use Rattle.image.specs.Ranges.{rangeAt}
-use Rattle.image.specs.Profile.{pointAt, roleAt, profileOf, roleOf, afterRole, isMedial}
-use Rattle.image.specs.Check.{refusalOf, rangeClass, classOf, medialOf}
+use Rattle.image.specs.Profile.{pointAt, roleAt, profileOf}
+use Rattle.image.specs.Check.{refusalOf, rangeClass}
 use Rattle.image.proofs.ImageLaws.{Accepted, accepted, refused-none}
 use Rattle.lookup.proofs.ClassLaws.{class-known}
-use Rattle.image.specs.Permitted.{Permitted, same}
+use Rattle.image.specs.Permitted.{Permitted}
 use Rattle.pair.specs.Change.{permitted}
 use Rattle.pair.specs.Pair.{
   forbiddenAt,
@@ -221,14 +219,9 @@ module _ (older newer : List ℕ) where
       compared both ∙ simp (profile-same s, e)
 
   -- equal profile sections give equal profile records
-  column-same : (f g : ℕ → ℕ) (m : ℕ) → ((i : ℕ) → i < m → f i ≡ g i) → column maxEntries f m ≡ column maxEntries g m
-  unfolding column each
-  column-same f g m e =
-      ap (λ (l : List ℕ). l ++ replicate (maxEntries - m) 0) (each-same (single f) (single g) m 0 (λ j l u. ap (λ (v : ℕ). v ∷ []) (e j (omega arith))))
-
   pub profiles-equal : SameProfile older newer → profileOf older ≡ profileOf newer
   unfolding profileOf
   profiles-equal s =
-      let p = column-same (pointAt older) (pointAt newer) (entryCount older) (s .point) in
-      let r = column-same (roleAt older) (roleAt newer) (entryCount older) (s .role) in
+      let p = column-same maxEntries (pointAt older) (pointAt newer) (entryCount older) (s .point) in
+      let r = column-same maxEntries (roleAt older) (roleAt newer) (entryCount older) (s .role) in
       rw (p, r, s .count)

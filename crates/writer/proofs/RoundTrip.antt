@@ -1,16 +1,16 @@
 -- Demand 2: an image that was written reads back as what was written, and an accepted image is the only one for its version, ranges
 -- and profile. Over the definitions alone. Assumes nothing.
-use Prim.Native.Nat.{ℕ, zero, suc, _+_, _-_, _*_, _/_, _%_, _≤_, _<_}
+use Prim.Native.Nat.{ℕ, _+_, _-_, _*_, _/_, _%_, _≤_, _<_}
 use mathlib.Core.Path.{_≡_, refl, sym, ap, subst, _∙_}
-use mathlib.Core.List.{List, [], _∷_, _++_, append-nil}
+use mathlib.Core.List.{List, [], _∷_, _++_}
 use mathlib.Core.Bool.{true}
 use mathlib.Core.Option.{Option, none}
 use native.Mathlib.Omega.{arith}
-use lib.ListN.{length, take, drop, getD, length-drop, take-append-drop, replicate, List·getD-append}
-use lib.Seq.{getD-drop, getD-append-add, take-at, take-all, drop-drop}
-use Rattle.lists.specs.Each.{each, eachFrom, single, column}
+use lib.ListN.{length, take, drop, getD, length-drop, take-append-drop, List·getD-append}
+use lib.Seq.{getD-append-add, take-at, take-all, drop-drop}
+use Rattle.lists.specs.Each.{each, eachFrom}
 use Rattle.lists.specs.Laid.{laid}
-use Rattle.lists.proofs.EachLaws.{drop-each, each-same, length-each, length-singles, column-at}
+use Rattle.lists.proofs.EachLaws.{each-at, each-same, length-each, column-at, column-past}
 use borrow.Author.Tests.{le-ltb}
 use Rattle.refusal.specs.declared.Refusal.{Refusal}
 use Rattle.image.specs.declared.Range.{Range}
@@ -35,30 +35,6 @@ pub record SameEntries (p q : Profile) : Type 0 where
   pub count : p .used ≡ q .used
   pub point : (i : ℕ) → i < p .used → pointIn p i ≡ pointIn q i
   pub role : (i : ℕ) → i < p .used → roleIn p i ≡ roleIn q i
-
--- what stands at a place of records of w values each
-each-at : (f : ℕ → List ℕ) (w : ℕ) → ((i : ℕ) → length (f i) ≡ w) → (n i j : ℕ) → i < n → j < w → getD (each f n) (w * i + j) 0 ≡ getD (f i) j 0
-each-at f w long n i j h l =
-    let z = long i in
-    sym (getD-drop (w * i) (each f n) j 0)
-    ∙ ap (λ (x : List ℕ). getD (drop (w * i) x) j 0) (sym (append-nil (each f n)))
-    ∙ ap (λ (x : List ℕ). getD x j 0) (drop-each f w long n i h [])
-    ∙ List·getD-append (f i) (eachFrom f (n - suc i) (suc i) ++ []) 0 j (omega arith)
-
--- past the entries a column is zero
-getD-zero : (k i : ℕ) → _≡_ {A = ℕ} (getD (replicate k 0) i 0) 0
-getD-zero zero i = refl
-getD-zero (suc k) zero = refl
-getD-zero (suc k) (suc i) = getD-zero k i
-
-column-past : (size : ℕ) (f : ℕ → ℕ) (m i : ℕ) → m ≤ i → getD (column size f m) i 0 ≡ 0
-unfolding column
-column-past size f m i h =
-    let l = length-singles size f m in
-    let z : i ≡ length (each (single f) m) + (i - m) = omega arith in
-    ap (λ (k : ℕ). getD (each (single f) m ++ replicate (size - m) 0) k 0) z
-    ∙ getD-append-add (each (single f) m) (replicate (size - m) 0) (i - m) 0
-    ∙ getD-zero (size - m) (i - m)
 
 good-range-same : (f g : ℕ → Range) (i : ℕ) → f i ≡ g i → f (i - 1) ≡ g (i - 1) → goodRange f i ≡ goodRange g i
 unfolding goodRange
