@@ -1,18 +1,18 @@
 -- What the answers of checking and reading an image say of its bytes, each refusal exactly when. Assumes nothing.
-use Prim.Native.Nat.{ℕ, _+_, _-_, _*_, _/_, _≤_, _<_}
+use Prim.Native.Nat.{ℕ, _+_, _-_, _*_, _/_, _≤_}
 use mathlib.Core.Path.{_≡_, refl, sym, ap, subst, _∙_}
 use mathlib.Core.List.{List, [], _∷_}
-use mathlib.Core.Bool.{Bool, true, false, not, _&&_, _||_}
+use mathlib.Core.Bool.{Bool, true, false, _&&_, _||_}
 use mathlib.Core.Option.{Option, none, some}
 use native.Mathlib.Omega.{arith}
 use lib.ListN.{length}
 use lib.Dec.{leb, ltb, eqb}
-use borrow.Author.Tests.{leb-true, eqb-true, ltb-true, ltb-false, le-leb, eq-eqb, lt-ltb, le-ltb, not-true, not-false}
-use Rattle.lists.specs.First.{firstWhere}
+use borrow.Author.Tests.{leb-true, eqb-true, ltb-true, ltb-false, le-leb, eq-eqb, lt-ltb, le-ltb}
+use Rattle.lists.specs.First.{AllGood, FirstBad}
 use Rattle.lists.specs.Each.{each}
 use Rattle.lists.specs.Laid.{laid}
 use Rattle.lists.proofs.BoolLaws.{and-left, and-right}
-use Rattle.lists.proofs.FirstLaws.{first-passed, first-holds, first-is, first-none}
+use Rattle.lists.proofs.FirstLaws.{first-bad, all-good, first-is-bad, first-is-none}
 use Rattle.refusal.specs.declared.Refusal.{Refusal}
 use Rattle.refusal.specs.declared.Refusal.the-variants as refusal
 use Rattle.utf8.specs.Scalar.{isScalar}
@@ -122,50 +122,22 @@ and-last true true c d = refl
 and-last true false c d = refl
 and-last false b c d = refl
 
+-- an entry is good by itself, and after the entry before it
+pub entry-parts :
+    (point role : ℕ → ℕ) (i : ℕ) → goodEntry point role i ≡ ((isScalar (point i) && (leb 1 (role i) && leb (role i) 4)) && (eqb i 0 || ltb (point (i - 1)) (point i)))
+unfolding goodEntry
+entry-parts point role i = and-last (isScalar (point i)) (leb 1 (role i)) (leb (role i) 4) (eqb i 0 || ltb (point (i - 1)) (point i))
+
 pub entry-tests :
     (point role : ℕ → ℕ) (i p r : ℕ) → p ≡ point i → r ≡ role i
     → goodEntry point role i ≡ ((isScalar p && (leb 1 r && leb r 4)) && (eqb i 0 || ltb (point (i - 1)) p))
-unfolding goodEntry
-entry-tests point role i p r e f =
-    rw (e, f) (and-last (isScalar (point i)) (leb 1 (role i)) (leb (role i) 4) (eqb i 0 || ltb (point (i - 1)) (point i)))
-
--- good at every index below n
-abbrev pub AllGood : (ℕ → Bool) → ℕ → Type 0
-AllGood good n = (i : ℕ) → i < n → good i ≡ true
-
--- i of n is the first index that isn't good
-pub record FirstBad (good : ℕ → Bool) (n i : ℕ) : Type 0 where
-  pub within : i < n
-  pub bad : good i ≡ false
-  pub before : AllGood good i
+entry-tests point role i p r e f = rw (e, f) (entry-parts point role i)
 
 -- an accepted image
 pub record Accepted (s : List ℕ) : Type 0 where
   pub header : Headed s
   pub ranges : AllGood (goodRange (rangeAt s)) (rangeCount s)
   pub entries : AllGood (goodEntry (pointAt s) (roleAt s)) (entryCount s)
-
-module _ (good : ℕ → Bool) (n : ℕ) where
-  abbrev first : ℕ
-  first = firstWhere (λ (i : ℕ). not (good i)) n
-
-  first-bad : first < n → FirstBad good n first
-  first-bad l =
-      record {
-        within = l;
-        bad = not-true _ (first-holds (λ (i : ℕ). not (good i)) n l);
-        before = λ x u. not-false _ (first-passed (λ (i : ℕ). not (good i)) n x u);
-      }
-
-  all-good : n ≤ first → AllGood good n
-  all-good l i u = not-false _ (first-passed (λ (i : ℕ). not (good i)) n i (omega arith))
-
-  first-is-bad : (i : ℕ) → FirstBad good n i → first ≡ i
-  first-is-bad i h =
-      first-is (λ (i : ℕ). not (good i)) n i (h .within) (ap not (h .bad)) (λ x u. ap not (h .before x u))
-
-  first-is-none : AllGood good n → first ≡ n
-  first-is-none h = first-none (λ (i : ℕ). not (good i)) n (λ x u. ap not (h x u))
 
 -- what is so exactly where an image has this refusal of 1 to 4, or none
 abbrev pub Because : List ℕ → Option Refusal → Type 0

@@ -2,16 +2,16 @@
 use Prim.Native.Nat.{ℕ, _%_, _≤_, _<_}
 use mathlib.Core.Path.{_≡_, refl, sym, ap, subst, _∙_}
 use mathlib.Core.List.{List}
-use mathlib.Core.Bool.{Bool, true, false, not}
+use mathlib.Core.Bool.{Bool, true, false}
 use mathlib.Core.Logic.{_⊎_, inl, inr}
 use mathlib.Core.Option.{Option, none, some}
 use native.Mathlib.Omega.{arith}
 use lib.ListN.{length}
 use lib.Dec.{leb, ltb, eqb}
-use borrow.Author.Tests.{leb-true, leb-false, eqb-true, eqb-false, ltb-true, ltb-false, le-leb, lt-leb, eq-eqb, ne-eqb, lt-ltb, le-ltb, not-true, not-false}
-use Rattle.lists.specs.First.{firstWhere}
+use borrow.Author.Tests.{leb-true, leb-false, eqb-true, eqb-false, ltb-true, ltb-false, le-leb, lt-leb, eq-eqb, ne-eqb, lt-ltb, le-ltb}
+use Rattle.lists.specs.First.{AllGood, FirstBad}
 use Rattle.lists.specs.Laid.{laid}
-use Rattle.lists.proofs.FirstLaws.{first-passed, first-holds, first-is, first-none}
+use Rattle.lists.proofs.FirstLaws.{first-bad, all-good, first-is-bad, first-is-none}
 use Rattle.refusal.specs.declared.Refusal.{Refusal}
 use Rattle.refusal.specs.declared.Refusal.the-variants as refusal
 use Rattle.image.specs.declared.Profile.{Profile}
@@ -20,7 +20,6 @@ use Rattle.image.specs.Ranges.{rangeIn, goodRange, firstBadRange}
 use Rattle.image.specs.Profile.{pointIn, roleIn, goodEntry, firstBadEntry}
 use Rattle.image.specs.Image.{imageOf}
 use Rattle.image.specs.Check.{pickRefusal, refuseAt}
-use Rattle.image.proofs.ImageLaws.{AllGood, FirstBad}
 use Rattle.writer.specs.declared.Written.{Written}
 use Rattle.writer.specs.declared.Written.the-variants as written
 use Rattle.writer.specs.Write.{rangesIn, bytesNeeded, writeRefusal, writtenBy, writeOf, bytesBy, bytesAfter}
@@ -54,28 +53,6 @@ Because words p room (some (refusal.Change x)) = ⊥
 Because words p room (some refusal.Profiles) = ⊥
 Because words p room (some (refusal.Buffer k)) = Writable words p × (k ≡ bytesNeeded words p) × (room < k)
 Because words p room (some refusal.Shape) = length words % 3 ≡ 0 → ⊥
-
-module _ (good : ℕ → Bool) (n : ℕ) where
-  abbrev first : ℕ
-  first = firstWhere (λ (i : ℕ). not (good i)) n
-
-  first-bad : first < n → FirstBad good n first
-  first-bad l =
-      record {
-        within = l;
-        bad = not-true _ (first-holds (λ (i : ℕ). not (good i)) n l);
-        before = λ x u. not-false _ (first-passed (λ (i : ℕ). not (good i)) n x u);
-      }
-
-  all-good : n ≤ first → AllGood good n
-  all-good l i u = not-false _ (first-passed (λ (i : ℕ). not (good i)) n i (omega arith))
-
-  first-is-bad : (i : ℕ) → FirstBad good n i → first ≡ i
-  first-is-bad i h =
-      first-is (λ (i : ℕ). not (good i)) n i (h .within) (ap not (h .bad)) (λ x u. ap not (h .before x u))
-
-  first-is-none : AllGood good n → first ≡ n
-  first-is-none h = first-none (λ (i : ℕ). not (good i)) n (λ x u. ap not (h x u))
 
 module _ (words : List ℕ) (p : Profile) (room : ℕ) where
   abbrev badRange : ℕ

@@ -1,6 +1,6 @@
 -- `writer::is_good_entry` meets its contract. Assumes nothing.
 use borrow.Author.Tests.{eq-eqb, ne-eqb}
-use Rattle.writer.proofs.JudgeLaws.{entry-parts}
+use Rattle.image.proofs.ImageLaws.{entry-parts}
 use borrow.Author.Needs.{needs}
 use Rattle.writer.proofs.is_good_entry.Statement.{statement}
 use Rattle.writer.proofs.is_good_entry.Tie as tie
