@@ -13,7 +13,7 @@ use Rattle.utf8.specs.declared.Step.the-variants.{Scalar, IllFormed, End
 use Rattle.utf8.specs.declared.Text.{Text}
 use Rattle.utf8.specs.declared.Text.the-variants as text
 use Rattle.utf8.specs.Scalar.{isScalar}
-use Rattle.utf8.specs.Table.{Sequence, codePoint}
+use Rattle.utf8.specs.Table.{codePoint}
 use Rattle.utf8.specs.Head.{stepOf}
 use Rattle.utf8.specs.Text.{
   Character,

@@ -1,6 +1,6 @@
 -- `utf8::decode` meets its contract: nothing is left, or a byte below 80, or what the lead of the first byte asks for.
 -- Assumes nothing.
-use mathlib.Core.Path.{_≡_, sym, ap, _∙_}
+use mathlib.Core.Path.{sym, ap, _∙_}
 use Prim.Native.Nat.{ℕ}
 use lib.ListN.{getD}
 use native.Mathlib.Omega.{arith}
