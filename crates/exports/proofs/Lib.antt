@@ -1,0 +1,2 @@
+mod ReplyLaws
+mod OpenedLaws

@@ -1,0 +1,29 @@
+-- `exports::refuse` meets its contract. Assumes nothing.
+use Prim.Native.Nat.{ℕ}
+use mathlib.Core.Path.{_∙_}
+use mathlib.Core.List.{[], _∷_}
+use borrow.Author.Needs.{needs}
+use Rattle.exports.proofs.ReplyLaws.{one-carried}
+use Rattle.exports.proofs.refuse.Statement.{statement}
+use Rattle.exports.proofs.refuse.Tie as tie
+
+carried-requires : tie.Need-carried-requires
+carried-requires c κs = search needs
+
+put-requires : tie.Need-put-requires
+put-requires c κs = search needs
+
+number-requires : tie.Need-number-requires
+number-requires c κs = search needs
+
+returns : tie.Need-returns
+returns c =
+    let a = c .before .before .before .before .args in
+    let e = c .before .before .carried .ensures in
+    record {
+      number = c .number .ensures;
+      values = c .before .put .ensures ∙ (λ d. e d ∷ one-carried (a .r) d ∷ a .which ∷ 0 ∷ []);
+    }
+
+pub refuse-spec : {M : Type 1} → statement M
+refuse-spec = tie.close (tie.spec carried-requires put-requires number-requires returns)

@@ -1,0 +1,5 @@
+pub mod TraitLaws
+pub mod RestLaws
+pub mod CountLaws
+pub mod WriteLaws
+pub mod FirstTokenLaws

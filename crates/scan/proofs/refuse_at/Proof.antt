@@ -1,0 +1,64 @@
+-- `scan::refuse_at` meets its contract. Assumes nothing.
+use Prim.Native.Nat.{ℕ}
+use mathlib.Core.Path.{_≡_, sym, ap, _∙_}
+use native.Mathlib.Omega.{arith}
+use borrow.Author.Needs.{needs}
+use lib.ListN.{length, drop, length-drop}
+use Rattle.lists.proofs.LaidLaws.{rest}
+use Rattle.utf8.specs.declared.Text.{Text}
+use Rattle.utf8.specs.Text.{textOf}
+use Rattle.scan.specs.Counted.{stopRefusal}
+use Rattle.scan.proofs.CountLaws.{ill-within}
+use Rattle.scan.proofs.refuse_at.Statement.{statement}
+use Rattle.scan.proofs.refuse_at.Tie as tie
+
+-- what the check says of the text from the place on
+formed :
+    (c : tie.After-check-text) (f : Text) → c .check-text .result ≡ f
+    → textOf (drop (c .before .before .before .args .at) (c .before .before .before .args .text .now)) ≡ f
+formed c f e = ap textOf (sym (rest (c .before .before .before .args .text .now) (c .before .before .before .args .at))) ∙ sym (c .check-text .ensures) ∙ e
+
+sub-check-text : tie.Need-sub-check-text
+sub-check-text c = search needs
+
+part-check-text-start : tie.Need-part-check-text-start
+part-check-text-start c = search needs
+
+part-check-text-end : tie.Need-part-check-text-end
+part-check-text-end c = search needs
+
+check-text-requires : tie.Need-check-text-requires
+check-text-requires c κs = search needs
+
+enum-told : tie.Need-enum-told
+enum-told c = search needs
+
+enum-known-form : tie.Need-enum-known-form
+enum-known-form c = search needs
+
+add-t10 : tie.Need-add-t10
+add-t10 c =
+    let s = c .before .before .before .before .before .before .args .text .now in
+    let at = c .before .before .before .before .before .before .args .at in
+    let w = ill-within (drop at s) _ (formed (c .before .before .before) _ (c .before .form .given .1)) in
+    omega (arith, length-drop at s)
+
+returns : tie.Need-returns
+returns c = ap (stopRefusal _) (sym (formed (c .before .before) _ (c .enum-told .given .1)))
+
+returns-2 : tie.Need-returns-2
+returns-2 c = ap (stopRefusal _) (sym (formed (c .before .before .before) _ (c .before .form .given .1)))
+
+pub refuse-at-spec : {M : Type 1} → statement M
+refuse-at-spec =
+    tie.close
+    (tie.spec
+    sub-check-text
+    part-check-text-start
+    part-check-text-end
+    check-text-requires
+    enum-told
+    enum-known-form
+    add-t10
+    returns
+    returns-2)

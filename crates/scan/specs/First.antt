@@ -1,0 +1,27 @@
+-- The first token of a text (document 01, "Tokens", one token at a place).
+use Prim.Native.Nat.{ℕ}
+use mathlib.Core.List.{List, [], _∷_}
+use Rattle.utf8.specs.declared.Step.{Step}
+use Rattle.utf8.specs.declared.Step.the-variants as step
+use Rattle.utf8.specs.Head.{stepOf}
+use Rattle.utf8.specs.Text.{Character}
+use Rattle.division.specs.Scan.{Tok}
+use Rattle.division.specs.Grammar.{Kind}
+use Rattle.division.specs.Kinds.{kindNumber}
+use Rattle.division.specs.Record.{tokenWidth}
+use Rattle.division.specs.Reading.{tokensOf}
+use Rattle.scan.specs.declared.First.{First}
+use Rattle.scan.specs.declared.First.the-variants.{Nothing, IllFormed, NoToken, Token}
+
+abbrev pub firstIn : List (Tok Character Kind) → First
+firstIn [] = NoToken
+firstIn (t ∷ ts) = Token (kindNumber (t .kind)) (tokenWidth t)
+
+abbrev pub firstBy : List (Tok Character Kind) → Step → First
+firstBy ts (step.Scalar x n) = firstIn ts
+firstBy ts step.IllFormed = IllFormed
+firstBy ts step.End = Nothing
+
+-- by what stands at the front: nothing, an ill-formed place, or a character; then the first token of the text, if one begins there
+unfoldable pub firstOf : List ℕ → List ℕ → First
+firstOf s text = firstBy (tokensOf s text) (stepOf text)

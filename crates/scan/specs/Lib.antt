@@ -1,0 +1,5 @@
+pub mod Traits
+pub mod Rest
+pub mod Counted
+pub mod Words
+pub mod First

@@ -1,0 +1,45 @@
+-- The rules of tokens on numbers: a kind or 0 for none, and the traits of a character (document 01, "Tokens").
+-- `proofs/TraitLaws.antt` joins them to the rules of `division`.
+use Prim.Native.Nat.{ℕ, zero, suc, _%_}
+use mathlib.Core.Bool.{Bool, true, false, _&&_, _||_}
+use mathlib.Core.Option.{Option, none, some}
+use lib.Dec.{leb}
+use Rattle.image.specs.Class.{Class, classNamed}
+use Rattle.division.specs.Grammar.{Kind, identifier, syntax, whitespace}
+use Rattle.division.specs.Kinds.{kindNumber, isContinue, isWhite, kindOfClass}
+
+-- the kind with a number; 0 is none
+abbrev pub kindNamed : ℕ → Option Kind
+kindNamed zero = none
+kindNamed (suc zero) = some identifier
+kindNamed (suc (suc zero)) = some syntax
+kindNamed (suc (suc (suc zero))) = some whitespace
+kindNamed (suc (suc (suc (suc k)))) = none
+
+abbrev pub numberBy : Option Kind → ℕ
+numberBy none = 0
+numberBy (some k) = kindNumber k
+
+-- the class and the medial mark in a character's traits
+abbrev pub classIn : ℕ → Class
+classIn t = classNamed (t % 8)
+
+abbrev pub medialIn : ℕ → Bool
+medialIn t = leb 8 t
+
+unfoldable pub continueIn : ℕ → Bool
+continueIn t = isContinue (classIn t)
+
+-- the kind of token that a character begins
+unfoldable pub kindFor : ℕ → ℕ
+kindFor t = numberBy (kindOfClass (classIn t))
+
+-- whether a token under way goes on with a character; `follows`: a Continue stands right after it
+abbrev pub goesBy : Option Kind → Class → Bool → Bool → Bool
+goesBy none a m follows = false
+goesBy (some identifier) a m follows = isContinue a || (m && follows)
+goesBy (some syntax) a m follows = false
+goesBy (some whitespace) a m follows = isWhite a
+
+unfoldable pub goesOn : ℕ → ℕ → Bool → Bool
+goesOn k t follows = goesBy (kindNamed k) (classIn t) (medialIn t) follows

@@ -1,0 +1,17 @@
+-- The words still to be written, where a token may be under way (document 01, "Tokens").
+use Prim.Native.Nat.{ℕ, zero, suc, _+_}
+use mathlib.Core.List.{List, [], _∷_, _++_}
+use Rattle.utf8.specs.Text.{Character, widthOf}
+use Rattle.division.specs.Scan.{Reading}
+use Rattle.division.specs.Grammar.{Kind}
+use Rattle.division.specs.Record.{recordsFrom, wordsOf}
+
+-- the words of a token: none where there is none
+abbrev pub tokenWords : ℕ → ℕ → ℕ → List ℕ
+tokenWords zero start end = []
+tokenWords (suc k) start end = suc k ∷ start ∷ end ∷ []
+
+-- the words of the token under way, which began at `start`, and of those after it, from the place `at` on
+unfoldable pub wordsFrom : ℕ → ℕ → ℕ → Reading Character Kind → List ℕ
+wordsFrom kind start at w =
+    tokenWords kind start (at + widthOf (w .run)) ++ wordsOf (recordsFrom (at + widthOf (w .run)) (w .tokens))

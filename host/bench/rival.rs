@@ -1,0 +1,173 @@
+//! The reader that a Rust user would write by hand today: the standard
+//! library's UTF-8 check, then a lexer over two-stage tables.
+
+const START: u8 = 1;
+const CONTINUE: u8 = 2;
+const SYNTAX: u8 = 4;
+const WHITE: u8 = 8;
+const MEDIAL: u8 = 16;
+
+const MAX_TEXT: usize = 1_048_576;
+
+/// Why a text is refused.
+#[derive(Clone, Copy, Debug, PartialEq, Eq)]
+pub enum Refused {
+    TooLong,
+    IllFormed(usize),
+    NoToken(usize),
+}
+
+/// The flags of every code point: a block index and blocks of 256, and the
+/// first block again by byte, empty from 80 on.
+pub struct Tables {
+    bytes: [u8; 256],
+    index: Vec<u16>,
+    blocks: Vec<[u8; 256]>,
+}
+
+/// The flags of a class and of being medial.
+fn flags(class: u32, medial: bool) -> u8 {
+    match class {
+        1 => START | CONTINUE,
+        2 => CONTINUE,
+        3 if medial => SYNTAX | MEDIAL,
+        3 => SYNTAX,
+        4 if medial => WHITE | MEDIAL,
+        4 => WHITE,
+        _ if medial => MEDIAL,
+        _ => 0,
+    }
+}
+
+/// The flags of every code point in one flat table.
+fn flat(ranges: &[u32], profile: &[(u32, u32)]) -> Vec<u8> {
+    let mut classes = vec![0; 0x110000];
+    for range in ranges.chunks_exact(3) {
+        classes[range[0] as usize..=range[1] as usize].fill(range[2]);
+    }
+    let mut all: Vec<u8> = classes.iter().map(|&class| flags(class, false)).collect();
+    for &(point, role) in profile {
+        all[point as usize] = match role {
+            1 => flags(1, false),
+            2 => flags(2, false),
+            3 => flags(classes[point as usize], true),
+            _ => flags(5, false),
+        };
+    }
+    all
+}
+
+impl Tables {
+    /// From an accepted image's ranges, three words each, and its profile.
+    pub fn new(ranges: &[u32], profile: &[(u32, u32)]) -> Tables {
+        let mut blocks: Vec<[u8; 256]> = Vec::new();
+        let mut index = Vec::new();
+        for block in flat(ranges, profile).chunks_exact(256) {
+            let number = blocks.iter().position(|known| known == block).unwrap_or_else(|| {
+                blocks.push(block.try_into().unwrap());
+                blocks.len() - 1
+            });
+            index.push(number as u16);
+        }
+        let mut bytes = [0; 256];
+        bytes[..128].copy_from_slice(&blocks[index[0] as usize][..128]);
+        Tables { bytes, index, blocks }
+    }
+
+    /// The flags and length of the code point that begins at the byte; the
+    /// text is well-formed there.
+    #[inline(always)]
+    fn look(&self, text: &[u8], at: usize) -> (u8, usize) {
+        let lead = text[at];
+        if lead < 0x80 {
+            return (self.bytes[lead as usize], 1);
+        }
+        let low = |i: usize| u32::from(text[at + i] & 0x3F);
+        let lead = u32::from(lead);
+        let (point, length) = if lead < 0xE0 {
+            ((lead & 0x1F) << 6 | low(1), 2)
+        } else if lead < 0xF0 {
+            ((lead & 0x0F) << 12 | low(1) << 6 | low(2), 3)
+        } else {
+            ((lead & 0x07) << 18 | low(1) << 12 | low(2) << 6 | low(3), 4)
+        };
+        let block = &self.blocks[self.index[(point >> 8) as usize] as usize];
+        (block[(point & 0xFF) as usize], length)
+    }
+
+    /// The end of the run, from the byte on, of code points with the flag.
+    #[inline(always)]
+    fn run(&self, text: &[u8], mut at: usize, flag: u8) -> usize {
+        loop {
+            while at < text.len() && self.bytes[text[at] as usize] & flag != 0 {
+                at += 1;
+            }
+            if at >= text.len() || text[at] < 0x80 {
+                return at;
+            }
+            let (found, length) = self.look(text, at);
+            if found & flag == 0 {
+                return at;
+            }
+            at += length;
+        }
+    }
+
+    /// The end of the identifier whose first code point ends at the byte.
+    #[inline(always)]
+    fn identifier(&self, text: &[u8], at: usize) -> usize {
+        let mut end = self.run(text, at, CONTINUE);
+        while end < text.len() {
+            let (found, length) = self.look(text, end);
+            if found & MEDIAL == 0 {
+                break;
+            }
+            let group = self.run(text, end + length, CONTINUE);
+            if group == end + length {
+                break;
+            }
+            end = group;
+        }
+        end
+    }
+
+    /// Hands each token's kind, start and end to the taker.
+    #[inline(always)]
+    fn lex(&self, text: &[u8], mut take: impl FnMut(u32, u32, u32)) -> Result<(), Refused> {
+        if text.len() > MAX_TEXT {
+            return Err(Refused::TooLong);
+        }
+        std::str::from_utf8(text).map_err(|error| Refused::IllFormed(error.valid_up_to()))?;
+        let mut at = 0;
+        while at < text.len() {
+            let (found, length) = self.look(text, at);
+            let (kind, end) = if found & START != 0 {
+                (1, self.identifier(text, at + length))
+            } else if found & WHITE != 0 {
+                (3, self.run(text, at + length, WHITE))
+            } else if found & SYNTAX != 0 {
+                (2, at + length)
+            } else {
+                return Err(Refused::NoToken(at));
+            };
+            take(kind, at as u32, end as u32);
+            at = end;
+        }
+        Ok(())
+    }
+
+    /// Counts the text's tokens.
+    pub fn count(&self, text: &[u8]) -> Result<usize, Refused> {
+        let mut count = 0;
+        self.lex(text, |_, _, _| count += 1)?;
+        Ok(count)
+    }
+
+    /// Lists the text's tokens, three words each, in place of what the list
+    /// held; after a refusal it holds the tokens before the place.
+    pub fn list(&self, text: &[u8], list: &mut Vec<u32>) -> Result<usize, Refused> {
+        list.clear();
+        self.lex(text, |kind, start, end| list.extend_from_slice(&[kind, start, end]))?;
+        Ok(list.len() / 3)
+    }
+}

@@ -1,0 +1,176 @@
+//! Texts of 1 MiB to time readers on. They are the same in every run and hold
+//! only identifiers, Pattern_Syntax signs and white space of Unicode 16.0.
+
+use luffinarc_reader::cases::Rng;
+
+/// The length of every text, the longest that is read.
+pub const LENGTH: usize = 1_048_576;
+
+const KEYS: [&str; 24] = [
+    "panel",
+    "valve",
+    "pump_2",
+    "inlet",
+    "outlet",
+    "pressure",
+    "limit_high",
+    "limit_low",
+    "alarm",
+    "delay_ms",
+    "mode",
+    "operator",
+    "shift",
+    "zone4",
+    "sensor",
+    "rate",
+    "level",
+    "tank",
+    "heater",
+    "target",
+    "step",
+    "interval",
+    "display",
+    "language",
+];
+const POLISH: [&str; 24] = [
+    "zawór",
+    "ciśnienie",
+    "wejście",
+    "wyjście",
+    "próg",
+    "górny",
+    "dolny",
+    "alarm",
+    "opóźnienie",
+    "tryb",
+    "łącznik",
+    "żądanie",
+    "źródło",
+    "pętla",
+    "część",
+    "wartość",
+    "grzałka",
+    "krok",
+    "wyświetlacz",
+    "język",
+    "ustawienie",
+    "dźwięk",
+    "światło",
+    "Łódź",
+];
+const WORDS: [&str; 30] = [
+    "panel",
+    "étage",
+    "Größe",
+    "naïve",
+    "źródło",
+    "πίεση",
+    "θερμοκρασία",
+    "όριο",
+    "клапан",
+    "давление",
+    "режим",
+    "تحكم",
+    "ضغط",
+    "שסתום",
+    "לחץ",
+    "दबाव",
+    "सीमा",
+    "ความดัน",
+    "压力",
+    "阀门",
+    "温度",
+    "圧力",
+    "ポンプ",
+    "バルブ",
+    "압력",
+    "밸브",
+    "წნევა",
+    "ճնշում",
+    "ግፊት",
+    "𞤣𞤮𞤼𞥅𞤢𞤤",
+];
+const SIGNS: [&str; 16] =
+    ["=", ";", ",", ".", "(", ")", "{", "}", "+", "«", "»", "→", "≤", "。", "、", "×"];
+
+/// Lines until the text is full; the rest is spaces.
+fn filled(mut line: impl FnMut() -> String) -> String {
+    let mut text = String::with_capacity(LENGTH);
+    loop {
+        let next = line();
+        if text.len() + next.len() > LENGTH {
+            break;
+        }
+        text.push_str(&next);
+    }
+    let rest = LENGTH - text.len();
+    text + &" ".repeat(rest)
+}
+
+/// A settings script in ASCII.
+pub fn ascii() -> String {
+    let mut rng = Rng::new();
+    filled(|| {
+        let (a, b, c) = (*rng.pick(&KEYS), *rng.pick(&KEYS), *rng.pick(&KEYS));
+        match rng.below(6) {
+            0 => format!("[{a}.{b}]\n"),
+            1 => format!("# {a} {b} {c}\n"),
+            2 => format!("    {a} = {{ {b}, {c} }};\n"),
+            3 => format!("if ({a}.{b} <= {c}) {{ {b} += {a}; }}\n"),
+            _ => format!("    {a}_{b} = {c};\n"),
+        }
+    })
+}
+
+/// A settings script with Polish names.
+pub fn polish() -> String {
+    let mut rng = Rng::new();
+    filled(|| {
+        let (a, b, c) = (*rng.pick(&POLISH), *rng.pick(&POLISH), *rng.pick(&POLISH));
+        match rng.below(4) {
+            0 => format!("[{a}.{b}]\n"),
+            1 => format!("# „{a}” {b} {c}\n"),
+            _ => format!("    {a}_{b} = {c};\n"),
+        }
+    })
+}
+
+/// A word of Adlam letters, with marks and digits after the first.
+fn adlam_word(rng: &mut Rng) -> String {
+    let letter = |rng: &mut Rng| char::from_u32(0x1E900 + rng.below(68) as u32).unwrap();
+    let mut word = String::from(letter(rng));
+    for _ in 0..2 + rng.below(7) {
+        word.push(match rng.below(8) {
+            0 => char::from_u32(0x1E944 + rng.below(7) as u32).unwrap(),
+            1 => char::from_u32(0x1E950 + rng.below(10) as u32).unwrap(),
+            _ => letter(rng),
+        });
+    }
+    word
+}
+
+/// A settings script in Adlam: four bytes a letter.
+pub fn adlam() -> String {
+    let mut rng = Rng::new();
+    filled(|| {
+        let (a, b, c) = (adlam_word(&mut rng), adlam_word(&mut rng), adlam_word(&mut rng));
+        format!("{a} {b} = {c};\n")
+    })
+}
+
+/// Words of many scripts, with signs and white space between.
+pub fn mixed() -> String {
+    let mut rng = Rng::new();
+    let blanks = [" ", " ", " ", "  ", "\t", "\n", "\r\n", "\u{200E} ", "\u{2028}"];
+    filled(|| {
+        let word = rng.pick(&WORDS).to_string();
+        let tail = ["", "", "_2", "9"][rng.below(4)];
+        let sign = if rng.below(3) == 0 { *rng.pick(&SIGNS) } else { "" };
+        word + tail + sign + *rng.pick(&blanks)
+    })
+}
+
+/// All texts with their names.
+pub fn all() -> [(&'static str, String); 4] {
+    [("ascii", ascii()), ("polish", polish()), ("adlam", adlam()), ("mixed", mixed())]
+}

@@ -1,0 +1,60 @@
+//! The calls of the static library as they are: a number for an answer, 0 where it is no refusal, and an array of
+//! four numbers for what is answered or carried. They take any arguments, and check the image in each call.
+//!
+//! `include/luffinarc.h` says what the numbers mean. [`Image`](crate::Image) and the functions beside it are the
+//! usual way to make these calls.
+
+use crate::ffi;
+
+pub use crate::ffi::{Answer, Entries};
+
+/// Checks an image; the profile of an accepted one goes to `points` and `roles`.
+pub fn check(image: &[u8], points: &mut Entries, roles: &mut Entries, answer: &mut Answer) -> u32 {
+    // Safety: each pointer is of a reference, with the length of its slice; this holds of all calls here.
+    unsafe { ffi::luffinarc_check(image.as_ptr(), image.len(), points, roles, answer) }
+}
+
+/// Reads an image: its ranges go to `words`, three each, its profile to `points` and `roles`.
+pub fn read(
+    image: &[u8],
+    words: &mut [u32],
+    points: &mut Entries,
+    roles: &mut Entries,
+    answer: &mut Answer,
+) -> u32 {
+    unsafe {
+        let (image, image_len) = (image.as_ptr(), image.len());
+        let (words, words_len) = (words.as_mut_ptr(), words.len());
+        ffi::luffinarc_read(image, image_len, words, words_len, points, roles, answer)
+    }
+}
+
+/// Writes the image of a version, of ranges, three words each, and of the first `used` profile entries.
+pub fn write(
+    version: u32,
+    words: &[u32],
+    points: &Entries,
+    roles: &Entries,
+    used: usize,
+    out: &mut [u8],
+    answer: &mut Answer,
+) -> u32 {
+    unsafe {
+        let (words, words_len) = (words.as_ptr(), words.len());
+        let (out, out_len) = (out.as_mut_ptr(), out.len());
+        ffi::luffinarc_write(version, words, words_len, points, roles, used, out, out_len, answer)
+    }
+}
+
+/// Looks up the class of a number after the profile.
+pub fn lookup(image: &[u8], number: u32, answer: &mut Answer) -> u32 {
+    unsafe { ffi::luffinarc_lookup(image.as_ptr(), image.len(), number, answer) }
+}
+
+/// Checks that the newer image differs from the older only by permitted changes.
+pub fn pair(older: &[u8], newer: &[u8], answer: &mut Answer) -> u32 {
+    unsafe {
+        let (newer, newer_len) = (newer.as_ptr(), newer.len());
+        ffi::luffinarc_pair(older.as_ptr(), older.len(), newer, newer_len, answer)
+    }
+}

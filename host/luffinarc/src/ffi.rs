@@ -1,0 +1,65 @@
+//! The functions of the static library as C sees them; `include/luffinarc.h` documents them.
+
+/// What a call answers, or what its refusal carries.
+pub type Answer = [u64; 4];
+
+/// The code points or the roles of a profile.
+pub type Entries = [u32; 64];
+
+extern "C" {
+    pub fn luffinarc_check(
+        image: *const u8,
+        image_len: usize,
+        points: *mut Entries,
+        roles: *mut Entries,
+        answer: *mut Answer,
+    ) -> u32;
+
+    pub fn luffinarc_read(
+        image: *const u8,
+        image_len: usize,
+        words: *mut u32,
+        words_len: usize,
+        points: *mut Entries,
+        roles: *mut Entries,
+        answer: *mut Answer,
+    ) -> u32;
+
+    pub fn luffinarc_write(
+        version: u32,
+        words: *const u32,
+        words_len: usize,
+        points: *const Entries,
+        roles: *const Entries,
+        used: usize,
+        out: *mut u8,
+        out_len: usize,
+        answer: *mut Answer,
+    ) -> u32;
+
+    pub fn luffinarc_lookup(
+        image: *const u8,
+        image_len: usize,
+        number: u32,
+        answer: *mut Answer,
+    ) -> u32;
+
+    pub fn luffinarc_lookup_checked(
+        image: *const u8,
+        image_len: usize,
+        ranges: usize,
+        points: *const Entries,
+        roles: *const Entries,
+        used: usize,
+        number: u32,
+        answer: *mut Answer,
+    ) -> u32;
+
+    pub fn luffinarc_pair(
+        older: *const u8,
+        older_len: usize,
+        newer: *const u8,
+        newer_len: usize,
+        answer: *mut Answer,
+    ) -> u32;
+}

@@ -1,0 +1,235 @@
+//! Class images: an accepted image, its parts, writing one, and the pair check.
+
+use crate::calls::{self, Answer, Entries};
+use crate::ffi;
+use crate::refusal::{result, PairRefusal, Refusal};
+
+/// The most ranges that an image may have.
+pub const MAX_RANGES: usize = 4096;
+
+/// The most profile entries that an image may have.
+pub const MAX_ENTRIES: usize = 64;
+
+/// The bytes of the largest image.
+pub const MAX_IMAGE: usize = 32 + 12 * MAX_RANGES + 8 * MAX_ENTRIES;
+
+/// The class of a code point.
+#[derive(Clone, Copy, Debug, PartialEq, Eq, Hash)]
+pub enum Class {
+    /// In no range.
+    Unassigned = 0,
+    /// May begin an identifier.
+    Start = 1,
+    /// May continue an identifier, not begin one.
+    Nonstart = 2,
+    /// A syntax character.
+    Syntax = 3,
+    /// White space.
+    White = 4,
+    /// Assigned, and none of these.
+    Other = 5,
+}
+
+impl Class {
+    /// The class with this number, if one has it.
+    pub fn from_number(number: u32) -> Option<Class> {
+        match number {
+            0 => Some(Class::Unassigned),
+            1 => Some(Class::Start),
+            2 => Some(Class::Nonstart),
+            3 => Some(Class::Syntax),
+            4 => Some(Class::White),
+            5 => Some(Class::Other),
+            _ => None,
+        }
+    }
+
+    /// The class's number.
+    pub fn number(self) -> u32 {
+        self as u32
+    }
+
+    /// Of a number that the library gave.
+    fn given(number: u64) -> Class {
+        Class::from_number(number as u32).expect("the library gives classes 0 to 5")
+    }
+}
+
+/// Code points from `first` to `last` of one class.
+#[derive(Clone, Copy, Debug, PartialEq, Eq, Hash)]
+pub struct Range {
+    /// The first code point.
+    pub first: u32,
+    /// The last code point.
+    pub last: u32,
+    /// Their class.
+    pub class: Class,
+}
+
+/// A profile: code points with roles. 1 makes a code point Start, 2 Nonstart, 3 marks it medial, 4 makes it Other.
+#[derive(Clone, Copy, Debug)]
+pub struct Profile {
+    points: Entries,
+    roles: Entries,
+    used: usize,
+}
+
+impl Profile {
+    /// The profile with these entries, code point and role. Writing an image judges them: they rise, and there are at
+    /// most [`MAX_ENTRIES`].
+    pub fn new(entries: &[(u32, u32)]) -> Profile {
+        let mut profile = Profile { used: entries.len(), ..Profile::default() };
+        for (i, &(point, role)) in entries.iter().take(MAX_ENTRIES).enumerate() {
+            profile.points[i] = point;
+            profile.roles[i] = role;
+        }
+        profile
+    }
+
+    /// The entries: code point and role.
+    pub fn entries(&self) -> impl Iterator<Item = (u32, u32)> + '_ {
+        let used = self.used.min(MAX_ENTRIES);
+        (0..used).map(|i| (self.points[i], self.roles[i]))
+    }
+}
+
+impl Default for Profile {
+    /// The profile with no entries.
+    fn default() -> Profile {
+        Profile { points: [0; MAX_ENTRIES], roles: [0; MAX_ENTRIES], used: 0 }
+    }
+}
+
+impl PartialEq for Profile {
+    fn eq(&self, other: &Profile) -> bool {
+        self.used == other.used && self.entries().eq(other.entries())
+    }
+}
+
+impl Eq for Profile {}
+
+/// What a lookup gives.
+#[derive(Clone, Copy, Debug, PartialEq, Eq, Hash)]
+pub struct Found {
+    /// The class after the profile.
+    pub class: Class,
+    /// The number of ranges that the search looked at, at most 13.
+    pub looked_at: u32,
+}
+
+/// An accepted image: bytes that were checked once, and are not checked again by the calls on it.
+#[derive(Clone, Debug)]
+pub struct Image<'a> {
+    // What the check gave for these bytes, which stay borrowed: the calls with `_checked` in their name ask for that.
+    bytes: &'a [u8],
+    version: u32,
+    ranges: usize,
+    profile: Profile,
+}
+
+impl<'a> Image<'a> {
+    /// Checks an image.
+    ///
+    /// # Errors
+    ///
+    /// [`Refusal::ImageLength`], [`Refusal::Header`], [`Refusal::Range`] or [`Refusal::ProfileEntry`], the first that
+    /// applies.
+    pub fn check(bytes: &'a [u8]) -> Result<Image<'a>, Refusal> {
+        let mut answer = Answer::default();
+        let mut profile = Profile::default();
+        let number = calls::check(bytes, &mut profile.points, &mut profile.roles, &mut answer);
+        let [version, ranges, used, _] = result(number, answer)?;
+        profile.used = used as usize;
+        Ok(Image { bytes, version: version as u32, ranges: ranges as usize, profile })
+    }
+
+    /// The image's bytes.
+    pub fn as_bytes(&self) -> &'a [u8] {
+        self.bytes
+    }
+
+    /// The version word.
+    pub fn version(&self) -> u32 {
+        self.version
+    }
+
+    /// The profile.
+    pub fn profile(&self) -> &Profile {
+        &self.profile
+    }
+
+    /// The ranges, rising.
+    pub fn ranges(&self) -> Vec<Range> {
+        let mut words = vec![0; 3 * self.ranges];
+        let mut profile = Profile::default();
+        let mut answer = Answer::default();
+        let (points, roles) = (&mut profile.points, &mut profile.roles);
+        let number = calls::read(self.bytes, &mut words, points, roles, &mut answer);
+        assert_eq!(number, 0, "an accepted image is read, and its ranges have room");
+        let range = |w: &[u32]| Range { first: w[0], last: w[1], class: Class::given(w[2].into()) };
+        words.chunks_exact(3).map(range).collect()
+    }
+
+    /// The class of a number after the profile, and how many ranges were looked at.
+    ///
+    /// # Errors
+    ///
+    /// [`Refusal::NotScalar`] for a number that is no scalar value.
+    pub fn lookup(&self, number: u32) -> Result<Found, Refusal> {
+        let mut answer = Answer::default();
+        // Safety: the bytes and what their check gave are together in `self`.
+        let refused = unsafe {
+            ffi::luffinarc_lookup_checked(
+                self.bytes.as_ptr(),
+                self.bytes.len(),
+                self.ranges,
+                &self.profile.points,
+                &self.profile.roles,
+                self.profile.used,
+                number,
+                &mut answer,
+            )
+        };
+        let [class, looked_at, _, _] = result(refused, answer)?;
+        Ok(Found { class: Class::given(class), looked_at: looked_at as u32 })
+    }
+
+    /// The class of a character after the profile.
+    pub fn class(&self, c: char) -> Class {
+        self.lookup(c.into()).expect("a `char` is a scalar value").class
+    }
+}
+
+/// The image of a version, ranges and a profile.
+///
+/// # Errors
+///
+/// [`Refusal::Header`] for too many ranges or entries, [`Refusal::Range`] or [`Refusal::ProfileEntry`] for a bad one.
+pub fn write_image(version: u32, ranges: &[Range], profile: &Profile) -> Result<Vec<u8>, Refusal> {
+    let word = |range: &Range| [range.first, range.last, range.class.number()];
+    let words: Vec<u32> = ranges.iter().flat_map(word).collect();
+    let mut out = vec![0; MAX_IMAGE];
+    let mut answer = Answer::default();
+    let (points, roles) = (&profile.points, &profile.roles);
+    let number = calls::write(version, &words, points, roles, profile.used, &mut out, &mut answer);
+    let [length, _, _, _] = result(number, answer)?;
+    out.truncate(length as usize);
+    Ok(out)
+}
+
+/// Checks that the newer image differs from the older only by changes that Table 1 of UAX #31 permits.
+///
+/// # Errors
+///
+/// The refusal of the older image, else of the newer; [`Refusal::UnequalProfiles`], else
+/// [`Refusal::ForbiddenChange`], of the pair.
+pub fn check_pair(older: &[u8], newer: &[u8]) -> Result<(), PairRefusal> {
+    let mut answer = Answer::default();
+    let number = calls::pair(older, newer, &mut answer);
+    let which = answer[2];
+    result(number, answer).map(|_| ()).map_err(|refusal| match which {
+        1 => PairRefusal::Older(refusal),
+        2 => PairRefusal::Newer(refusal),
+        _ => PairRefusal::Pair(refusal),
+    })
+}

@@ -1,0 +1,26 @@
+//! Reads a profile file: lines `HEX role`, `#` begins a comment.
+
+use crate::ucd::{malformed, read_text};
+use std::path::Path;
+
+/// The code point and role of a line.
+fn entry(line: &str) -> Option<(u32, u32)> {
+    let fields: Vec<&str> = line.split_whitespace().collect();
+    let [digits, role] = fields[..] else { return None };
+    if !digits.bytes().all(|b| b.is_ascii_hexdigit()) || !role.bytes().all(|b| b.is_ascii_digit()) {
+        return None;
+    }
+    Some((u32::from_str_radix(digits, 16).ok()?, role.parse().ok()?))
+}
+
+/// The entries in the file's order; the writer judges them.
+pub fn read(file: &Path) -> Result<Vec<(u32, u32)>, String> {
+    let mut entries = Vec::new();
+    for (i, line) in read_text(file)?.lines().enumerate() {
+        let plain = line.split('#').next().unwrap_or("").trim();
+        if !plain.is_empty() {
+            entries.push(entry(plain).ok_or_else(|| malformed(file, i, line))?);
+        }
+    }
+    Ok(entries)
+}

@@ -1,0 +1,159 @@
+//! Made texts: of tokens, of any bytes, damaged, long.
+
+use super::images::EDGES;
+use super::Rng;
+use crate::image::{Image, NONSTART, OTHER, START, SYNTAX, WHITE};
+use crate::token::MAX_TEXT;
+use crate::utf8::is_scalar;
+
+/// Sequences that Table 3-7 does not have.
+const ILL_FORMED: [&[u8]; 16] = [
+    &[0x80],
+    &[0xBF],
+    &[0xC0, 0x80],
+    &[0xC1, 0xBF],
+    &[0xC3],
+    &[0xE0, 0x80, 0x80],
+    &[0xE0, 0x9F, 0xBF],
+    &[0xE2, 0x82],
+    &[0xED, 0xA0, 0x80],
+    &[0xED, 0xBF, 0xBF],
+    &[0xF0, 0x8F, 0xBF, 0xBF],
+    &[0xF0, 0x9E, 0xA4],
+    &[0xF4, 0x90, 0x80, 0x80],
+    &[0xF5, 0x80, 0x80, 0x80],
+    &[0xFE],
+    &[0xFF],
+];
+
+/// Code points of an image, by what they are after the profile.
+struct Palette {
+    starts: Vec<u32>,
+    continues: Vec<u32>,
+    syntaxes: Vec<u32>,
+    whites: Vec<u32>,
+    medials: Vec<u32>,
+    others: Vec<u32>,
+}
+
+/// Code points worth trying: of some ranges, beside them, of the profile.
+fn candidates(rng: &mut Rng, image: &Image) -> Vec<u32> {
+    let mut points = EDGES.to_vec();
+    points.extend(image.profile.entries().iter().map(|entry| entry.0));
+    let step = 1 + image.ranges.len() / 40;
+    for range in image.ranges.iter().step_by(step) {
+        let inside = range.first + rng.below((range.last - range.first + 1) as usize) as u32;
+        points.extend([
+            range.first,
+            inside,
+            range.last,
+            range.last + 1,
+            range.first.saturating_sub(1),
+        ]);
+    }
+    points.retain(|&point| is_scalar(point));
+    points
+}
+
+fn palette(rng: &mut Rng, image: &Image) -> Palette {
+    let points = candidates(rng, image);
+    let of = |test: &dyn Fn(u32) -> bool| -> Vec<u32> {
+        points.iter().copied().filter(|&point| test(image.class(point))).collect()
+    };
+    Palette {
+        starts: of(&|class| class == START),
+        continues: of(&|class| class == START || class == NONSTART),
+        syntaxes: of(&|class| class == SYNTAX),
+        whites: of(&|class| class == WHITE),
+        others: of(&|class| class == 0 || class == OTHER || class == NONSTART),
+        medials: points.iter().copied().filter(|&point| image.role(point) == 3).collect(),
+    }
+}
+
+fn push(text: &mut Vec<u8>, point: u32) {
+    let c = char::from_u32(point).unwrap();
+    text.extend_from_slice(c.encode_utf8(&mut [0; 4]).as_bytes());
+}
+
+/// Adds so many code points of the list, none if it is empty.
+fn push_from(rng: &mut Rng, text: &mut Vec<u8>, list: &[u32], times: usize) {
+    if !list.is_empty() {
+        (0..times).for_each(|_| push(text, *rng.pick(list)));
+    }
+}
+
+fn push_identifier(rng: &mut Rng, text: &mut Vec<u8>, palette: &Palette) {
+    push_from(rng, text, &palette.starts, 1);
+    let more = if palette.starts.is_empty() { 0 } else { rng.below(5) };
+    push_from(rng, text, &palette.continues, more);
+    while rng.once_in(2) && more > 0 {
+        push_from(rng, text, &palette.medials, 1);
+        let group = 1 + rng.below(3);
+        push_from(rng, text, &palette.continues, group);
+    }
+}
+
+/// A text mostly of tokens; a character may be one that refuses it.
+pub fn token_text(rng: &mut Rng, image: &Image, pieces: usize) -> Vec<u8> {
+    let palette = palette(rng, image);
+    let bad = if rng.once_in(4) { 8 } else { usize::MAX };
+    let mut text = Vec::new();
+    for _ in 0..pieces {
+        let times = 1 + rng.below(3);
+        match rng.below(8) {
+            0..=3 => push_identifier(rng, &mut text, &palette),
+            4 => push_from(rng, &mut text, &palette.syntaxes, 1),
+            5 | 6 => push_from(rng, &mut text, &palette.whites, times),
+            _ if rng.once_in(3) => push_from(rng, &mut text, &palette.medials, 1),
+            _ => {}
+        }
+        if rng.once_in(bad) {
+            push_from(rng, &mut text, &palette.others, 1);
+        }
+    }
+    text
+}
+
+/// At most so many bytes of any kind.
+pub fn random_bytes(rng: &mut Rng, most: usize) -> Vec<u8> {
+    let length = rng.below(most + 1);
+    (0..length).map(|_| rng.word() as u8).collect()
+}
+
+/// A text whose UTF-8 is damaged at a random place.
+pub fn damaged_text(rng: &mut Rng, image: &Image) -> Vec<u8> {
+    let mut text = token_text(rng, image, 12);
+    let place = rng.below(text.len() + 1);
+    match rng.below(5) {
+        0 => text.truncate(place),
+        1 if place < text.len() => text[place] = rng.word() as u8,
+        2 if place < text.len() => drop(text.remove(place)),
+        3 => text.insert(place, rng.word() as u8),
+        _ => drop(text.splice(place..place, rng.pick(&ILL_FORMED).iter().copied())),
+    }
+    text
+}
+
+/// A text about as long as a text may be.
+pub fn long_text(rng: &mut Rng, image: &Image) -> Vec<u8> {
+    let piece = [token_text(rng, image, 40), b" ".to_vec()].concat();
+    let length = MAX_TEXT + 2 - rng.below(4);
+    let mut text = piece.repeat(length / piece.len());
+    text.resize(length, b' ');
+    if rng.once_in(4) {
+        text[length - 1] = 0xFF;
+    }
+    text
+}
+
+pub fn text(rng: &mut Rng, image: &Image) -> Vec<u8> {
+    let pieces = 1 + rng.below(16);
+    match rng.below(16) {
+        0 => vec![],
+        1 => random_bytes(rng, 24),
+        2 | 3 => damaged_text(rng, image),
+        4 if rng.once_in(12) && image.ranges.len() < 100 => long_text(rng, image),
+        5 => token_text(rng, image, 200),
+        _ => token_text(rng, image, pieces),
+    }
+}

@@ -1,0 +1,19 @@
+//! An independent reader of class images and tokens, written from the paper
+//! alone. It is a witness for comparison: simple, not fast.
+
+#![forbid(unsafe_code)]
+
+pub mod calls;
+pub mod cases;
+pub mod image;
+pub mod lister;
+pub mod refusal;
+pub mod token;
+pub mod utf8;
+pub mod vectors;
+
+pub use calls::{Calls, Reader};
+pub use image::{check, lookup, pair, read, write, Checked, Profile, Read};
+pub use lister::lister;
+pub use refusal::{PairRefusal, Refusal};
+pub use token::{at, count, list, part, Token};

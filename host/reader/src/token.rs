@@ -1,0 +1,145 @@
+//! Tokens: count, list, one token at a place, and a token's bytes.
+
+use crate::image::{parse, Image, NONSTART, START, SYNTAX, WHITE};
+use crate::refusal::Refusal;
+use crate::utf8::decode;
+
+pub const IDENTIFIER_KIND: u32 = 1;
+pub const SYNTAX_KIND: u32 = 2;
+pub const WHITESPACE_KIND: u32 = 3;
+
+pub const MAX_TEXT: usize = 1_048_576;
+
+/// A token: its kind, its first byte and one past its last.
+#[derive(Clone, Copy, Debug, PartialEq, Eq)]
+pub struct Token {
+    pub kind: u32,
+    pub start: usize,
+    pub end: usize,
+}
+
+/// A code point of the text as the grammar sees it.
+struct Unit {
+    start: usize,
+    end: usize,
+    class: u32,
+    medial: bool,
+}
+
+impl Unit {
+    fn is_continue(&self) -> bool {
+        self.class == START || self.class == NONSTART
+    }
+}
+
+/// The units before the first ill-formed place, and that place or the end.
+fn units_of(image: &Image, text: &[u8]) -> (Vec<Unit>, usize) {
+    let (points, end) = decode(text);
+    let unit = |p: &crate::utf8::Placed| Unit {
+        start: p.start,
+        end: p.end,
+        class: image.class(p.point),
+        medial: image.role(p.point) == 3,
+    };
+    (points.iter().map(unit).collect(), end)
+}
+
+/// The length of the run of units, from the front, for which the test holds.
+fn run(units: &[Unit], test: impl Fn(&Unit) -> bool) -> usize {
+    units.iter().take_while(|unit| test(unit)).count()
+}
+
+/// Start Continue* (Medial Continue+)*: the longest from the front, in units.
+fn identifier(units: &[Unit]) -> usize {
+    let mut length = 1 + run(&units[1..], Unit::is_continue);
+    while length < units.len() && units[length].medial {
+        let group = run(&units[length + 1..], Unit::is_continue);
+        if group == 0 {
+            break;
+        }
+        length += 1 + group;
+    }
+    length
+}
+
+/// The kind and length in units of the longest token from the front.
+fn longest(units: &[Unit]) -> Option<(u32, usize)> {
+    match units.first()?.class {
+        START => Some((IDENTIFIER_KIND, identifier(units))),
+        SYNTAX => Some((SYNTAX_KIND, 1)),
+        WHITE => Some((WHITESPACE_KIND, run(units, |unit| unit.class == WHITE))),
+        _ => None,
+    }
+}
+
+/// The text's tokens, or the first of refusals 5 to 7.
+fn tokens(image: &Image, text: &[u8]) -> Result<Vec<Token>, Refusal> {
+    if text.len() > MAX_TEXT {
+        return Err(Refusal::TextLength);
+    }
+    let (units, end) = units_of(image, text);
+    if end < text.len() {
+        return Err(Refusal::IllFormed(end as u64));
+    }
+    let mut tokens = Vec::new();
+    let mut rest = &units[..];
+    while !rest.is_empty() {
+        let start = rest[0].start;
+        let Some((kind, length)) = longest(rest) else {
+            return Err(Refusal::NoToken(start as u64));
+        };
+        tokens.push(Token { kind, start, end: rest[length - 1].end });
+        rest = &rest[length..];
+    }
+    Ok(tokens)
+}
+
+/// Counts the text's tokens.
+pub fn count(image: &[u8], text: &[u8]) -> Result<usize, Refusal> {
+    Ok(tokens(&parse(image)?, text)?.len())
+}
+
+/// Writes the text's tokens to the lent words, three each, and counts them.
+pub fn list(image: &[u8], text: &[u8], words: &mut [u32]) -> Result<usize, Refusal> {
+    let tokens = tokens(&parse(image)?, text)?;
+    if words.len() / 3 < tokens.len() {
+        return Err(Refusal::Room(tokens.len() as u64));
+    }
+    for (i, token) in tokens.iter().enumerate() {
+        let record = [token.kind, token.start as u32, token.end as u32];
+        words[3 * i..3 * i + 3].copy_from_slice(&record);
+    }
+    Ok(tokens.len())
+}
+
+/// The token at a place; nothing if the place is the text's end.
+pub fn at(image: &[u8], text: &[u8], place: usize) -> Result<Option<Token>, Refusal> {
+    let image = parse(image)?;
+    if text.len() > MAX_TEXT {
+        return Err(Refusal::TextLength);
+    }
+    if place > text.len() {
+        return Err(Refusal::Argument);
+    }
+    let (units, q) = units_of(&image, &text[place..]);
+    if q == 0 && place < text.len() {
+        return Err(Refusal::IllFormed(place as u64));
+    }
+    if place == text.len() {
+        return Ok(None);
+    }
+    match longest(&units) {
+        None => Err(Refusal::NoToken(place as u64)),
+        Some((kind, length)) => {
+            Ok(Some(Token { kind, start: place, end: place + units[length - 1].end }))
+        }
+    }
+}
+
+/// The part of the text from start to end.
+pub fn part(text: &[u8], start: usize, end: usize) -> Result<&[u8], Refusal> {
+    if start > end || end > text.len() {
+        return Err(Refusal::Argument);
+    }
+    Ok(&text[start..end])
+}

@@ -1,0 +1,192 @@
+//! The made cases reach every answer, and the reader keeps the demands on them.
+
+use luffinarc_reader::cases::*;
+use luffinarc_reader::image::{parse, write};
+use luffinarc_reader::*;
+
+const RUNS: usize = 4000;
+
+#[test]
+fn made_images() {
+    let mut rng = Rng::new();
+    for _ in 0..RUNS / 4 {
+        for image in [small_image(&mut rng), valid_image(&mut rng)] {
+            assert!(check(&image_of(&image)).is_ok());
+            let other = unequal_profile(&mut rng, &image);
+            let refused = Err(PairRefusal::Pair(Refusal::Profiles));
+            assert_eq!(pair(&image_of(&image), &image_of(&other)), refused);
+        }
+    }
+    let large = check(&image_of(&large_image(&mut rng))).unwrap();
+    assert_eq!((large.ranges, large.entries), (4096, 64));
+}
+
+#[test]
+fn images() {
+    let (mut rng, mut checks, mut reads) = (Rng::seeded(1), Tally::default(), Tally::default());
+    for _ in 0..RUNS {
+        let case = check_case(&mut rng);
+        checks.add(&check(&case.image));
+        let case = read_case(&mut rng);
+        let mut words = vec![7; case.room];
+        let result = read(&case.image, &mut words);
+        reads.add(&result);
+        let Ok(read) = result else {
+            assert!(words.iter().all(|&word| word == 7));
+            continue;
+        };
+        let (front, rest) = words.split_at(3 * read.ranges);
+        assert!(rest.iter().all(|&word| word == 7));
+        let mut again = vec![0xAA; case.image.len()];
+        assert_eq!(write(read.version, front, &read.profile, &mut again), Ok(again.len()));
+        assert!(again == case.image);
+    }
+    checks.close("check", "ok,1,2,3,4");
+    reads.close("read", "ok,1,2,3,4,8");
+}
+
+#[test]
+fn writing() {
+    let (mut rng, mut tally) = (Rng::seeded(2), Tally::default());
+    for _ in 0..RUNS {
+        let case = write_case(&mut rng);
+        let mut out = vec![0xAA; case.length];
+        let result = write(case.version, &case.words, &case.profile, &mut out);
+        tally.add(&result);
+        let total = result.unwrap_or(0);
+        assert!(out[total..].iter().all(|&byte| byte == 0xAA));
+        if total > 0 {
+            let image = parse(&out[..total]).unwrap();
+            assert_eq!(image.profile.entries(), case.profile.entries());
+            assert_eq!((image.version, 3 * image.ranges.len()), (case.version, case.words.len()));
+        }
+    }
+    tally.close("write", "ok,2,3,4,12,13");
+}
+
+#[test]
+fn lookups() {
+    let (mut rng, mut tally) = (Rng::seeded(3), Tally::default());
+    for _ in 0..RUNS {
+        let case = lookup_case(&mut rng);
+        let result = lookup(&case.image, case.number);
+        tally.add(&result);
+        assert!(result.is_err() || result.is_ok_and(|(class, looked)| class <= 5 && looked <= 13));
+    }
+    tally.close("lookup", "ok,1,2,3,4,9");
+}
+
+#[test]
+fn pairs() {
+    let (mut rng, mut tally) = (Rng::seeded(4), Tally::default());
+    for _ in 0..RUNS {
+        let case = pair_case(&mut rng);
+        match pair(&case.older, &case.newer) {
+            Ok(()) => tally.name("yes"),
+            Err(PairRefusal::Older(refusal)) => tally.name(&format!("o{}", refusal.number())),
+            Err(PairRefusal::Newer(refusal)) => tally.name(&format!("n{}", refusal.number())),
+            Err(PairRefusal::Pair(refusal)) => tally.name(&refusal.number().to_string()),
+        }
+    }
+    tally.close("pair", "yes,o1,o2,o3,o4,n1,n2,n3,n4,10,11");
+}
+
+/// The list covers the text without gaps, and each token stands at its place.
+fn division(image: &[u8], text: &[u8], words: &[u32]) {
+    let mut place = 0;
+    for (i, token) in words.chunks(3).enumerate() {
+        let (start, end) = (token[1] as usize, token[2] as usize);
+        assert!(start == place && end > start);
+        if i < 20 {
+            assert_eq!(at(image, text, start), Ok(Some(Token { kind: token[0], start, end })));
+        }
+        place = end;
+    }
+    assert_eq!(place, text.len());
+}
+
+#[test]
+fn lists() {
+    let (mut rng, mut counts, mut lists) = (Rng::seeded(5), Tally::default(), Tally::default());
+    for _ in 0..RUNS {
+        let case = count_case(&mut rng);
+        counts.add(&count(&case.image, &case.text));
+        let case = list_case(&mut rng);
+        let mut words = vec![7; case.room];
+        let result = list(&case.image, &case.text, &mut words);
+        lists.add(&result);
+        let (front, rest) = words.split_at(3 * result.unwrap_or(0));
+        assert!(rest.iter().all(|&word| word == 7));
+        if result.is_ok() {
+            division(&case.image, &case.text, front);
+        }
+    }
+    counts.close("count", "ok,1,2,3,4,5,6,7");
+    lists.close("list", "ok,1,2,3,4,5,6,7,8");
+}
+
+#[test]
+fn places() {
+    let (mut rng, mut ats, mut parts) = (Rng::seeded(6), Tally::default(), Tally::default());
+    for _ in 0..RUNS {
+        let case = at_case(&mut rng);
+        let result = at(&case.image, &case.text, case.place);
+        match result {
+            Ok(None) => ats.name("done"),
+            _ => ats.add(&result),
+        }
+        let case = part_case(&mut rng);
+        parts.add(&part(&case.text, case.start, case.end));
+    }
+    ats.close("at", "ok,done,1,2,3,4,5,6,7,13");
+    parts.close("part", "ok,13");
+}
+
+#[test]
+fn listers() {
+    let (mut rng, mut tally) = (Rng::seeded(7), Tally::default());
+    for _ in 0..RUNS {
+        let output = lister(&lister_case(&mut rng).input);
+        let mut words = output.split_ascii_whitespace();
+        match words.next().unwrap() {
+            "refused" => tally.name(words.next().unwrap()),
+            first => tally.name(first),
+        }
+    }
+    tally.close("lister", "tokens,1,2,3,4,5,6,7");
+}
+
+/// Demand 3's exception: the character at the place, or the next after a
+/// medial, has another class.
+fn changed_at(case: &StableCase, place: u64) -> bool {
+    let (older, newer) = (parse(&case.older).unwrap(), parse(&case.newer).unwrap());
+    let (points, _) = utf8::decode(&case.text[place as usize..]);
+    let changed =
+        |i: usize| points.get(i).is_some_and(|p| older.class(p.point) != newer.class(p.point));
+    changed(0) || (older.role(points[0].point) == 3 && changed(1))
+}
+
+#[test]
+fn stability() {
+    let (mut rng, mut tally) = (Rng::seeded(8), Tally::default());
+    for _ in 0..RUNS {
+        let case = stable_case(&mut rng);
+        assert_eq!(pair(&case.older, &case.newer), Ok(()));
+        let room = 3 * rng.below(30);
+        let (mut old_words, mut new_words) = (vec![7; room], vec![7; room]);
+        let older = list(&case.older, &case.text, &mut old_words);
+        let newer = list(&case.newer, &case.text, &mut new_words);
+        let counts = (count(&case.older, &case.text), count(&case.newer, &case.text));
+        match older {
+            Err(Refusal::NoToken(place)) if changed_at(&case, place) => {
+                tally.name(if newer == older { "7 kept" } else { "7 moved" });
+            }
+            _ => {
+                tally.add(&older);
+                assert_eq!((newer, counts.1), (older, counts.0));
+                assert!(old_words == new_words);
+            }
+        }
+    }
+    tally.close("stability", "ok,5,6,7,7 kept,7 moved,8");
+}

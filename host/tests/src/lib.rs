@@ -1,0 +1,22 @@
+//! The proved library as a reader: its calls answer as the independent reader's do. Each call is given its slices
+//! between bytes or words that are compared afterwards, and an answer array that is held to what is documented.
+
+mod lent;
+pub mod library;
+
+pub use library::Library;
+
+use std::io::Write;
+
+/// How many made cases to run of each call: `LUFFINARC_CASES`, or so many.
+pub fn runs(usual: usize) -> usize {
+    match std::env::var("LUFFINARC_CASES") {
+        Ok(number) => number.parse().expect("LUFFINARC_CASES is a number"),
+        Err(_) => usual,
+    }
+}
+
+/// Writes a line past the test harness, so that it is always seen.
+pub fn say(line: &str) {
+    writeln!(std::io::stdout(), "{line}").unwrap();
+}

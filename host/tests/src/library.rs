@@ -1,0 +1,160 @@
+//! The library's calls, with the independent reader's types.
+
+use crate::lent::Lent;
+use luffinarc::calls::{self, Answer, Entries};
+use luffinarc_reader::{Calls, Checked, PairRefusal, Profile, Read, Refusal, Token};
+
+/// What stands in an answer array before a call, so that a place that is not written is seen.
+const OLD: Answer = [0xDEAD_BEEF_0BAD_CAFE; 4];
+
+/// What stands in a profile's arrays before a call.
+const OLD_POINTS: Entries = [0x0BAD_0BAD; 64];
+const OLD_ROLES: Entries = [0x0BAD_CAFE; 64];
+
+/// The number that says that a place is the text's end.
+const DONE: u32 = 255;
+
+/// The refusal with this number; what it does not carry is zero.
+fn refusal(number: u32, carried: u64) -> Refusal {
+    let refusal = match number {
+        1 => Refusal::ImageLength,
+        2 => Refusal::Header,
+        3 => Refusal::Range(carried),
+        4 => Refusal::Profile(carried),
+        5 => Refusal::TextLength,
+        6 => Refusal::IllFormed(carried),
+        7 => Refusal::NoToken(carried),
+        8 => Refusal::Room(carried),
+        9 => Refusal::NotScalar(carried),
+        10 => Refusal::Forbidden(carried),
+        11 => Refusal::Profiles,
+        12 => Refusal::ImageRoom(carried),
+        13 => Refusal::Argument,
+        _ => panic!("the library answers {number}"),
+    };
+    let first = refusal.carried().first().copied().unwrap_or(0);
+    assert_eq!(first, carried, "{refusal} carries something");
+    refusal
+}
+
+/// The first so many numbers of an answer, the rest of which is zero, or the refusal.
+fn values<const N: usize>(number: u32, answer: Answer) -> Result<[u64; N], Refusal> {
+    let used = if number == 0 { N } else { 1 };
+    assert!(answer[used..].iter().all(|&value| value == 0), "{number} {answer:?}");
+    if number == 0 {
+        Ok(answer[..N].try_into().unwrap())
+    } else {
+        Err(refusal(number, answer[0]))
+    }
+}
+
+/// The profile that a call gave; after a refusal the arrays are as they were.
+fn profile(number: u32, points: Entries, roles: Entries, answer: Answer) -> Profile {
+    if number != 0 {
+        assert!(points == OLD_POINTS && roles == OLD_ROLES, "a refused call changes nothing");
+    }
+    Profile { points, roles, used: answer[2] as u32 }
+}
+
+/// The calls of the static library that take any image.
+pub struct Library;
+
+impl Calls for Library {
+    fn check(&self, image: &[u8]) -> Result<Checked, Refusal> {
+        let image = Lent::new(image, 0xAA);
+        let (mut points, mut roles, mut answer) = (OLD_POINTS, OLD_ROLES, OLD);
+        let number = calls::check(image.slice(), &mut points, &mut roles, &mut answer);
+        image.same();
+        profile(number, points, roles, answer);
+        let [version, ranges, entries] = values(number, answer)?;
+        Ok(Checked { version: version as u32, ranges: ranges as usize, entries: entries as usize })
+    }
+
+    fn read(&self, image: &[u8], words: &mut [u32]) -> Result<Read, Refusal> {
+        let (image, mut lent) = (Lent::new(image, 0xAA), Lent::new(words, 0xAAAA_AAAA));
+        let (mut points, mut roles, mut answer) = (OLD_POINTS, OLD_ROLES, OLD);
+        let number =
+            calls::read(image.slice(), lent.slice_mut(), &mut points, &mut roles, &mut answer);
+        image.same();
+        lent.back(words);
+        let profile = profile(number, points, roles, answer);
+        let [version, ranges, _] = values(number, answer)?;
+        Ok(Read { version: version as u32, ranges: ranges as usize, profile })
+    }
+
+    fn write(
+        &self,
+        version: u32,
+        words: &[u32],
+        profile: &Profile,
+        out: &mut [u8],
+    ) -> Result<usize, Refusal> {
+        let (words, mut lent) = (Lent::new(words, 0xAAAA_AAAA), Lent::new(out, 0xAA));
+        let (points, roles, used) = (profile.points, profile.roles, profile.used as usize);
+        let mut answer = OLD;
+        let number = calls::write(
+            version,
+            words.slice(),
+            &points,
+            &roles,
+            used,
+            lent.slice_mut(),
+            &mut answer,
+        );
+        words.same();
+        assert!(points == profile.points && roles == profile.roles);
+        lent.back(out);
+        let [total] = values(number, answer)?;
+        Ok(total as usize)
+    }
+
+    fn lookup(&self, image: &[u8], number: u32) -> Result<(u32, u32), Refusal> {
+        let image = Lent::new(image, 0xAA);
+        let mut answer = OLD;
+        let refused = calls::lookup(image.slice(), number, &mut answer);
+        image.same();
+        let [class, looked] = values(refused, answer)?;
+        Ok((class as u32, looked as u32))
+    }
+
+    fn pair(&self, older: &[u8], newer: &[u8]) -> Result<(), PairRefusal> {
+        let (older, newer) = (Lent::new(older, 0xAA), Lent::new(newer, 0xAA));
+        let mut answer = OLD;
+        let number = calls::pair(older.slice(), newer.slice(), &mut answer);
+        older.same();
+        newer.same();
+        let which = answer[2];
+        if number == 0 {
+            assert_eq!(answer, [0; 4]);
+            return Ok(());
+        }
+        assert_eq!((answer[1], answer[3]), (0, 0));
+        let refusal = refusal(number, answer[0]);
+        Err(match which {
+            0 => PairRefusal::Pair(refusal),
+            1 => PairRefusal::Older(refusal),
+            2 => PairRefusal::Newer(refusal),
+            _ => panic!("the pair check tells of image {which}"),
+        })
+    }
+
+    fn count(&self, _image: &[u8], _text: &[u8]) -> Result<usize, Refusal> {
+        todo!()
+    }
+
+    fn list(&self, _image: &[u8], _text: &[u8], _words: &mut [u32]) -> Result<usize, Refusal> {
+        todo!()
+    }
+
+    fn at(&self, _image: &[u8], _text: &[u8], _place: usize) -> Result<Option<Token>, Refusal> {
+        todo!()
+    }
+
+    fn part<'a>(&self, _text: &'a [u8], _start: usize, _end: usize) -> Result<&'a [u8], Refusal> {
+        todo!()
+    }
+
+    fn lister(&self, _input: &[u8]) -> Option<String> {
+        None
+    }
+}
