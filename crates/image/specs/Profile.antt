@@ -19,6 +19,10 @@ pointAt s i = wordAt s (entriesAt (rangeCount s) + entryBytes * i)
 unfoldable pub roleAt : List ℕ → ℕ → ℕ
 roleAt s i = wordAt s (entriesAt (rangeCount s) + entryBytes * i + 4)
 
+-- the record with these code points, roles and used length
+abbrev pub profileBy : List ℕ → List ℕ → ℕ → Profile
+profileBy points roles used = record { points = points; roles = roles; used = used }
+
 -- the code point and the role of entry i of a record
 abbrev pub pointIn : Profile → ℕ → ℕ
 pointIn p i = getD (p .points) i 0

@@ -9,12 +9,11 @@ use lib.ListN.{getD}
 use borrow.Author.Tests.{ne-eqb, le-ltb}
 use Rattle.lists.proofs.FirstLaws.{first-none}
 use Rattle.image.specs.Ranges.{classIn}
-use Rattle.image.specs.Profile.{roleOf, afterRole}
+use Rattle.image.specs.Profile.{profileBy, roleOf, afterRole}
 use Rattle.image.specs.declared.Range.{Range}
 use Rattle.image.specs.declared.Profile.{Profile}
 use Rattle.lookup.specs.declared.Stretch.{Stretch}
 use Rattle.lookup.specs.declared.Reach.{Reach}
-use Rattle.lookup.specs.Lookup.{profileBy}
 use Rattle.lookup.specs.Stretch.{StretchOf}
 use Rattle.lookup.specs.Reach.{CutBy, CutOf, ReachOf}
 use Rattle.lookup.proofs.RoleLaws.{named}

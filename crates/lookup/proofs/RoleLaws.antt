@@ -8,8 +8,7 @@ use lib.ListN.{getD}
 use borrow.Author.Tests.{eq-eqb, ne-eqb, lt-ltb, le-ltb}
 use Rattle.lists.specs.First.{firstFrom, firstWhere}
 use Rattle.lists.proofs.FirstLaws.{first-here, first-next, first-end, first-begins}
-use Rattle.image.specs.Profile.{roleOf}
-use Rattle.lookup.specs.Lookup.{profileBy}
+use Rattle.image.specs.Profile.{profileBy, roleOf}
 
 -- entry i is that of x
 abbrev pub named : List ℕ → ℕ → ℕ → Bool

@@ -4,18 +4,18 @@ use mathlib.Core.Path.{sym, _∙_}
 use native.Mathlib.Omega.{arith}
 use Rattle.lists.proofs.SearchLaws.{Searching, search-begins, good-next, bad-here, none-bad}
 use Rattle.image.specs.Profile.{goodEntry, firstBadEntry}
-use Rattle.writer.specs.Write.{at}
+use Rattle.writer.specs.Write.{valueAt}
 use Rattle.writer.proofs.first_bad_entry.Statement.{statement}
 use Rattle.writer.proofs.first_bad_entry.Tie as tie
 
 abbrev Inv-loop : tie.InvT-loop
-Inv-loop points roles m i₀ i = Searching (goodEntry (at points) (at roles)) m i
+Inv-loop points roles m i₀ i = Searching (goodEntry (valueAt points) (valueAt roles)) m i
 
 abbrev μ-loop : tie.MeasureT-loop
 μ-loop points roles m i₀ i = m - i
 
 loop-holds : tie.Need-loop-holds Inv-loop μ-loop
-loop-holds c = search-begins (goodEntry (at (c .args .points .now)) (at (c .args .roles .now))) _
+loop-holds c = search-begins (goodEntry (valueAt (c .args .points .now)) (valueAt (c .args .roles .now))) _
 
 is-good-entry-requires : tie.Need-is-good-entry-requires Inv-loop μ-loop
 is-good-entry-requires c κs = omega arith
@@ -29,17 +29,17 @@ loop-less c = omega arith
 loop-again : tie.Need-loop-again Inv-loop μ-loop
 loop-again c =
     let a = c .before .before .before .before .args in
-    good-next (goodEntry (at (a .points .now)) (at (a .roles .now))) _ _ (c .before .before .before .loop .inv) (c .before .before .loop-test .taken) (sym (c .before .is-good-entry .ensures) ∙ c .if1 .taken)
+    good-next (goodEntry (valueAt (a .points .now)) (valueAt (a .roles .now))) _ _ (c .before .before .before .loop .inv) (c .before .before .loop-test .taken) (sym (c .before .is-good-entry .ensures) ∙ c .if1 .taken)
 
 returns : tie.Need-returns Inv-loop μ-loop
 unfolding firstBadEntry
 returns c =
     let a = c .before .before .before .before .args in
-    bad-here (goodEntry (at (a .points .now)) (at (a .roles .now))) _ _ (c .before .before .before .loop .inv) (c .before .before .loop-test .taken) (sym (c .before .is-good-entry .ensures) ∙ c .if1 .left)
+    bad-here (goodEntry (valueAt (a .points .now)) (valueAt (a .roles .now))) _ _ (c .before .before .before .loop .inv) (c .before .before .loop-test .taken) (sym (c .before .is-good-entry .ensures) ∙ c .if1 .left)
 
 returns-2 : tie.Need-returns-2 Inv-loop μ-loop
 unfolding firstBadEntry
-returns-2 c = let a = c .before .before .args in none-bad (goodEntry (at (a .points .now)) (at (a .roles .now))) _ _ (c .before .loop .inv) (c .loop-test .left)
+returns-2 c = let a = c .before .before .args in none-bad (goodEntry (valueAt (a .points .now)) (valueAt (a .roles .now))) _ _ (c .before .loop .inv) (c .loop-test .left)
 
 pub first-bad-entry-spec : {M : Type 1} → statement M
 first-bad-entry-spec =
