@@ -1,5 +1,5 @@
 -- What the answers of checking and reading an image say of its bytes, each refusal exactly when. Assumes nothing.
-use Prim.Native.Nat.{ℕ, _+_, _-_, _*_, _/_, _≤_}
+use Prim.Native.Nat.{ℕ, _+_, _-_, _*_, _/_, _≤_, _<_}
 use mathlib.Core.Path.{_≡_, refl, sym, ap, subst, _∙_}
 use mathlib.Core.List.{List, [], _∷_}
 use mathlib.Core.Bool.{Bool, true, false, _&&_, _||_}
@@ -12,6 +12,7 @@ use Rattle.lists.specs.First.{AllGood, FirstBad}
 use Rattle.lists.specs.Each.{each}
 use Rattle.lists.specs.Laid.{laid}
 use Rattle.lists.proofs.BoolLaws.{and-left, and-right}
+use Rattle.lists.proofs.EachLaws.{column-at, column-past}
 use Rattle.lists.proofs.FirstLaws.{first-bad, all-good, first-is-bad, first-is-none}
 use Rattle.refusal.specs.declared.Refusal.{Refusal}
 use Rattle.refusal.specs.declared.Refusal.the-variants as refusal
@@ -33,7 +34,7 @@ use Rattle.image.specs.Header.{
   headerRight,
 }
 use Rattle.image.specs.Ranges.{rangeAt, rangeWords, goodRange, firstBadRange}
-use Rattle.image.specs.Profile.{pointAt, roleAt, goodEntry, firstBadEntry, profileOf, noProfile}
+use Rattle.image.specs.Profile.{pointAt, roleAt, pointIn, roleIn, goodEntry, firstBadEntry, profileOf, noProfile}
 use Rattle.image.specs.Check.{pickRefusal, refuseAt, refusalOf, checkBy, checkOf, readRefusal, readOf, wordsAfter}
 use Rattle.image.specs.declared.Profile.{Profile}
 use Rattle.image.specs.declared.Answer.{Answer}
@@ -231,6 +232,16 @@ module _ (s : List ℕ) where
 
   pub refused-none : Accepted s → refusalOf s ≡ none
   refused-none a = decides none a
+
+-- the record of a profile: the image's entries, and zeros past them
+module _ (s : List ℕ) where
+  pub entry-read : (i : ℕ) → i < entryCount s → (pointIn (profileOf s) i ≡ pointAt s i) × (roleIn (profileOf s) i ≡ roleAt s i)
+  unfolding profileOf
+  entry-read i l = (column-at maxEntries (pointAt s) (entryCount s) i l, column-at maxEntries (roleAt s) (entryCount s) i l)
+
+  pub zeros-past : (i : ℕ) → entryCount s ≤ i → (pointIn (profileOf s) i ≡ 0) × (roleIn (profileOf s) i ≡ 0)
+  unfolding profileOf
+  zeros-past i l = (column-past maxEntries (pointAt s) (entryCount s) i l, column-past maxEntries (roleAt s) (entryCount s) i l)
 
 -- what the answer of a check says
 abbrev pub Says : List ℕ → Answer → Profile → Type 0
