@@ -36,6 +36,7 @@ use Rattle.image.specs.Header.{
 use Rattle.image.specs.Ranges.{rangeAt, rangeWords, goodRange, firstBadRange}
 use Rattle.image.specs.Profile.{pointAt, roleAt, pointIn, roleIn, goodEntry, firstBadEntry, profileOf, noProfile}
 use Rattle.image.specs.Check.{pickRefusal, refuseAt, refusalOf, checkBy, checkOf, readRefusal, readOf, wordsAfter}
+use Rattle.image.specs.declared.Range.{Range}
 use Rattle.image.specs.declared.Profile.{Profile}
 use Rattle.image.specs.declared.Answer.{Answer}
 use Rattle.image.specs.declared.Answer.the-variants as answer
@@ -133,6 +134,15 @@ pub entry-tests :
     (point role : ℕ → ℕ) (i p r : ℕ) → p ≡ point i → r ≡ role i
     → goodEntry point role i ≡ ((isScalar p && (leb 1 r && leb r 4)) && (eqb i 0 || ltb (point (i - 1)) p))
 entry-tests point role i p r e f = rw (e, f) (entry-parts point role i)
+
+-- whether a record is good depends on it and the one before it
+pub good-range-same : (f g : ℕ → Range) (i : ℕ) → f i ≡ g i → f (i - 1) ≡ g (i - 1) → goodRange f i ≡ goodRange g i
+unfolding goodRange
+good-range-same f g i e h = rw (e, h)
+
+pub good-entry-same : (f g a b : ℕ → ℕ) (i : ℕ) → f i ≡ g i → f (i - 1) ≡ g (i - 1) → a i ≡ b i → goodEntry f a i ≡ goodEntry g b i
+unfolding goodEntry
+good-entry-same f g a b i e h r = rw (e, h, r)
 
 -- an accepted image
 pub record Accepted (s : List ℕ) : Type 0 where

@@ -25,7 +25,7 @@ use Rattle.image.specs.Profile.{pointAt, roleAt, pointIn, roleIn, goodEntry, fi
 use Rattle.image.specs.Image.{headerWords, entryWords, imageWords, bytesOfAll, imageOf}
 use Rattle.image.specs.Check.{refusalOf, checkBy, readRefusal, readOf, wordsBy, wordsAfter}
 use Rattle.image.specs.declared.Answer.the-variants as answer
-use Rattle.image.proofs.ImageLaws.{Headed, accepted, refused-none, entry-read, zeros-past}
+use Rattle.image.proofs.ImageLaws.{Headed, accepted, refused-none, good-range-same, good-entry-same, entry-read, zeros-past}
 use Rattle.writer.specs.declared.Written.the-variants as written
 use Rattle.writer.specs.Write.{rangesIn, bytesNeeded, writeRefusal, writtenBy, writeOf, bytesBy, bytesAfter}
 use Rattle.writer.proofs.WordLaws.{Bytes, Words, word-is, wordsFrom, bytes-from, bytes-each, all-append}
@@ -37,14 +37,6 @@ pub record SameEntries (p q : Profile) : Type 0 where
   pub count : p .used ≡ q .used
   pub point : (i : ℕ) → i < p .used → pointIn p i ≡ pointIn q i
   pub role : (i : ℕ) → i < p .used → roleIn p i ≡ roleIn q i
-
-good-range-same : (f g : ℕ → Range) (i : ℕ) → f i ≡ g i → f (i - 1) ≡ g (i - 1) → goodRange f i ≡ goodRange g i
-unfolding goodRange
-good-range-same f g i e h = rw (e, h)
-
-good-entry-same : (f g a b : ℕ → ℕ) (i : ℕ) → f i ≡ g i → f (i - 1) ≡ g (i - 1) → a i ≡ b i → goodEntry f a i ≡ goodEntry g b i
-unfolding goodEntry
-good-entry-same f g a b i e h r = rw (e, h, r)
 
 -- what an image gives back
 pub record ReadBack (version : ℕ) (words : List ℕ) (p : Profile) (s : List ℕ) : Type 0 where
