@@ -42,6 +42,10 @@ use Rattle.image.specs.declared.Answer.{Answer}
 use Rattle.image.specs.declared.Answer.the-variants as answer
 use Rattle.image.specs.declared.Checked.{Checked}
 
+-- the largest image
+pub largest : maxImage ≡ 49696
+largest = refl
+
 -- tests that all hold, one by one
 abbrev joined : Bool → List Bool → Bool
 joined a [] = a

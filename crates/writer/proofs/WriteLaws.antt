@@ -177,3 +177,7 @@ module _ (version : ℕ) (words : List ℕ) (p : Profile) (out : List ℕ) where
   -- for a caller that has the answer w in hand, and knows that it is x
   pub says : (w x : Written) → w ≡ writeOf words p (length out) → w ≡ x → (x ≡ writeOf words p (length out)) × Says version words p out x
   says w x e f = let g = sym f ∙ e in (g, subst (Says version words p out) (sym g) says-of)
+
+  -- a refused call leaves the buffer as it was
+  pub refused-keeps : (r : Refusal) → writeOf words p (length out) ≡ written.Refused r → bytesAfter version words p out ≡ out
+  refused-keeps r e = says (writeOf words p (length out)) (written.Refused r) refl e .1 .1

@@ -149,7 +149,7 @@ fn is_good_entry<'a>(
     ensures { λ t. ⌜ t ≡ goodEntry (valueAt (now (points .entry))) (valueAt (now (roles .entry))) i ⌝ }
 {
     let point = points[i];
-    if image::is_good_pair(point, roles[i]) {
+    if image::is_good_entry_alone(point, roles[i]) {
         if i == 0 {
             return true;
         }
