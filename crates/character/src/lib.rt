@@ -111,7 +111,46 @@ pub fn fill_table<'a>(
     table
 }
 
-// The character of `text` at a place before its end.
+// The character of `text` at a place before its end, by decoding it.
+pub fn read_decoded<'a>(
+    image: &'a [u8],
+    n: usize,
+    points: &'a [u32; MAX_ENTRIES],
+    roles: &'a [u32; MAX_ENTRIES],
+    used: usize,
+    memo: Memo,
+    text: &'a [u8],
+    at: usize,
+) -> Character
+    requires { ⌜ Opened (now image) n (now points) (now roles) used ⌝ }
+    requires { ⌜ MemoOf (now image) memo ⌝ }
+    requires { ⌜ at < length (now text) ⌝ }
+    ensures { λ r. ⌜ ReadAs (now (image .entry)) (now (text .entry)) at r ⌝ }
+{
+    let step = utf8::decode(&text[at..]);
+    match step {
+        Step::Scalar { code, len } => {
+            let m = recall(image, n, points, roles, used, memo, code);
+            Character {
+                len,
+                traits: m.traits,
+                memo: m,
+            }
+        }
+        Step::IllFormed => Character {
+            len: 0,
+            traits: 0,
+            memo,
+        },
+        Step::End => Character {
+            len: 0,
+            traits: 0,
+            memo,
+        },
+    }
+}
+
+// The character of `text` at a place before its end: ASCII by the table.
 pub fn read<'a>(
     image: &'a [u8],
     n: usize,
@@ -137,25 +176,5 @@ pub fn read<'a>(
             memo,
         };
     }
-    let step = utf8::decode(&text[at..]);
-    match step {
-        Step::Scalar { code, len } => {
-            let m = recall(image, n, points, roles, used, memo, code);
-            Character {
-                len,
-                traits: m.traits,
-                memo: m,
-            }
-        }
-        Step::IllFormed => Character {
-            len: 0,
-            traits: 0,
-            memo,
-        },
-        Step::End => Character {
-            len: 0,
-            traits: 0,
-            memo,
-        },
-    }
+    read_decoded(image, n, points, roles, used, memo, text, at)
 }

@@ -2,8 +2,6 @@
 ghost use Prim.Native.Nat.{_≤_};
 use image::Answer;
 use image::Checked;
-use libc::STDOUT_FILENO;
-use refusal::Refusal;
 
 // The words of image M: header, five ranges, one profile entry.
 const M: [u32; 25] = [
@@ -34,45 +32,36 @@ const M: [u32; 25] = [
     3,
 ];
 
-fn say(text: &[u8]) {
-    io::write_all(STDOUT_FILENO, text);
+// A number after a space.
+fn print_next(x: usize) {
+    printing::print_text(b" ");
+    printing::print_number(x);
 }
 
-fn say_number(x: u64) {
-    say(b" ");
-    io::print_decimal(STDOUT_FILENO, x);
-}
-
-fn wide(x: u32) -> u64 {
-    x as u64
-}
-
-fn show_refusal(r: Refusal) {
-    say(b": refused");
-    say_number(refusal::number(r) as u64);
-    if refusal::carried_count(r) == 1 {
-        say_number(refusal::carried(r) as u64);
-    }
-    say(b"\n");
+fn wide(x: u32) -> usize {
+    x as usize
 }
 
 // Version, number of ranges, number of profile entries, the first entry.
 fn show(name: &[u8], k: Checked) {
-    say(name);
+    printing::print_text(name);
     let a = k.answer;
     let p = k.profile;
     match a {
-        Answer::Refused(r) => show_refusal(r),
+        Answer::Refused(r) => {
+            printing::print_text(b": ");
+            printing::print_refusal(r);
+        }
         Answer::Accepted { version, ranges } => {
-            say(b": accepted");
-            say_number(version as u64);
-            say_number(ranges as u64);
-            say_number(p.used as u64);
-            say_number(wide(p.points[0]));
-            say_number(wide(p.roles[0]));
-            say(b"\n");
+            printing::print_text(b": accepted");
+            print_next(version as usize);
+            print_next(ranges);
+            print_next(p.used);
+            print_next(wide(p.points[0]));
+            print_next(wide(p.roles[0]));
         }
     }
+    printing::print_text(b"\n");
 }
 
 // Puts x into the word k of an image.
@@ -132,20 +121,20 @@ fn run_m() {
 
 fn show_word(out: &[u32], k: usize) {
     if k < out.len() {
-        say_number(wide(out[k]));
+        print_next(wide(out[k]));
     }
 }
 
 // The answer, then the first word of the buffer, the last code point of the last range, and the last word.
 fn show_read(name: &[u8], image: &[u8], out: &mut [u32]) {
     show(name, image::read(image, out));
-    say(b"words:");
+    printing::print_text(b"words:");
     show_word(out, 0);
     show_word(out, 12286);
     if 0 < out.len() {
         show_word(out, out.len() - 1);
     }
-    say(b"\n");
+    printing::print_text(b"\n");
 }
 
 fn run_most() {

@@ -2,7 +2,6 @@
 ghost use Prim.Native.Nat.{_<_};
 use libc::STDOUT_FILENO;
 use lookup::Found;
-use refusal::Refusal;
 
 // Image M: the header, the ranges 20 White, 2E Syntax, 30 to 39 Nonstart, 41 to 5A Start and 61 to 7A Start, and 2E with role 3.
 const M: [u32; 25] = [
@@ -56,31 +55,22 @@ fn changed(at: usize, word: u32) -> [u8; 100]
     image
 }
 
-fn print_refusal(r: Refusal) {
-    io::write_all(STDOUT_FILENO, b"refused ");
-    io::print_decimal(STDOUT_FILENO, refusal::number(r) as u64);
-    if refusal::carried_count(r) == 1 {
-        io::write_all(STDOUT_FILENO, b" ");
-        io::print_decimal(STDOUT_FILENO, refusal::carried(r) as u64);
-    }
-}
-
 fn print_class(class: u32, count: usize) {
-    io::write_all(STDOUT_FILENO, b"class ");
+    printing::print_text(b"class ");
     io::print_decimal(STDOUT_FILENO, class as u64);
-    io::write_all(STDOUT_FILENO, b" looked at ");
+    printing::print_text(b" looked at ");
     io::print_decimal(STDOUT_FILENO, count as u64);
 }
 
 // Prints the answer of a lookup of x, and its count.
 fn show(image: &[u8], x: u32) {
     io::print_hex(STDOUT_FILENO, x as u64, 4);
-    io::write_all(STDOUT_FILENO, b": ");
+    printing::print_text(b": ");
     match lookup::lookup(image, x) {
-        Found::Refused(r) => print_refusal(r),
+        Found::Refused(r) => printing::print_refusal(r),
         Found::Class { class, count } => print_class(class, count),
     }
-    io::write_all(STDOUT_FILENO, b"\n");
+    printing::print_text(b"\n");
 }
 
 fn show_good() {

@@ -1,8 +1,6 @@
 // Runs the pair check on images M and M2 of document 01, and on images made of them by changing a byte.
 ghost use Prim.Native.Nat.{_<_};
-use libc::STDOUT_FILENO;
 use pair::Pair;
-use refusal::Refusal;
 
 // Image M: ranges 20 White, 2E Syntax, 30 to 39 Nonstart, 41 to 5A Start, 61 to 7A Start; 2E has role 3.
 const M: [u8; 100] =
@@ -12,32 +10,23 @@ const M: [u8; 100] =
 const M2: [u8; 112] =
     *b"\x01\x00\x00\x00\x00\x00\x10\x00\x70\x00\x00\x00\x06\x00\x00\x00\x20\x00\x00\x00\x01\x00\x00\x00\x68\x00\x00\x00\x00\x00\x00\x00\x20\x00\x00\x00\x20\x00\x00\x00\x04\x00\x00\x00\x2e\x00\x00\x00\x2e\x00\x00\x00\x03\x00\x00\x00\x30\x00\x00\x00\x39\x00\x00\x00\x02\x00\x00\x00\x41\x00\x00\x00\x5a\x00\x00\x00\x01\x00\x00\x00\x61\x00\x00\x00\x7a\x00\x00\x00\x01\x00\x00\x00\xe9\x00\x00\x00\xe9\x00\x00\x00\x01\x00\x00\x00\x2e\x00\x00\x00\x03\x00\x00\x00";
 
-fn print_refusal(r: Refusal) {
-    io::write_all(STDOUT_FILENO, b"refused ");
-    io::print_decimal(STDOUT_FILENO, refusal::number(r) as u64);
-    if refusal::carried_count(r) == 1 {
-        io::write_all(STDOUT_FILENO, b" ");
-        io::print_decimal(STDOUT_FILENO, refusal::carried(r) as u64);
-    }
-}
-
 // Prints the answer of the pair check.
 fn show(older: &[u8], newer: &[u8]) {
     match pair::check_pair(older, newer) {
         Pair::Older(r) => {
-            io::write_all(STDOUT_FILENO, b"older ");
-            print_refusal(r);
+            printing::print_text(b"older ");
+            printing::print_refusal(r);
         }
         Pair::Newer(r) => {
-            io::write_all(STDOUT_FILENO, b"newer ");
-            print_refusal(r);
+            printing::print_text(b"newer ");
+            printing::print_refusal(r);
         }
-        Pair::Refused(r) => print_refusal(r),
+        Pair::Refused(r) => printing::print_refusal(r),
         Pair::Permitted => {
-            io::write_all(STDOUT_FILENO, b"yes");
+            printing::print_text(b"yes");
         }
     }
-    io::write_all(STDOUT_FILENO, b"\n");
+    printing::print_text(b"\n");
 }
 
 // M and M2 with another byte at one place.

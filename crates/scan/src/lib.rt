@@ -75,20 +75,18 @@ fn continues_at<'a>(
     points: &'a [u32; MAX_ENTRIES],
     roles: &'a [u32; MAX_ENTRIES],
     used: usize,
-    table: &'a [u8; 128],
     memo: Memo,
     text: &'a [u8],
     at: usize,
 ) -> bool
     requires { ⌜ Opened (now image) n (now points) (now roles) used ⌝ }
-    requires { ⌜ TableOf (now image) (now table) ⌝ }
     requires { ⌜ MemoOf (now image) memo ⌝ }
     ensures { λ r. ⌜ r ≡ continuesAt (now (image .entry)) (now (text .entry)) at ⌝ }
 {
     if text.len() <= at {
         return false;
     }
-    let c = character::read(image, n, points, roles, used, table, memo, text, at);
+    let c = character::read_decoded(image, n, points, roles, used, memo, text, at);
     if c.len == 0 {
         return false;
     }
@@ -104,13 +102,11 @@ fn goes_on<'a>(
     points: &'a [u32; MAX_ENTRIES],
     roles: &'a [u32; MAX_ENTRIES],
     used: usize,
-    table: &'a [u8; 128],
     memo: Memo,
     text: &'a [u8],
     next: usize,
 ) -> bool
     requires { ⌜ Opened (now image) n (now points) (now roles) used ⌝ }
-    requires { ⌜ TableOf (now image) (now table) ⌝ }
     requires { ⌜ MemoOf (now image) memo ⌝ }
     ensures { λ r. ⌜ r ≡ goesOn kind traits (continuesAt (now (image .entry)) (now (text .entry)) next) ⌝ }
 {
@@ -121,7 +117,7 @@ fn goes_on<'a>(
         if traits < 8 {
             return false;
         }
-        return continues_at(image, n, points, roles, used, table, memo, text, next);
+        return continues_at(image, n, points, roles, used, memo, text, next);
     }
     if kind == 3 {
         return traits % 8 == 4;
@@ -175,7 +171,6 @@ pub fn count_tokens<'a>(
             points,
             roles,
             used,
-            table,
             memo,
             text,
             next,
@@ -247,7 +242,6 @@ pub fn write_tokens<'a>(
             points,
             roles,
             used,
-            table,
             memo,
             text,
             next,
@@ -300,7 +294,6 @@ fn find_end<'a>(
             points,
             roles,
             used,
-            table,
             memo,
             text,
             next,

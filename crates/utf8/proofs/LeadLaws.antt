@@ -13,8 +13,8 @@ use Rattle.utf8.specs.declared.Lead.{Lead}
 use Rattle.utf8.specs.declared.Step.the-variants.{Scalar, IllFormed, End}
 use Rattle.utf8.specs.Table.{Bytes, _to_, Row, table, inside, fits, codePoint}
 use Rattle.utf8.specs.Head.{pickStep, stepIn, stepOf}
-use Rattle.utf8.specs.Lead.{pickLead, leadOfRow, leads, leadIn, leadOf, trailOf, stepAs, stepBy, byteFits}
-use Rattle.utf8.proofs.TableLaws.{inside-in, inside-out, inside-above, inside-below, byte-there, fits-in, fits-out, one-byte, two-bytes, three-bytes, four-bytes}
+use Rattle.utf8.specs.Lead.{pickLead, leadOfRow, leads, leadIn, leadOf, trailOf, stepAs, stepBy, byteFits, stepLength}
+use Rattle.utf8.proofs.TableLaws.{inside-in, inside-out, inside-above, inside-below, fits-in, fits-out, one-byte}
 
 -- every row's first byte is below k; at k or above
 abbrev pub below : ℕ → List Row → Bool
@@ -67,32 +67,37 @@ module _ (l : Lead) (s : List ℕ) where
       stepBy l s ≡ pickStep t (Scalar (codePoint q) (suc n)) IllFormed
   judged n t q e f g = as-long (suc n) e ∙ (λ i. pickStep (f i) (Scalar (codePoint (g i)) (suc n)) IllFormed)
 
+  whole : (n : ℕ) → l .len ≡ suc n → fits (trailOf (suc n) (l .low) (l .high)) (drop 1 s) ≡ true → suc n ≡ stepLength (stepBy l s)
+  whole n e f = sym (ap stepLength (judged n true (take (suc n) s) e f refl))
+
+  broken : (n : ℕ) → l .len ≡ suc n → fits (trailOf (suc n) (l .low) (l .high)) (drop 1 s) ≡ false → 0 ≡ stepLength (stepBy l s)
+  broken n e f = sym (ap stepLength (judged n false (take (suc n) s) e f refl))
+
   pub no-lead : l .len ≡ 0 → IllFormed ≡ stepBy l s
   no-lead e = sym (as-long 0 e)
 
   pub alone : l .len ≡ 1 → 0 < length s → Scalar (codePoint (getD s 0 0 ∷ [])) 1 ≡ stepBy l s
   alone e h = sym (judged 0 true (getD s 0 0 ∷ []) e refl (one-byte s h))
 
-  pub no-second : (n : ℕ) → l .len ≡ suc (suc n) → byteFits (l .low to l .high) s 1 ≡ false → IllFormed ≡ stepBy l s
-  no-second n e f = sym (judged (suc n) false (take (suc (suc n)) s) e (fits-out _ (replicate n later) s 1 f) refl)
+  pub no-second : (n : ℕ) → l .len ≡ suc (suc n) → byteFits (l .low to l .high) s 1 ≡ false → 0 ≡ stepLength (stepBy l s)
+  no-second n e f = broken (suc n) e (fits-out _ (replicate n later) s 1 f)
 
   module _ (f : byteFits (l .low to l .high) s 1 ≡ true) where
-    pub two : l .len ≡ 2 → Scalar (codePoint (getD s 0 0 ∷ getD s 1 0 ∷ [])) 2 ≡ stepBy l s
-    two e = sym (judged 1 true _ e (fits-in _ [] s 1 f) (two-bytes s (byte-there _ [] s 1 f)))
+    pub two : l .len ≡ 2 → 2 ≡ stepLength (stepBy l s)
+    two e = whole 1 e (fits-in _ [] s 1 f)
 
-    pub no-third : (n : ℕ) → l .len ≡ suc (suc (suc n)) → byteFits later s 2 ≡ false → IllFormed ≡ stepBy l s
-    no-third n e g = sym (judged (suc (suc n)) false (take (suc (suc (suc n))) s) e (fits-in _ (later ∷ replicate n later) s 1 f ∙ fits-out _ (replicate n later) s 2 g) refl)
+    pub no-third : (n : ℕ) → l .len ≡ suc (suc (suc n)) → byteFits later s 2 ≡ false → 0 ≡ stepLength (stepBy l s)
+    no-third n e g = broken (suc (suc n)) e (fits-in _ (later ∷ replicate n later) s 1 f ∙ fits-out _ (replicate n later) s 2 g)
 
     module _ (g : byteFits later s 2 ≡ true) where
-      pub three : l .len ≡ 3 → Scalar (codePoint (getD s 0 0 ∷ getD s 1 0 ∷ getD s 2 0 ∷ [])) 3 ≡ stepBy l s
-      three e = sym (judged 2 true _ e (fits-in _ (later ∷ []) s 1 f ∙ fits-in _ [] s 2 g) (three-bytes s (byte-there later [] s 2 g)))
+      pub three : l .len ≡ 3 → 3 ≡ stepLength (stepBy l s)
+      three e = whole 2 e (fits-in _ (later ∷ []) s 1 f ∙ fits-in _ [] s 2 g)
 
-      pub no-fourth : l .len ≡ 4 → byteFits later s 3 ≡ false → IllFormed ≡ stepBy l s
-      no-fourth e h = sym (judged 3 false (take 4 s) e (fits-in _ (later ∷ later ∷ []) s 1 f ∙ (fits-in _ (later ∷ []) s 2 g ∙ fits-out _ [] s 3 h)) refl)
+      pub no-fourth : l .len ≡ 4 → byteFits later s 3 ≡ false → 0 ≡ stepLength (stepBy l s)
+      no-fourth e h = broken 3 e (fits-in _ (later ∷ later ∷ []) s 1 f ∙ (fits-in _ (later ∷ []) s 2 g ∙ fits-out _ [] s 3 h))
 
-      pub four : byteFits later s 3 ≡ true → l .len ≡ 4 → Scalar (codePoint (getD s 0 0 ∷ getD s 1 0 ∷ getD s 2 0 ∷ getD s 3 0 ∷ [])) 4 ≡ stepBy l s
-      four h e =
-          sym (judged 3 true _ e (fits-in _ (later ∷ later ∷ []) s 1 f ∙ (fits-in _ (later ∷ []) s 2 g ∙ fits-in _ [] s 3 h)) (four-bytes s (byte-there later [] s 3 h)))
+      pub four : byteFits later s 3 ≡ true → l .len ≡ 4 → 4 ≡ stepLength (stepBy l s)
+      four h e = whole 3 e (fits-in _ (later ∷ later ∷ []) s 1 f ∙ (fits-in _ (later ∷ []) s 2 g ∙ fits-in _ [] s 3 h))
 
 -- the rows' first bytes rise from m on
 abbrev pub rising : ℕ → List Row → Bool

@@ -6,7 +6,7 @@ use lib.Dec.{ltb}
 use lib.ListN.{length, take, drop, getD, replicate}
 use Rattle.utf8.specs.declared.Lead.{Lead}
 use Rattle.utf8.specs.declared.Step.{Step}
-use Rattle.utf8.specs.declared.Step.the-variants.{Scalar, IllFormed}
+use Rattle.utf8.specs.declared.Step.the-variants.{Scalar, IllFormed, End}
 use Rattle.utf8.specs.Table.{Bytes, _to_, Row, table, inside, fits, codePoint}
 use Rattle.utf8.specs.Head.{pickStep}
 
@@ -50,3 +50,9 @@ stepBy l s = stepAs (l .len) (trailOf (l .len) (l .low) (l .high)) s
 -- byte i of the text is there and in the range
 unfoldable pub byteFits : Bytes → List ℕ → ℕ → Bool
 byteFits g s i = ltb i (length s) && inside g (getD s i 0)
+
+-- the length of the sequence that was found; 0 where none was
+abbrev pub stepLength : Step → ℕ
+stepLength (Scalar x n) = n
+stepLength IllFormed = 0
+stepLength End = 0

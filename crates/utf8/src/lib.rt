@@ -6,7 +6,7 @@ ghost use lib.ListN.{length};
 ghost use Rattle.utf8.specs.Scalar.{isScalar};
 ghost use Rattle.utf8.specs.Table.{_to_, codePoint};
 ghost use Rattle.utf8.specs.Head.{stepOf};
-ghost use Rattle.utf8.specs.Lead.{leadOf, stepBy, byteFits};
+ghost use Rattle.utf8.specs.Lead.{leadOf, stepBy, byteFits, stepLength};
 ghost use Rattle.utf8.specs.Text.{textOf};
 ghost use mathlib.Core.List.{[], _∷_};
 
@@ -138,46 +138,45 @@ fn misses(s: &[u8], i: usize, low: u8, high: u8) -> bool
     high < b
 }
 
-// The sequence at the head of `s`, whose first byte has this lead.
-fn finish(s: &[u8], lead: Lead) -> Step
+// The length of the sequence at the head of `s`, whose first byte has this lead; 0 where none begins.
+fn measure_by(s: &[u8], lead: Lead) -> usize
     requires { ⌜ (0 < length (now s)) × (lead .len ≤ 4) ⌝ }
-    ensures { λ r. ⌜ r ≡ stepBy lead (now (s .entry)) ⌝ }
+    ensures { λ r. ⌜ r ≡ stepLength (stepBy lead (now (s .entry))) ⌝ }
 {
     let len = lead.len;
     if len == 0 {
-        return Step::IllFormed;
+        return 0;
     }
     if len == 1 {
-        return Step::Scalar {
-            code: join1(s[0]),
-            len: 1,
-        };
+        return 1;
     }
     if misses(s, 1, lead.low, lead.high) {
-        return Step::IllFormed;
+        return 0;
     }
     if len == 2 {
-        return Step::Scalar {
-            code: join2(s[0], s[1]),
-            len: 2,
-        };
+        return 2;
     }
     if misses(s, 2, 0x80, 0xBF) {
-        return Step::IllFormed;
+        return 0;
     }
     if len == 3 {
-        return Step::Scalar {
-            code: join3(s[0], s[1], s[2]),
-            len: 3,
-        };
+        return 3;
     }
     if misses(s, 3, 0x80, 0xBF) {
-        return Step::IllFormed;
+        return 0;
     }
-    Step::Scalar {
-        code: join4(s[0], s[1], s[2], s[3]),
-        len: 4,
+    4
+}
+
+// The length of the sequence at the head of `s`; 0 where none begins.
+fn measure(s: &[u8]) -> usize
+    ensures { λ r. ⌜ r ≡ stepLength (stepOf (now (s .entry))) ⌝ }
+{
+    if s.len() == 0 {
+        return 0;
     }
+    let b = s[0];
+    measure_by(s, read_lead(b))
 }
 
 // The sequence at the head of `s`.
@@ -187,14 +186,26 @@ pub fn decode(s: &[u8]) -> Step
     if s.len() == 0 {
         return Step::End;
     }
-    let b = s[0];
-    if b < 0x80 {
-        return Step::Scalar {
-            code: join1(b),
-            len: 1,
-        };
+    let len = measure(s);
+    match len {
+        0 => Step::IllFormed,
+        1 => Step::Scalar {
+            code: join1(s[0]),
+            len,
+        },
+        2 => Step::Scalar {
+            code: join2(s[0], s[1]),
+            len,
+        },
+        3 => Step::Scalar {
+            code: join3(s[0], s[1], s[2]),
+            len,
+        },
+        _ => Step::Scalar {
+            code: join4(s[0], s[1], s[2], s[3]),
+            len,
+        },
     }
-    finish(s, read_lead(b))
 }
 
 // The first place of `s` at which no well-formed sequence begins, or that there is none.
@@ -207,12 +218,11 @@ pub fn check_text(s: &[u8]) -> Text
             at += 1;
             continue;
         }
-        let step = decode(&s[at..]);
-        match step {
-            Step::Scalar { code: _, len } => at += len,
-            Step::IllFormed => return Text::IllFormed(at),
-            Step::End => return Text::WellFormed,
+        let len = measure(&s[at..]);
+        if len == 0 {
+            return Text::IllFormed(at);
         }
+        at += len;
     }
     Text::WellFormed
 }

@@ -3,14 +3,6 @@ use libc::STDOUT_FILENO;
 use utf8::Step;
 use utf8::Text;
 
-fn print_number(n: usize) {
-    io::print_decimal(STDOUT_FILENO, n as u64);
-}
-
-fn print_word(w: &[u8]) {
-    io::write_all(STDOUT_FILENO, w);
-}
-
 fn wide(b: u8) -> u64 {
     b as u64
 }
@@ -19,7 +11,7 @@ fn print_bytes(s: &[u8]) {
     let mut i = 0;
     while i < s.len() {
         io::print_hex(STDOUT_FILENO, wide(s[i]), 2);
-        print_word(b" ");
+        printing::print_text(b" ");
         i += 1;
     }
 }
@@ -30,21 +22,21 @@ fn show(s: &[u8]) {
     let step = utf8::decode(s);
     match step {
         Step::Scalar { code, len } => {
-            print_word(b"scalar ");
+            printing::print_text(b"scalar ");
             io::print_hex(STDOUT_FILENO, code as u64, 4);
-            print_word(b" length ");
-            print_number(len);
+            printing::print_text(b" length ");
+            printing::print_number(len);
         }
-        Step::IllFormed => print_word(b"ill-formed"),
-        Step::End => print_word(b"end"),
+        Step::IllFormed => printing::print_text(b"ill-formed"),
+        Step::End => printing::print_text(b"end"),
     }
     let text = utf8::check_text(s);
     match text {
-        Text::WellFormed => print_word(b", text well-formed\n"),
+        Text::WellFormed => printing::print_text(b", text well-formed\n"),
         Text::IllFormed(p) => {
-            print_word(b", text ill-formed at ");
-            print_number(p);
-            print_word(b"\n");
+            printing::print_text(b", text ill-formed at ");
+            printing::print_number(p);
+            printing::print_text(b"\n");
         }
     }
 }

@@ -5,7 +5,6 @@ use image::Answer;
 use image::MAX_ENTRIES;
 use image::Profile;
 use libc::STDOUT_FILENO;
-use refusal::Refusal;
 use writer::Written;
 
 const VERSION: u32 = 1048576;
@@ -32,23 +31,6 @@ const M: [u32; 15] = [
 // What a buffer holds before the writer gets it.
 const BEFORE: u8 = 0xAA;
 
-fn print_number(n: usize) {
-    io::print_decimal(STDOUT_FILENO, n as u64);
-}
-
-fn print_text(s: &[u8]) {
-    io::write_all(STDOUT_FILENO, s);
-}
-
-fn print_refusal(r: Refusal) {
-    print_text(b"refused ");
-    print_number(refusal::number(r) as usize);
-    if refusal::carried_count(r) == 1 {
-        print_text(b" ");
-        print_number(refusal::carried(r));
-    }
-}
-
 fn wide(b: u8) -> u64 {
     b as u64
 }
@@ -62,9 +44,9 @@ fn print_gap(i: usize, columns: usize)
     requires { ⌜ 1 ≤ columns ⌝ }
 {
     if i % columns == columns - 1 {
-        print_text(b"\n");
+        printing::print_text(b"\n");
     } else {
-        print_text(b" ");
+        printing::print_text(b" ");
     }
 }
 
@@ -115,11 +97,11 @@ fn with_entry(point: u32, role: u32, next: u32) -> Profile {
 
 fn print_answer(a: Written) {
     match a {
-        Written::Refused(r) => print_refusal(r),
+        Written::Refused(r) => printing::print_refusal(r),
         Written::Image { len } => {
-            print_text(b"image of ");
-            print_number(len);
-            print_text(b" bytes");
+            printing::print_text(b"image of ");
+            printing::print_number(len);
+            printing::print_text(b" bytes");
         }
     }
 }
@@ -129,13 +111,13 @@ fn try_write(what: &[u8], words: &[u32], profile: Profile, out: &mut [u8], room:
     requires { ⌜ room ≤ length (now out) ⌝ }
 {
     let a = writer::write(VERSION, words, profile, &mut out[..room]);
-    print_text(what);
-    print_text(b": ");
+    printing::print_text(what);
+    printing::print_text(b": ");
     print_answer(a);
     if is_unchanged(out) {
-        print_text(b", buffer unchanged");
+        printing::print_text(b", buffer unchanged");
     }
-    print_text(b"\n");
+    printing::print_text(b"\n");
 }
 
 fn show(what: &[u8], words: &[u32], profile: Profile, room: usize)
@@ -151,22 +133,22 @@ fn show_read(s: &[u8]) {
     let k = image::read(s, &mut words);
     let a = k.answer;
     match a {
-        Answer::Refused(r) => print_refusal(r),
+        Answer::Refused(r) => printing::print_refusal(r),
         Answer::Accepted { version, ranges } => {
-            print_text(b"version ");
-            print_number(version as usize);
-            print_text(b", ranges ");
-            print_number(ranges);
+            printing::print_text(b"version ");
+            printing::print_number(version as usize);
+            printing::print_text(b", ranges ");
+            printing::print_number(ranges);
         }
     }
     let p = k.profile;
-    print_text(b", entries ");
-    print_number(p.used);
-    print_text(b": ");
+    printing::print_text(b", entries ");
+    printing::print_number(p.used);
+    printing::print_text(b": ");
     io::print_hex(STDOUT_FILENO, wide_word(p.points[0]), 4);
-    print_text(b" role ");
+    printing::print_text(b" role ");
     io::print_decimal(STDOUT_FILENO, wide_word(p.roles[0]));
-    print_text(b"\n");
+    printing::print_text(b"\n");
     print_words(&words);
 }
 
@@ -183,7 +165,7 @@ fn show_m() {
     let mut out = [BEFORE; 104];
     let a = writer::write(VERSION, &M, with_entry(0x2E, 3, 0), &mut out);
     print_answer(a);
-    print_text(b"\n");
+    printing::print_text(b"\n");
     print_bytes(&out);
     show_front(&out);
 }

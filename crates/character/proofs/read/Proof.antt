@@ -1,13 +1,5 @@
--- `character::read` meets its contract: a byte below 80 by the table, another sequence by the memo or a search. Assumes nothing.
-use Prim.Native.Nat.{ℕ, _≤_, _<_}
-use mathlib.Core.Path.{_≡_, refl, sym, ap, _∙_}
+-- `character::read` meets its contract: a byte below 80 by the table, another sequence by decoding it. Assumes nothing.
 use native.Mathlib.Omega.{arith}
-use lib.ListN.{length, drop, length-drop}
-use Rattle.lists.proofs.LaidLaws.{rest}
-use Rattle.utf8.specs.declared.Step.{Step}
-use Rattle.utf8.specs.Head.{stepOf}
-use Rattle.utf8.proofs.SequenceLaws.{end-empty}
-use Rattle.utf8.proofs.TextLaws.{taken}
 use Rattle.character.proofs.CharacterLaws.{ascii-at}
 use borrow.Author.Needs.{needs}
 use Rattle.character.proofs.read.Statement.{statement}
@@ -16,15 +8,11 @@ use Rattle.character.proofs.read.Tie as tie
 shared-slice-read-b : tie.Need-shared-slice-read-b
 shared-slice-read-b c = search needs
 
-cast-t18 : tie.Need-cast-t18
-cast-t18 c = search needs
+cast-t14 : tie.Need-cast-t14
+cast-t14 c = search needs
 
-element-copy-out-t21 : tie.Need-element-copy-out-t21
-element-copy-out-t21 c = search needs
-
--- the step that stands at the place
-stands : (c : tie.After-decode) (t : Step) → c .decode .result ≡ t → stepOf (drop (c .before .before .before .before .before .before .args .at) (c .before .before .before .before .before .before .args .text .now)) ≡ t
-stands c t e = ap stepOf (sym (rest (c .before .before .before .before .before .before .args .text .now) (c .before .before .before .before .before .before .args .at))) ∙ sym (c .decode .ensures) ∙ e
+element-copy-out-t17 : tie.Need-element-copy-out-t17
+element-copy-out-t17 c = search needs
 
 returns : tie.Need-returns
 returns c =
@@ -34,71 +22,19 @@ returns c =
       some = λ l. (_, ascii-at _ _ (c .before .before .before .before .before .pre .1 .1 .1) (c .before .if1 .taken), c .before .before .before .before .before .pre .1 .0 .each _ (c .before .if1 .taken));
     }
 
-sub-decode : tie.Need-sub-decode
-sub-decode c = search needs
-
-part-decode-start : tie.Need-part-decode-start
-part-decode-start c = search needs
-
-part-decode-end : tie.Need-part-decode-end
-part-decode-end c = search needs
-
-decode-requires : tie.Need-decode-requires
-decode-requires c κs = search needs
-
-enum-known-step : tie.Need-enum-known-step
-enum-known-step c = search needs
-
-recall-requires : tie.Need-recall-requires
-recall-requires c κs = (c .before .before .before .before .before .before .before .before .before .pre .0, c .before .before .before .before .before .before .before .before .before .pre .1 .1 .0)
-
-enum-told : tie.Need-enum-told
-enum-told c = search needs
-
-enum-told-2 : tie.Need-enum-told-2
-enum-told-2 c = search needs
+read-decoded-requires : tie.Need-read-decoded-requires
+read-decoded-requires c κs = search needs
 
 returns-2 : tie.Need-returns-2
-returns-2 c =
-    let m = c .recall .ensures in
-    let e = stands (c .before .before .before .before) _ (c .before .before .step .given .1) in
-    record {
-      memo = m .all;
-      none = λ z. absurd (omega (arith, taken _ _ _ e .some-bytes));
-      some = λ l. (_, e, sym (m .all _ (m .from) (m .to)));
-    }
-
-returns-3 : tie.Need-returns-3
-returns-3 c =
-    record {
-      memo = c .before .before .before .before .before .before .before .before .pre .1 .1 .0;
-      none = λ e. stands (c .before .before) _ (c .enum-told .given .1);
-      some = λ l. absurd (omega arith);
-    }
-
-returns-4 : tie.Need-returns-4
-returns-4 c =
-    let text = c .before .before .before .before .before .before .before .before .args .text .now in
-    let at = c .before .before .before .before .before .before .before .before .args .at in
-    let z = ap length (end-empty (drop at text) (stands (c .before .before) _ (c .enum-told2 .given .1))) in
-    absurd (omega (arith, length-drop at text, c .before .before .before .before .before .before .before .before .pre .1 .1 .1))
+returns-2 c = search needs
 
 pub read-spec : {M : Type 1} → statement M
 read-spec =
     tie.close
     (tie.spec
     shared-slice-read-b
-    cast-t18
-    element-copy-out-t21
+    cast-t14
+    element-copy-out-t17
     returns
-    sub-decode
-    part-decode-start
-    part-decode-end
-    decode-requires
-    enum-known-step
-    recall-requires
-    enum-told
-    enum-told-2
-    returns-2
-    returns-3
-    returns-4)
+    read-decoded-requires
+    returns-2)

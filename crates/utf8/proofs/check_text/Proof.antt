@@ -6,11 +6,10 @@ use native.Mathlib.Omega.{arith}
 use borrow.Author.Needs.{needs}
 use lib.ListN.{length, drop, length-drop}
 use Rattle.lists.proofs.LaidLaws.{rest}
-use Rattle.utf8.specs.declared.Step.{Step}
 use Rattle.utf8.specs.Head.{stepOf}
+use Rattle.utf8.specs.Lead.{stepLength}
 use Rattle.utf8.specs.Text.{textOf}
-use Rattle.utf8.proofs.SequenceLaws.{end-empty}
-use Rattle.utf8.proofs.TextLaws.{shift, shift-zero, Turn, turn, ascii-turn, ill-here, end-here}
+use Rattle.utf8.proofs.TextLaws.{shift, shift-zero, Turn, turn, found-step, none-measured, ascii-turn, ill-here, end-here}
 use Rattle.utf8.proofs.check_text.Statement.{statement}
 use Rattle.utf8.proofs.check_text.Tie as tie
 
@@ -20,16 +19,18 @@ Inv-loop s at₀ at = (at ≤ length s) × (shift at (textOf (drop at s)) ≡ te
 abbrev μ-loop : tie.MeasureT-loop
 μ-loop s at₀ at = length s - at
 
--- the step that stands at the place reached
+-- the length that was measured at the place reached
 stands :
-    (c : tie.After-decode Inv-loop μ-loop) (t : Step) → c .decode .result ≡ t
-    → stepOf (drop (c .before .before .before .before .before .loop .at) (c .before .before .before .before .before .before .before .args .s .now)) ≡ t
-stands c t e = ap stepOf (sym (rest (c .before .before .before .before .before .before .before .args .s .now) (c .before .before .before .before .before .loop .at))) ∙ sym (c .decode .ensures) ∙ e
+    (c : tie.After-measure Inv-loop μ-loop)
+    → c .measure .result ≡ stepLength (stepOf (drop (c .before .before .before .before .before .loop .at) (c .before .before .before .before .before .before .before .args .s .now)))
+stands c = c .measure .ensures ∙ ap (λ l. stepLength (stepOf l)) (rest (c .before .before .before .before .before .before .before .args .s .now) (c .before .before .before .before .before .loop .at))
 
-moves :
-    (c : tie.After-known-told Inv-loop μ-loop)
-    → Turn (c .before .before .before .before .before .before .before .before .before .before .args .s .now) (c .before .before .before .before .before .before .before .before .loop .at) (c .before .step .given .0 .1 .0)
-moves c = turn _ _ (c .before .step .given .0 .0) _ (c .before .before .before .before .before .before .before .before .loop .inv .0) (stands (c .before .before .before) _ (c .before .step .given .1))
+moves : (c : tie.Else2 Inv-loop μ-loop) → Turn (c .before .before .before .before .before .before .before .before .args .s .now) (c .before .before .before .before .before .before .loop .at) (c .before .measure .result)
+moves c =
+    let s = c .before .before .before .before .before .before .before .before .args .s .now in
+    let at = c .before .before .before .before .before .before .loop .at in
+    let e = found-step (drop at s) (c .before .measure .result) (stands (c .before)) (c .if2 .left) in
+    turn s at (e .0) _ (c .before .before .before .before .before .before .loop .inv .0) (e .1)
 
 loop-holds : tie.Need-loop-holds Inv-loop μ-loop
 loop-holds c = (omega arith, shift-zero _)
@@ -48,20 +49,24 @@ loop-again c =
     let t = ascii-turn _ _ (c .before .before .loop-test .taken) (c .if1 .taken) in
     (t .within, sym (t .same) ∙ c .before .before .before .loop .inv .1)
 
-sub-decode : tie.Need-sub-decode Inv-loop μ-loop
-sub-decode c = search needs
+sub-measure : tie.Need-sub-measure Inv-loop μ-loop
+sub-measure c = search needs
 
-part-decode-start : tie.Need-part-decode-start Inv-loop μ-loop
-part-decode-start c = search needs
+part-measure-start : tie.Need-part-measure-start Inv-loop μ-loop
+part-measure-start c = search needs
 
-part-decode-end : tie.Need-part-decode-end Inv-loop μ-loop
-part-decode-end c = search needs
+part-measure-end : tie.Need-part-measure-end Inv-loop μ-loop
+part-measure-end c = search needs
 
-decode-requires : tie.Need-decode-requires Inv-loop μ-loop
-decode-requires c κs = search needs
+measure-requires : tie.Need-measure-requires Inv-loop μ-loop
+measure-requires c κs = search needs
 
-enum-known-step : tie.Need-enum-known-step Inv-loop μ-loop
-enum-known-step c = search needs
+returns : tie.Need-returns Inv-loop μ-loop
+returns c =
+    let s = c .before .before .before .before .before .before .before .before .args .s .now in
+    let at = c .before .before .before .before .before .before .loop .at in
+    let l = length-drop at s in
+    sym (ill-here s at (sym (none-measured (drop at s) (omega (arith, c .before .before .before .before .before .loop-test .taken)) (sym (c .if2 .taken) ∙ stands (c .before))))) ∙ c .before .before .before .before .before .before .loop .inv .1
 
 add-at-2 : tie.Need-add-at-2 Inv-loop μ-loop
 add-at-2 c = let t = moves c in omega arith
@@ -70,26 +75,10 @@ loop-less-2 : tie.Need-loop-less-2 Inv-loop μ-loop
 loop-less-2 c = let t = moves c in omega arith
 
 loop-again-2 : tie.Need-loop-again-2 Inv-loop μ-loop
-loop-again-2 c = let t = moves c in (t .within, sym (t .same) ∙ c .before .before .before .before .before .before .before .before .loop .inv .1)
-
-enum-told : tie.Need-enum-told Inv-loop μ-loop
-enum-told c = search needs
-
-returns : tie.Need-returns Inv-loop μ-loop
-returns c = sym (ill-here _ _ (stands (c .before .before) _ (c .enum-told .given .1))) ∙ c .before .before .before .before .before .before .before .loop .inv .1
-
-enum-told-2 : tie.Need-enum-told-2 Inv-loop μ-loop
-enum-told-2 c = search needs
+loop-again-2 c = let t = moves c in (t .within, sym (t .same) ∙ c .before .before .before .before .before .before .loop .inv .1)
 
 returns-2 : tie.Need-returns-2 Inv-loop μ-loop
-returns-2 c =
-    let s = c .before .before .before .before .before .before .before .before .before .args .s .now in
-    let at = c .before .before .before .before .before .before .before .loop .at in
-    let l = ap length (end-empty (drop at s) (stands (c .before .before) _ (c .enum-told2 .given .1))) in
-    sym (end-here s at (omega (arith, length-drop at s))) ∙ c .before .before .before .before .before .before .before .loop .inv .1
-
-returns-3 : tie.Need-returns-3 Inv-loop μ-loop
-returns-3 c = sym (end-here (c .before .before .before .args .s .now) (c .before .loop .at) (omega arith)) ∙ c .before .loop .inv .1
+returns-2 c = sym (end-here (c .before .before .before .args .s .now) (c .before .loop .at) (omega arith)) ∙ c .before .loop .inv .1
 
 pub check-text-spec : {M : Type 1} → statement M
 check-text-spec =
@@ -102,16 +91,12 @@ check-text-spec =
     add-at
     loop-less
     loop-again
-    sub-decode
-    part-decode-start
-    part-decode-end
-    decode-requires
-    enum-known-step
+    sub-measure
+    part-measure-start
+    part-measure-end
+    measure-requires
+    returns
     add-at-2
     loop-less-2
     loop-again-2
-    enum-told
-    returns
-    enum-told-2
-    returns-2
-    returns-3)
+    returns-2)

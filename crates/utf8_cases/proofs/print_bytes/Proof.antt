@@ -29,12 +29,12 @@ print-hex-requires : tie.Need-print-hex-requires Inv-loop μ-loop
 print-hex-requires c κs = search needs
 
 -- src/main.rt:22:20
-slice-aggregate-print-word : tie.Need-slice-aggregate-print-word Inv-loop μ-loop
-slice-aggregate-print-word c = search needs
+slice-aggregate-print-text : tie.Need-slice-aggregate-print-text Inv-loop μ-loop
+slice-aggregate-print-text c = search needs
 
 -- src/main.rt:22:9
-print-word-requires : tie.Need-print-word-requires Inv-loop μ-loop
-print-word-requires c κs = search needs
+print-text-requires : tie.Need-print-text-requires Inv-loop μ-loop
+print-text-requires c κs = search needs
 
 -- src/main.rt:23:9
 add-i : tie.Need-add-i Inv-loop μ-loop
@@ -62,8 +62,8 @@ print-bytes-spec =
     shared-slice-read-wide
     wide-requires
     print-hex-requires
-    slice-aggregate-print-word
-    print-word-requires
+    slice-aggregate-print-text
+    print-text-requires
     add-i
     loop-less
     loop-again

@@ -1,0 +1,133 @@
+-- One token at a place is the first token of the text from the place on. Assumes nothing.
+use Prim.Native.Nat.{ℕ, _+_, _-_, _≤_, _<_}
+use mathlib.Core.Path.{_≡_, refl, sym, ap, _∙_}
+use mathlib.Core.Bool.{Bool, true, false, not, _&&_}
+use mathlib.Core.List.{List, [], _∷_, _++_}
+use mathlib.Core.Option.{Option, none, some}
+use native.Mathlib.Omega.{arith}
+use lib.ListN.{length, take, drop, length-drop}
+use lib.Dec.{ltb, eqb}
+use borrow.Author.Tests.{lt-ltb, le-ltb, eq-eqb, ne-eqb}
+use Rattle.refusal.specs.declared.Refusal.{Refusal}
+use Rattle.refusal.specs.declared.Refusal.the-variants as refusal
+use Rattle.utf8.specs.declared.Step.{Step}
+use Rattle.utf8.specs.declared.Step.the-variants as step
+use Rattle.utf8.specs.Head.{stepOf}
+use Rattle.utf8.specs.Text.{Character, decode, widthOf, textBy, textOf}
+use Rattle.utf8.proofs.TextLaws.{taken, decode-scalar, text-ill, text-end, says, covers, cut}
+use Rattle.image.specs.Check.{refusalOf, checkOf}
+use Rattle.image.specs.declared.Answer.the-variants as answer
+use Rattle.image.specs.declared.Checked.{Checked}
+use Rattle.image.proofs.ImageLaws.{says as check-says}
+use Rattle.division.specs.Scan.{Tok, unitsOf, reading}
+use Rattle.division.specs.Grammar.{Kind}
+use Rattle.division.specs.Kinds.{kindNumber}
+use Rattle.division.specs.Record.{tokenWidth, tokensWidth}
+use Rattle.division.specs.Reading.{maxText, rulesOf, readingOf, tokensOf, lengthRefusal}
+use Rattle.division.proofs.ScanLaws.{reading-covers}
+use Rattle.division.proofs.RecordLaws.{width-append, tokens-width}
+use Rattle.scan.specs.declared.First.{First}
+use Rattle.scan.specs.declared.First.the-variants as first
+use Rattle.scan.specs.First.{firstIn, firstBy, firstOf}
+use Rattle.token.specs.declared.Taken.{Taken}
+use Rattle.token.specs.declared.Taken.the-variants.{Refused, Done, Token}
+use Rattle.token.specs.Taken.{pickTaken, placeRefusal, stopBy, stopOf, firstAt, tokenAt, takenOf}
+
+-- the first token of a part that begins at a place, at its places in the whole text
+abbrev pub takenBy : ℕ → First → Taken
+takenBy place first.Nothing = Done
+takenBy place first.IllFormed = Refused (refusal.IllFormed place)
+takenBy place first.NoToken = Refused (refusal.Characters place)
+takenBy place (first.Token k e) = Token k place (place + e)
+
+-- the characters from the place on end at q
+stop-by : (place end w : ℕ) (r : List ℕ) → (r ≡ [] → end ≡ place + w) → stopBy place end (textBy w r) ≡ place + w
+stop-by place end w [] h = h refl
+stop-by place end w (b ∷ r) h = refl
+
+stop-width : (text : List ℕ) (place : ℕ) → place ≤ length text → stopOf text place ≡ place + widthOf (decode (drop place text) .characters)
+unfolding stopOf textOf
+stop-width text place h =
+    let part = drop place text in
+    let w = widthOf (decode part .characters) in
+    let c = covers part in
+    let l = length-drop place text in
+    stop-by place (length text) w (decode part .rest) (λ e.
+    let n = ap length (c .after ∙ e) in
+    let m = length-drop w part in
+    let z : length (drop w part) ≡ 0 = n in
+    omega (arith, c .within))
+
+-- reading the part up to q finds the same tokens
+same-tokens : (s part : List ℕ) → tokensOf s (take (widthOf (decode part .characters)) part) ≡ tokensOf s part
+unfolding readingOf
+same-tokens s part = ap (λ d. reading (rulesOf s) (d .characters) .tokens) (cut part)
+
+first-by : (place : ℕ) (ts : List (Tok Character Kind)) → firstAt place ts ≡ takenBy place (firstIn ts)
+first-by place [] = refl
+first-by place (t ∷ ts) = refl
+
+module _ (s text : List ℕ) (place : ℕ) (within : place ≤ length text) where
+  at-step : (t : Step) → stepOf (drop place text) ≡ t → tokenAt s text place ≡ takenBy place (firstBy (tokensOf s (drop place text)) t)
+  unfolding tokenAt stopOf
+  at-step step.End e =
+      let l = length-drop place text in
+      let (n, d) = says (drop place text) step.End (sym e) in
+      let z = ap length n in
+      let q : place ≡ length text = omega arith in
+      rw (text-end (drop place text) n) (simp (eq-eqb place (length text) q))
+  at-step step.IllFormed e =
+      let l = length-drop place text in
+      let (n, d) = says (drop place text) step.IllFormed (sym e) in
+      let q : place ≡ place + 0 = omega arith in
+      rw (text-ill (drop place text) e) (simp (eq-eqb place (place + 0) q, ne-eqb place (length text) (λ z. omega arith)))
+  at-step (step.Scalar x n) e =
+      let part = drop place text in
+      let l = length-drop place text in
+      let t = taken part x n e in
+      let d = ap (λ d. widthOf (d .characters)) (decode-scalar part x n e) in
+      let w = stop-width text place within in
+      let q : stopOf text place - place ≡ widthOf (decode part .characters) = omega arith in
+      let r = ap (λ (k : ℕ). firstAt place (tokensOf s (take k part))) q ∙ ap (firstAt place) (same-tokens s part) ∙ first-by place (tokensOf s part) in
+      simp (ne-eqb place (stopOf text place) (λ z. omega arith), ne-eqb place (length text) (λ z. omega arith)) r
+
+  pub token-at : tokenAt s text place ≡ takenBy place (firstOf s (drop place text))
+  unfolding firstOf
+  token-at = at-step (stepOf (drop place text)) refl
+
+-- a first token ends within the text
+first-within-by : (ts : List (Tok Character Kind)) (t : Step) (k e : ℕ) → firstBy ts t ≡ first.Token k e → e ≤ tokensWidth ts
+first-within-by [] (step.Scalar x n) k e f = let z : _≡_ {A = ℕ} 0 1 = cc in absurd (omega arith)
+first-within-by (t ∷ ts) (step.Scalar x n) k e f = let z : tokenWidth t ≡ e = cc in omega arith
+first-within-by ts step.IllFormed k e f = let z : _≡_ {A = ℕ} 0 1 = cc in absurd (omega arith)
+first-within-by ts step.End k e f = let z : _≡_ {A = ℕ} 0 1 = cc in absurd (omega arith)
+
+pub first-within : (s text : List ℕ) (k e : ℕ) → firstOf s text ≡ first.Token k e → e ≤ length text
+unfolding firstOf readingOf
+first-within s text k e f =
+    let w = readingOf s text in
+    let c = ap widthOf (reading-covers (rulesOf s) (decode text .characters)) ∙ width-append (unitsOf (w .tokens)) (w .left) in
+    omega (arith, first-within-by (w .tokens) (stepOf text) k e f, tokens-width (w .tokens), covers text .within)
+
+module _ (s text : List ℕ) (place : ℕ) where
+  -- 1 to 4
+  pub taken-refused : (k : Checked) → k ≡ checkOf s → (r : Refusal) → k .answer ≡ answer.Refused r → Refused r ≡ takenOf s text place
+  unfolding takenOf
+  taken-refused k e r f = rw (check-says s k e (answer.Refused r) f .0)
+
+  module _ (accepted : refusalOf s ≡ none) where
+    -- 5
+    pub taken-long : maxText < length text → Refused refusal.TextLength ≡ takenOf s text place
+    unfolding takenOf lengthRefusal
+    taken-long h = rw (accepted, lt-ltb maxText (length text) h)
+
+    module _ (short : length text ≤ maxText) where
+      -- 13
+      pub taken-past : length text < place → Refused refusal.Shape ≡ takenOf s text place
+      unfolding takenOf lengthRefusal placeRefusal
+      taken-past h = rw (accepted, le-ltb maxText (length text) short, lt-ltb (length text) place h)
+
+      -- else what stands at the place
+      pub taken-first : place ≤ length text → (f : First) → firstOf s (drop place text) ≡ f → takenBy place f ≡ takenOf s text place
+      unfolding takenOf lengthRefusal placeRefusal
+      taken-first h f e = rw (accepted, le-ltb maxText (length text) short, le-ltb (length text) place h) (ap (takenBy place) (sym e) ∙ sym (token-at s text place h))

@@ -1,0 +1,35 @@
+-- `token::take_token` meets its contract. Assumes nothing.
+use Rattle.token.proofs.AnswerLaws.{opened}
+use Rattle.token.proofs.TakenLaws.{taken-refused}
+use borrow.Author.Needs.{needs}
+use Rattle.token.proofs.take_token.Statement.{statement}
+use Rattle.token.proofs.take_token.Tie as tie
+
+check-requires : tie.Need-check-requires
+check-requires c κs = search needs
+
+enum-known-answer : tie.Need-enum-known-answer
+enum-known-answer c = search needs
+
+enum-known-answer-2 : tie.Need-enum-known-answer-2
+enum-known-answer-2 c = search needs
+
+take-checked-requires : tie.Need-take-checked-requires
+take-checked-requires c κs = opened _ _ (c .before .before .before .before .before .before .before .before .check .ensures) _ _ (c .before .before .before .before .before .before .answer2 .given .1)
+
+returns : tie.Need-returns
+returns c = taken-refused _ _ _ _ (c .before .before .before .check .ensures) _ (c .before .answer .given .1)
+
+returns-2 : tie.Need-returns-2
+returns-2 c = search needs
+
+pub take-token-spec : {M : Type 1} → statement M
+take-token-spec =
+    tie.close
+    (tie.spec
+    check-requires
+    enum-known-answer
+    enum-known-answer-2
+    take-checked-requires
+    returns
+    returns-2)

@@ -1,0 +1,59 @@
+-- One token at a place (document 01, "Tokens" and "Named refusals").
+use Prim.Native.Nat.{ℕ, _+_, _-_}
+use mathlib.Core.Bool.{Bool, true, false, not, _&&_}
+use mathlib.Core.List.{List, [], _∷_}
+use mathlib.Core.Option.{Option, none, some}
+use lib.ListN.{length, take, drop}
+use lib.Dec.{ltb, eqb}
+use Rattle.refusal.specs.declared.Refusal.{Refusal}
+use Rattle.refusal.specs.declared.Refusal.the-variants as refusal
+use Rattle.utf8.specs.declared.Text.{Text}
+use Rattle.utf8.specs.declared.Text.the-variants.{WellFormed, IllFormed}
+use Rattle.utf8.specs.Text.{Character, textOf}
+use Rattle.image.specs.Check.{refusalOf}
+use Rattle.division.specs.Scan.{Tok}
+use Rattle.division.specs.Grammar.{Kind}
+use Rattle.division.specs.Kinds.{kindNumber}
+use Rattle.division.specs.Outcome.{refusedIf}
+use Rattle.division.specs.Record.{tokenWidth}
+use Rattle.division.specs.Reading.{lengthRefusal, tokensOf}
+use Rattle.token.specs.declared.Taken.{Taken}
+use Rattle.token.specs.declared.Taken.the-variants.{Refused, Done, Token}
+
+abbrev pub pickTaken : Bool → Taken → Taken → Taken
+pickTaken true a b = a
+pickTaken false a b = b
+
+abbrev pub unlessTaken : Option Refusal → Taken → Taken
+unlessTaken none t = t
+unlessTaken (some r) t = Refused r
+
+-- 13: the place lies past the text's end
+unfoldable pub placeRefusal : List ℕ → ℕ → Option Refusal
+placeRefusal text place = refusedIf (ltb (length text) place) refusal.Shape
+
+-- q: the first ill-formed place at or after a place, counted from that place, or the text's end
+abbrev pub stopBy : ℕ → ℕ → Text → ℕ
+stopBy place end WellFormed = end
+stopBy place end (IllFormed p) = place + p
+
+unfoldable pub stopOf : List ℕ → ℕ → ℕ
+stopOf text place = stopBy place (length text) (textOf (drop place text))
+
+-- the first of the tokens from a place on, at its places in the whole text; 7 where none begins
+abbrev pub firstAt : ℕ → List (Tok Character Kind) → Taken
+firstAt place [] = Refused (refusal.Characters place)
+firstAt place (t ∷ ts) = Token (kindNumber (t .kind)) place (place + tokenWidth t)
+
+-- if the place is q and not the end, 6; if it is the end, done;
+-- else the first token of the text from the place to q read as a whole text, or 7 if none begins at the place
+unfoldable pub tokenAt : List ℕ → List ℕ → ℕ → Taken
+tokenAt s text place =
+    let q = stopOf text place in
+    pickTaken (eqb place q && not (eqb place (length text))) (Refused (refusal.IllFormed place))
+    (pickTaken (eqb place (length text)) Done (firstAt place (tokensOf s (take (q - place) (drop place text)))))
+
+-- 1 to 4 of the image, then 5, then 13 for the place; else what stands there
+unfoldable pub takenOf : List ℕ → List ℕ → ℕ → Taken
+takenOf s text place =
+    unlessTaken (refusalOf s) (unlessTaken (lengthRefusal text) (unlessTaken (placeRefusal text place) (tokenAt s text place)))
