@@ -15,7 +15,7 @@ use Rattle.image.specs.Ranges.{rangeAt, classIn}
 use Rattle.image.specs.Profile.{profileBy, roleOf, afterRole, isMedial, profileOf}
 use Rattle.image.specs.Check.{refusalOf, rangeClass, classOf, medialOf}
 use Rattle.image.specs.declared.Profile.{Profile}
-use Rattle.image.proofs.ImageLaws.{Accepted, accepted}
+use Rattle.image.proofs.ImageLaws.{accepted}
 use Rattle.lookup.specs.declared.Stretch.{Stretch}
 use Rattle.lookup.specs.declared.Reach.{Reach}
 use Rattle.lookup.specs.Stretch.{GoodRanges, StretchOf}

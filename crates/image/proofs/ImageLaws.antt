@@ -8,7 +8,7 @@ use native.Mathlib.Omega.{arith}
 use lib.ListN.{length}
 use lib.Dec.{leb, ltb, eqb}
 use borrow.Author.Tests.{leb-true, eqb-true, ltb-true, ltb-false, le-leb, eq-eqb, lt-ltb, le-ltb}
-use Rattle.lists.specs.First.{AllGood, FirstBad}
+use Rattle.lists.specs.First.{AllGood}
 use Rattle.lists.specs.Each.{each}
 use Rattle.lists.specs.Laid.{laid}
 use Rattle.lists.proofs.BoolLaws.{and-left, and-right}
@@ -35,6 +35,7 @@ use Rattle.image.specs.Header.{
 }
 use Rattle.image.specs.Ranges.{rangeAt, rangeWords, goodRange, firstBadRange}
 use Rattle.image.specs.Profile.{pointAt, roleAt, pointIn, roleIn, goodEntry, firstBadEntry, profileOf, noProfile}
+use Rattle.image.specs.Accepted.{Headed, Accepted, Because}
 use Rattle.image.specs.Check.{pickRefusal, refuseAt, refusalOf, checkBy, checkOf, readRefusal, readOf, wordsAfter}
 use Rattle.image.specs.declared.Range.{Range}
 use Rattle.image.specs.declared.Profile.{Profile}
@@ -58,19 +59,6 @@ AllHold a (b ∷ bs) = (a ≡ true) × AllHold b bs
 pub split : (a : Bool) (bs : List Bool) → joined a bs ≡ true → AllHold a bs
 split a [] e = e
 split a (b ∷ bs) e = (and-left a (joined b bs) e, split b bs (and-right a (joined b bs) e))
-
--- an image whose length and header are right
-pub record Headed (s : List ℕ) : Type 0 where
-  pub long : headerBytes ≤ length s
-  pub short : length s ≤ maxImage
-  pub total : totalOf s ≡ length s
-  pub format : formatOf s ≡ 1
-  pub zeros : zeroWord s ≡ 0
-  pub few-ranges : rangeCount s ≤ maxRanges
-  pub few-entries : entryCount s ≤ maxEntries
-  pub ranges-begin : rangeOffset s ≡ headerBytes
-  pub entries-begin : entryOffset s ≡ entriesAt (rangeCount s)
-  pub size : length s ≡ imageEnd (rangeCount s) (entryCount s)
 
 module _ (s : List ℕ) where
   pub headed : lengthRight s ≡ true → headerRight s ≡ true → Headed s
@@ -147,30 +135,6 @@ good-range-same f g i e h = rw (e, h)
 pub good-entry-same : (f g a b : ℕ → ℕ) (i : ℕ) → f i ≡ g i → f (i - 1) ≡ g (i - 1) → a i ≡ b i → goodEntry f a i ≡ goodEntry g b i
 unfolding goodEntry
 good-entry-same f g a b i e h r = rw (e, h, r)
-
--- an accepted image
-pub record Accepted (s : List ℕ) : Type 0 where
-  pub header : Headed s
-  pub ranges : AllGood (goodRange (rangeAt s)) (rangeCount s)
-  pub entries : AllGood (goodEntry (pointAt s) (roleAt s)) (entryCount s)
-
--- what is so exactly where an image has this refusal of 1 to 4, or none
-abbrev pub Because : List ℕ → Option Refusal → Type 0
-Because s none = Accepted s
-Because s (some refusal.Length) = lengthRight s ≡ false
-Because s (some refusal.Header) = (lengthRight s ≡ true) × (headerRight s ≡ false)
-Because s (some (refusal.Range i)) = Headed s × FirstBad (goodRange (rangeAt s)) (rangeCount s) i
-Because s (some (refusal.Entry i)) =
-    Headed s × AllGood (goodRange (rangeAt s)) (rangeCount s) × FirstBad (goodEntry (pointAt s) (roleAt s)) (entryCount s) i
-Because s (some refusal.TextLength) = ⊥
-Because s (some (refusal.IllFormed p)) = ⊥
-Because s (some (refusal.Characters p)) = ⊥
-Because s (some (refusal.Room n)) = ⊥
-Because s (some (refusal.NotScalar x)) = ⊥
-Because s (some (refusal.Change x)) = ⊥
-Because s (some refusal.Profiles) = ⊥
-Because s (some (refusal.Buffer n)) = ⊥
-Because s (some refusal.Shape) = ⊥
 
 module _ (s : List ℕ) where
   abbrev pub badRange : ℕ

@@ -25,27 +25,15 @@ use Rattle.image.specs.Profile.{pointAt, roleAt, pointIn, roleIn, goodEntry, fi
 use Rattle.image.specs.Image.{headerWords, entryWords, imageWords, bytesOfAll, imageOf}
 use Rattle.image.specs.Check.{refusalOf, checkBy, readRefusal, readOf, wordsBy, wordsAfter}
 use Rattle.image.specs.declared.Answer.the-variants as answer
-use Rattle.image.proofs.ImageLaws.{Headed, accepted, refused-none, good-range-same, good-entry-same, entry-read, zeros-past}
+use Rattle.image.specs.Accepted.{Headed}
+use Rattle.image.proofs.ImageLaws.{accepted, refused-none, good-range-same, good-entry-same, entry-read, zeros-past}
 use Rattle.writer.specs.declared.Written.the-variants as written
+use Rattle.writer.specs.Writable.{Writable}
+use Rattle.writer.specs.Back.{SameEntries, ReadBack}
 use Rattle.writer.specs.Write.{rangesIn, bytesNeeded, writeRefusal, writtenBy, writeOf, bytesBy, bytesAfter}
 use Rattle.writer.proofs.WordLaws.{Bytes, Words, word-is, wordsFrom, bytes-from, bytes-each, all-append}
 use Rattle.writer.proofs.PartLaws.{whole, words-back, image-words, length-words, length-image}
-use Rattle.writer.proofs.WriteLaws.{Writable, decides, says}
-
--- profiles are the same if the used lengths and the entries before them are
-pub record SameEntries (p q : Profile) : Type 0 where
-  pub count : p .used ≡ q .used
-  pub point : (i : ℕ) → i < p .used → pointIn p i ≡ pointIn q i
-  pub role : (i : ℕ) → i < p .used → roleIn p i ≡ roleIn q i
-
--- what an image gives back
-pub record ReadBack (version : ℕ) (words : List ℕ) (p : Profile) (s : List ℕ) : Type 0 where
-  pub is-accepted : refusalOf s ≡ none
-  pub same-version : versionOf s ≡ version
-  pub same-count : rangeCount s ≡ rangesIn words
-  pub same-words : each (λ (i : ℕ). rangeWords (rangeAt s i)) (rangeCount s) ≡ words
-  pub same-entries : SameEntries p (profileOf s)
-  pub zeros : (i : ℕ) → p .used ≤ i → (pointIn (profileOf s) i ≡ 0) × (roleIn (profileOf s) i ≡ 0)
+use Rattle.writer.proofs.WriteLaws.{decides, says}
 
 module _ (version : ℕ) (words : List ℕ) (p : Profile) (w : Writable words p) (hv : version < 0x100000000) (hw : Words words) (hp : Words (p .points)) (hr : Words (p .roles)) where
   abbrev n : ℕ
