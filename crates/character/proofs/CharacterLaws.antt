@@ -12,13 +12,12 @@ use lib.ListN.{length, getD, set, drop, length-set, length-drop}
 use lib.Seq.{getD-set-same, getD-set-other, getD-drop}
 use Rattle.image.specs.Header.{rangeCount}
 use Rattle.image.specs.Ranges.{rangeAt, classIn}
-use Rattle.image.specs.Profile.{roleOf, afterRole, isMedial, profileOf}
+use Rattle.image.specs.Profile.{profileBy, roleOf, afterRole, isMedial, profileOf}
 use Rattle.image.specs.Check.{refusalOf, rangeClass, classOf, medialOf}
 use Rattle.image.specs.declared.Profile.{Profile}
-use Rattle.image.proofs.ImageLaws.{Accepted, accepted}
+use Rattle.image.proofs.ImageLaws.{accepted}
 use Rattle.lookup.specs.declared.Stretch.{Stretch}
 use Rattle.lookup.specs.declared.Reach.{Reach}
-use Rattle.lookup.specs.Lookup.{profileBy}
 use Rattle.lookup.specs.Stretch.{GoodRanges, StretchOf}
 use Rattle.lookup.specs.Reach.{ReachOf}
 use Rattle.lookup.proofs.LookupLaws.{class-of-known}

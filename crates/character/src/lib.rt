@@ -8,7 +8,6 @@ ghost use Rattle.character.specs.Traits.{medialPart};
 ghost use Rattle.character.specs.Opened.{Opened};
 ghost use Rattle.character.specs.Read.{MemoOf, MemoAt, TableOf, ReadAs};
 use image::MAX_ENTRIES;
-use utf8::Step;
 
 // Code points from `first` to `last` that have the same traits: the class after the profile, and 8 more for a medial.
 pub struct Memo {
@@ -127,26 +126,21 @@ pub fn read_decoded<'a>(
     requires { ⌜ at < length (now text) ⌝ }
     ensures { λ r. ⌜ ReadAs (now (image .entry)) (now (text .entry)) at r ⌝ }
 {
-    let step = utf8::decode(&text[at..]);
-    match step {
-        Step::Scalar { code, len } => {
-            let m = recall(image, n, points, roles, used, memo, code);
-            Character {
-                len,
-                traits: m.traits,
-                memo: m,
-            }
-        }
-        Step::IllFormed => Character {
+    let part = &text[at..];
+    let len = utf8::measure(part);
+    if len == 0 {
+        return Character {
             len: 0,
             traits: 0,
             memo,
-        },
-        Step::End => Character {
-            len: 0,
-            traits: 0,
-            memo,
-        },
+        };
+    }
+    let code = utf8::code_point(part, len);
+    let m = recall(image, n, points, roles, used, memo, code);
+    Character {
+        len,
+        traits: m.traits,
+        memo: m,
     }
 }
 

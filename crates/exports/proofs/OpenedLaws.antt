@@ -1,7 +1,7 @@
 -- An image that was checked, as the laws of lookup take it. Assumes nothing.
 use Prim.Native.Nat.{ℕ}
 use mathlib.Core.List.{List}
-use Rattle.lookup.specs.Lookup.{profileBy}
+use Rattle.image.specs.Profile.{profileBy}
 use Rattle.lookup.proofs.LookupLaws as lookup
 use Rattle.character.specs.Opened.{Opened}
 use Rattle.character.proofs.CharacterLaws.{opened-fits, opened-good, opened-profile, opened-used}

@@ -4,10 +4,11 @@
 ghost use mathlib.Core.Path.{_≡_};
 ghost use mathlib.Core.List.{[], _∷_};
 ghost use lib.ListN.{length, getD};
+ghost use Rattle.image.specs.Profile.{profileBy};
 ghost use Rattle.image.specs.Check.{checkOf, readOf, wordsAfter};
 ghost use Rattle.character.specs.Opened.{Opened};
 ghost use Rattle.pair.specs.Pair.{pairOf};
-ghost use Rattle.lookup.specs.Lookup.{lookupOf, profileBy};
+ghost use Rattle.lookup.specs.Lookup.{lookupOf};
 ghost use Rattle.writer.specs.Write.{writeOf, bytesAfter};
 ghost use Rattle.exports.specs.Reply.{Tells, refusesOf};
 ghost use Rattle.exports.specs.ImageReply.{TellsChecked, foundReply, writtenReply, pairReply};

@@ -2,17 +2,18 @@
 use Prim.Native.Nat.{ℕ, _+_, _-_, _*_, _/_, _≤_, _<_}
 use mathlib.Core.Path.{_≡_, refl, sym, ap, subst, _∙_}
 use mathlib.Core.List.{List, [], _∷_}
-use mathlib.Core.Bool.{Bool, true, false, not, _&&_, _||_}
+use mathlib.Core.Bool.{Bool, true, false, _&&_, _||_}
 use mathlib.Core.Option.{Option, none, some}
 use native.Mathlib.Omega.{arith}
 use lib.ListN.{length}
 use lib.Dec.{leb, ltb, eqb}
-use borrow.Author.Tests.{leb-true, eqb-true, ltb-true, ltb-false, le-leb, eq-eqb, lt-ltb, le-ltb, not-true, not-false}
-use Rattle.lists.specs.First.{firstWhere}
+use borrow.Author.Tests.{leb-true, eqb-true, ltb-true, ltb-false, le-leb, eq-eqb, lt-ltb, le-ltb}
+use Rattle.lists.specs.First.{AllGood}
 use Rattle.lists.specs.Each.{each}
 use Rattle.lists.specs.Laid.{laid}
 use Rattle.lists.proofs.BoolLaws.{and-left, and-right}
-use Rattle.lists.proofs.FirstLaws.{first-passed, first-holds, first-is, first-none}
+use Rattle.lists.proofs.EachLaws.{column-at, column-past}
+use Rattle.lists.proofs.FirstLaws.{first-bad, all-good, first-is-bad, first-is-none}
 use Rattle.refusal.specs.declared.Refusal.{Refusal}
 use Rattle.refusal.specs.declared.Refusal.the-variants as refusal
 use Rattle.utf8.specs.Scalar.{isScalar}
@@ -33,12 +34,18 @@ use Rattle.image.specs.Header.{
   headerRight,
 }
 use Rattle.image.specs.Ranges.{rangeAt, rangeWords, goodRange, firstBadRange}
-use Rattle.image.specs.Profile.{pointAt, roleAt, goodEntry, firstBadEntry, profileOf, noProfile}
+use Rattle.image.specs.Profile.{pointAt, roleAt, pointIn, roleIn, goodEntry, firstBadEntry, profileOf, noProfile}
+use Rattle.image.specs.Accepted.{Headed, Accepted, Because}
 use Rattle.image.specs.Check.{pickRefusal, refuseAt, refusalOf, checkBy, checkOf, readRefusal, readOf, wordsAfter}
+use Rattle.image.specs.declared.Range.{Range}
 use Rattle.image.specs.declared.Profile.{Profile}
 use Rattle.image.specs.declared.Answer.{Answer}
 use Rattle.image.specs.declared.Answer.the-variants as answer
 use Rattle.image.specs.declared.Checked.{Checked}
+
+-- the largest image
+pub largest : maxImage ≡ 49696
+largest = refl
 
 -- tests that all hold, one by one
 abbrev joined : Bool → List Bool → Bool
@@ -52,19 +59,6 @@ AllHold a (b ∷ bs) = (a ≡ true) × AllHold b bs
 pub split : (a : Bool) (bs : List Bool) → joined a bs ≡ true → AllHold a bs
 split a [] e = e
 split a (b ∷ bs) e = (and-left a (joined b bs) e, split b bs (and-right a (joined b bs) e))
-
--- an image whose length and header are right
-pub record Headed (s : List ℕ) : Type 0 where
-  pub long : headerBytes ≤ length s
-  pub short : length s ≤ maxImage
-  pub total : totalOf s ≡ length s
-  pub format : formatOf s ≡ 1
-  pub zeros : zeroWord s ≡ 0
-  pub few-ranges : rangeCount s ≤ maxRanges
-  pub few-entries : entryCount s ≤ maxEntries
-  pub ranges-begin : rangeOffset s ≡ headerBytes
-  pub entries-begin : entryOffset s ≡ entriesAt (rangeCount s)
-  pub size : length s ≡ imageEnd (rangeCount s) (entryCount s)
 
 module _ (s : List ℕ) where
   pub headed : lengthRight s ≡ true → headerRight s ≡ true → Headed s
@@ -122,68 +116,25 @@ and-last true true c d = refl
 and-last true false c d = refl
 and-last false b c d = refl
 
+-- an entry is good by itself, and after the entry before it
+pub entry-parts :
+    (point role : ℕ → ℕ) (i : ℕ) → goodEntry point role i ≡ ((isScalar (point i) && (leb 1 (role i) && leb (role i) 4)) && (eqb i 0 || ltb (point (i - 1)) (point i)))
+unfolding goodEntry
+entry-parts point role i = and-last (isScalar (point i)) (leb 1 (role i)) (leb (role i) 4) (eqb i 0 || ltb (point (i - 1)) (point i))
+
 pub entry-tests :
     (point role : ℕ → ℕ) (i p r : ℕ) → p ≡ point i → r ≡ role i
     → goodEntry point role i ≡ ((isScalar p && (leb 1 r && leb r 4)) && (eqb i 0 || ltb (point (i - 1)) p))
+entry-tests point role i p r e f = rw (e, f) (entry-parts point role i)
+
+-- whether a record is good depends on it and the one before it
+pub good-range-same : (f g : ℕ → Range) (i : ℕ) → f i ≡ g i → f (i - 1) ≡ g (i - 1) → goodRange f i ≡ goodRange g i
+unfolding goodRange
+good-range-same f g i e h = rw (e, h)
+
+pub good-entry-same : (f g a b : ℕ → ℕ) (i : ℕ) → f i ≡ g i → f (i - 1) ≡ g (i - 1) → a i ≡ b i → goodEntry f a i ≡ goodEntry g b i
 unfolding goodEntry
-entry-tests point role i p r e f =
-    rw (e, f) (and-last (isScalar (point i)) (leb 1 (role i)) (leb (role i) 4) (eqb i 0 || ltb (point (i - 1)) (point i)))
-
--- good at every index below n
-abbrev pub AllGood : (ℕ → Bool) → ℕ → Type 0
-AllGood good n = (i : ℕ) → i < n → good i ≡ true
-
--- i of n is the first index that isn't good
-pub record FirstBad (good : ℕ → Bool) (n i : ℕ) : Type 0 where
-  pub within : i < n
-  pub bad : good i ≡ false
-  pub before : AllGood good i
-
--- an accepted image
-pub record Accepted (s : List ℕ) : Type 0 where
-  pub header : Headed s
-  pub ranges : AllGood (goodRange (rangeAt s)) (rangeCount s)
-  pub entries : AllGood (goodEntry (pointAt s) (roleAt s)) (entryCount s)
-
-module _ (good : ℕ → Bool) (n : ℕ) where
-  abbrev first : ℕ
-  first = firstWhere (λ (i : ℕ). not (good i)) n
-
-  first-bad : first < n → FirstBad good n first
-  first-bad l =
-      record {
-        within = l;
-        bad = not-true _ (first-holds (λ (i : ℕ). not (good i)) n l);
-        before = λ x u. not-false _ (first-passed (λ (i : ℕ). not (good i)) n x u);
-      }
-
-  all-good : n ≤ first → AllGood good n
-  all-good l i u = not-false _ (first-passed (λ (i : ℕ). not (good i)) n i (omega arith))
-
-  first-is-bad : (i : ℕ) → FirstBad good n i → first ≡ i
-  first-is-bad i h =
-      first-is (λ (i : ℕ). not (good i)) n i (h .within) (ap not (h .bad)) (λ x u. ap not (h .before x u))
-
-  first-is-none : AllGood good n → first ≡ n
-  first-is-none h = first-none (λ (i : ℕ). not (good i)) n (λ x u. ap not (h x u))
-
--- what is so exactly where an image has this refusal of 1 to 4, or none
-abbrev pub Because : List ℕ → Option Refusal → Type 0
-Because s none = Accepted s
-Because s (some refusal.Length) = lengthRight s ≡ false
-Because s (some refusal.Header) = (lengthRight s ≡ true) × (headerRight s ≡ false)
-Because s (some (refusal.Range i)) = Headed s × FirstBad (goodRange (rangeAt s)) (rangeCount s) i
-Because s (some (refusal.Entry i)) =
-    Headed s × AllGood (goodRange (rangeAt s)) (rangeCount s) × FirstBad (goodEntry (pointAt s) (roleAt s)) (entryCount s) i
-Because s (some refusal.TextLength) = ⊥
-Because s (some (refusal.IllFormed p)) = ⊥
-Because s (some (refusal.Characters p)) = ⊥
-Because s (some (refusal.Room n)) = ⊥
-Because s (some (refusal.NotScalar x)) = ⊥
-Because s (some (refusal.Change x)) = ⊥
-Because s (some refusal.Profiles) = ⊥
-Because s (some (refusal.Buffer n)) = ⊥
-Because s (some refusal.Shape) = ⊥
+good-entry-same f g a b i e h r = rw (e, h, r)
 
 module _ (s : List ℕ) where
   abbrev pub badRange : ℕ
@@ -259,6 +210,16 @@ module _ (s : List ℕ) where
 
   pub refused-none : Accepted s → refusalOf s ≡ none
   refused-none a = decides none a
+
+-- the record of a profile: the image's entries, and zeros past them
+module _ (s : List ℕ) where
+  pub entry-read : (i : ℕ) → i < entryCount s → (pointIn (profileOf s) i ≡ pointAt s i) × (roleIn (profileOf s) i ≡ roleAt s i)
+  unfolding profileOf
+  entry-read i l = (column-at maxEntries (pointAt s) (entryCount s) i l, column-at maxEntries (roleAt s) (entryCount s) i l)
+
+  pub zeros-past : (i : ℕ) → entryCount s ≤ i → (pointIn (profileOf s) i ≡ 0) × (roleIn (profileOf s) i ≡ 0)
+  unfolding profileOf
+  zeros-past i l = (column-past maxEntries (pointAt s) (entryCount s) i l, column-past maxEntries (roleAt s) (entryCount s) i l)
 
 -- what the answer of a check says
 abbrev pub Says : List ℕ → Answer → Profile → Type 0

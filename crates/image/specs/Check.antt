@@ -1,6 +1,6 @@
 -- What checking and reading an image give (document 01, "Named refusals" 1 to 4 and 8).
 use Prim.Native.Nat.{ℕ, _/_}
-use mathlib.Core.List.{List, [], _∷_}
+use mathlib.Core.List.{List}
 use mathlib.Core.Bool.{Bool, true, false}
 use mathlib.Core.Option.{Option, none, some}
 use lib.ListN.{length}
@@ -54,10 +54,11 @@ abbrev pub readRefusal : List ℕ → ℕ → Option Refusal → Option Refusal
 readRefusal s words none = pickRefusal (ltb (words / 3) (rangeCount s)) (some (refusal.Room (rangeCount s))) none
 readRefusal s words (some r) = some r
 
--- the answer of reading, and what the buffer then holds: the ranges, three words each, and past them what was there
+-- the answer of reading
 unfoldable pub readOf : List ℕ → ℕ → Checked
 readOf s words = checkBy s (readRefusal s words (refusalOf s))
 
+-- what the buffer then holds: the ranges, three words each, and past them what was there; a refusal leaves all as it was
 abbrev pub wordsBy : List ℕ → List ℕ → Option Refusal → List ℕ
 wordsBy s out none = laid out 0 (each (λ (i : ℕ). rangeWords (rangeAt s i)) (rangeCount s))
 wordsBy s out (some r) = out

@@ -1,7 +1,7 @@
 -- The header of a class image: eight numbers in 32 bytes (document 01, "The class image"; refusals 1 and 2).
 use Prim.Native.Nat.{ℕ, _+_, _*_}
 use mathlib.Core.List.{List}
-use mathlib.Core.Bool.{Bool, true, false, _&&_}
+use mathlib.Core.Bool.{Bool, _&&_}
 use lib.ListN.{length}
 use lib.Dec.{leb, eqb}
 use Rattle.image.specs.Word.{wordAt}

@@ -7,3 +7,4 @@ pub mod Ranges
 pub mod Profile
 pub mod Image
 pub mod Check
+pub mod Accepted

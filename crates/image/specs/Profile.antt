@@ -1,7 +1,7 @@
 -- Profiles: code points with roles (document 01, "The class image"; refusal 4).
-use Prim.Native.Nat.{ℕ, zero, suc, _+_, _-_, _*_}
-use mathlib.Core.List.{List, [], _∷_}
-use mathlib.Core.Bool.{Bool, true, false, not, _&&_, _||_}
+use Prim.Native.Nat.{ℕ, _+_, _-_, _*_}
+use mathlib.Core.List.{List}
+use mathlib.Core.Bool.{Bool, not, _&&_, _||_}
 use lib.Dec.{leb, ltb, eqb}
 use lib.ListN.{getD, replicate}
 use Rattle.lists.specs.First.{pickN, firstWhere}
@@ -18,6 +18,10 @@ pointAt s i = wordAt s (entriesAt (rangeCount s) + entryBytes * i)
 
 unfoldable pub roleAt : List ℕ → ℕ → ℕ
 roleAt s i = wordAt s (entriesAt (rangeCount s) + entryBytes * i + 4)
+
+-- the record with these code points, roles and used length
+abbrev pub profileBy : List ℕ → List ℕ → ℕ → Profile
+profileBy points roles used = record { points = points; roles = roles; used = used }
 
 -- the code point and the role of entry i of a record
 abbrev pub pointIn : Profile → ℕ → ℕ

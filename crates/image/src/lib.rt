@@ -122,7 +122,7 @@ pub fn may_follow(p: Range, r: Range) -> bool
 }
 
 // Whether a profile entry is good apart from its place in the order.
-pub fn is_good_pair(point: u32, role: u32) -> bool
+pub fn is_good_entry_alone(point: u32, role: u32) -> bool
     ensures { λ t. ⌜ t ≡ (isScalar point && (leb 1 role && leb role 4)) ⌝ }
 {
     if utf8::is_scalar(point) {
@@ -222,7 +222,7 @@ fn is_good_entry(image: &[u8], base: usize, i: usize) -> bool
 {
     let at = base + 8 * i;
     let point = word(image, at);
-    if is_good_pair(point, word(image, at + 4)) {
+    if is_good_entry_alone(point, word(image, at + 4)) {
         if i == 0 {
             return true;
         }

@@ -3,10 +3,10 @@ use Prim.Native.Nat.{ℕ, zero, suc, _+_, _-_, _*_, _≤_, _<_}
 use mathlib.Core.Path.{_≡_, refl, sym, ap, _∙_}
 use mathlib.Core.List.{List, [], _∷_, _++_, append-assoc, append-nil}
 use native.Mathlib.Numerals.{add-one}
-use native.Mathlib.Nat.{add-assoc, add-suc, suc-add, zero-add, mul-suc, add-zero, mul-zero}
+use native.Mathlib.Nat.{zero-add, mul-suc, add-zero, mul-zero}
 use native.Mathlib.Omega.{arith}
-use lib.ListN.{length, take, drop, getD, set, replicate, length-append, length-replicate, getD-replicate, List·getD-append}
-use lib.Seq.{set-at, append-snoc, drop-append-add, drop-drop, drop-at, take-at, getD-append-add}
+use lib.ListN.{length, drop, getD, set, replicate, length-append, length-replicate, List·getD-append}
+use lib.Seq.{set-at, append-snoc, drop-drop, drop-at, getD-drop, getD-append-add}
 use Rattle.lists.specs.Each.{eachFrom, each, single, column}
 
 -- for loops: k - i indexes left from i on
@@ -51,6 +51,15 @@ module _ (f : ℕ → List ℕ) (w : ℕ) (long : (i : ℕ) → length (f i) ≡
   pub drop-each : (n j : ℕ) → j < n → (rest : List ℕ) → drop (w * j) (each f n ++ rest) ≡ f j ++ (eachFrom f (n - suc j) (suc j) ++ rest)
   unfolding each
   drop-each n j h rest = drop-from n 0 j h rest ∙ (let z : 0 + j ≡ j = zero-add j in λ d. f (z d) ++ (eachFrom f (n - suc j) (suc (z d)) ++ rest))
+
+  -- the k-th value of the i-th list
+  pub each-at : (n i k : ℕ) → i < n → k < w → getD (each f n) (w * i + k) 0 ≡ getD (f i) k 0
+  each-at n i k h l =
+      let z = long i in
+      sym (getD-drop (w * i) (each f n) k 0)
+      ∙ ap (λ (x : List ℕ). getD (drop (w * i) x) k 0) (sym (append-nil (each f n)))
+      ∙ ap (λ (x : List ℕ). getD x k 0) (drop-each n i h [])
+      ∙ List·getD-append (f i) (eachFrom f (n - suc i) (suc i) ++ []) 0 k (omega arith)
 
 -- the same function at each index gives the same list
 pub each-same : (f g : ℕ → List ℕ) (k i : ℕ) → ((j : ℕ) → i ≤ j → j < i + k → f j ≡ g j) → eachFrom f k i ≡ eachFrom g k i
@@ -108,3 +117,23 @@ module _ (size : ℕ) (f : ℕ → ℕ) where
   column-at m j h =
       let l = length-singles m in
       List·getD-append (each (single f) m) (replicate (size - m) 0) 0 j (omega arith) ∙ singles-at m 0 j h ∙ ap f (zero-add j)
+
+  zeros-at : (k j : ℕ) → _≡_ {A = ℕ} (getD (replicate k 0) j 0) 0
+  zeros-at zero j = refl
+  zeros-at (suc k) zero = refl
+  zeros-at (suc k) (suc j) = zeros-at k j
+
+  pub column-past : (m j : ℕ) → m ≤ j → getD (column size f m) j 0 ≡ 0
+  unfolding column
+  column-past m j h =
+      let l = length-singles m in
+      let z : j ≡ length (each (single f) m) + (j - m) = omega arith in
+      ap (λ (k : ℕ). getD (each (single f) m ++ replicate (size - m) 0) k 0) z
+      ∙ getD-append-add (each (single f) m) (replicate (size - m) 0) (j - m) 0
+      ∙ zeros-at (size - m) (j - m)
+
+-- the same values below m give the same column
+pub column-same : (size : ℕ) (f g : ℕ → ℕ) (m : ℕ) → ((j : ℕ) → j < m → f j ≡ g j) → column size f m ≡ column size g m
+unfolding column each
+column-same size f g m e =
+    ap (λ (l : List ℕ). l ++ replicate (size - m) 0) (each-same (single f) (single g) m 0 (λ j l u. ap (λ (v : ℕ). v ∷ []) (e j (omega arith))))

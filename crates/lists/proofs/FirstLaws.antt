@@ -1,13 +1,12 @@
 -- The first index at which a test holds: one index at a time, for loops, and what it is, for callers. Assumes nothing.
 use Prim.Native.Nat.{ℕ, zero, suc, _+_, _-_, _≤_, _<_}
 use mathlib.Core.Path.{_≡_, refl, sym, ap, _∙_}
-use mathlib.Core.Bool.{Bool, true, false, true≢false}
+use mathlib.Core.Bool.{Bool, true, false, not, true≢false}
 use native.Mathlib.Numerals.{add-one}
 use native.Mathlib.Omega.{arith}
-use native.Mathlib.Decide.{decLt, decLe}
-use lib.Dec.{ltb}
-use borrow.Author.Tests.{lt-ltb, le-ltb}
-use Rattle.lists.specs.First.{pickN, firstFrom, firstWhere}
+use native.Mathlib.Decide.{decLt}
+use borrow.Author.Tests.{not-true, not-false}
+use Rattle.lists.specs.First.{pickN, firstFrom, firstWhere, AllGood, FirstBad}
 
 -- for loops: the search from index i on, with n - i indexes left
 module _ (f : ℕ → Bool) (n i : ℕ) where
@@ -100,3 +99,26 @@ first-same f g n e = go (decLt (firstWhere f n) n)
     go (no l) =
         let q : firstWhere f n ≡ n = omega (arith, first-le f n) in
         q ∙ sym (first-none g n (λ x u. let v : x < firstWhere f n = omega arith in sym (e x u) ∙ first-passed f n x v))
+
+-- the first index that isn't good
+module _ (good : ℕ → Bool) (n : ℕ) where
+  abbrev first : ℕ
+  first = firstWhere (λ (i : ℕ). not (good i)) n
+
+  pub first-bad : first < n → FirstBad good n first
+  first-bad l =
+      record {
+        within = l;
+        bad = not-true _ (first-holds (λ (i : ℕ). not (good i)) n l);
+        before = λ x u. not-false _ (first-passed (λ (i : ℕ). not (good i)) n x u);
+      }
+
+  pub all-good : n ≤ first → AllGood good n
+  all-good l i u = not-false _ (first-passed (λ (i : ℕ). not (good i)) n i (omega arith))
+
+  pub first-is-bad : (i : ℕ) → FirstBad good n i → first ≡ i
+  first-is-bad i h =
+      first-is (λ (i : ℕ). not (good i)) n i (h .within) (ap not (h .bad)) (λ x u. ap not (h .before x u))
+
+  pub first-is-none : AllGood good n → first ≡ n
+  first-is-none h = first-none (λ (i : ℕ). not (good i)) n (λ x u. ap not (h x u))

@@ -1,4 +1,6 @@
 pub mod BoolLaws
 pub mod FirstLaws
+pub mod SearchLaws
 pub mod LaidLaws
 pub mod EachLaws
+pub mod WritingLaws

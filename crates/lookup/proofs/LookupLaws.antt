@@ -19,7 +19,8 @@ use Rattle.image.specs.Check.{refusalOf, checkOf, rangeClass, classOf}
 use Rattle.image.specs.declared.Profile.{Profile}
 use Rattle.image.specs.declared.Answer.the-variants as answer
 use Rattle.image.specs.declared.Checked.{Checked}
-use Rattle.image.proofs.ImageLaws.{Accepted, accepted, says}
+use Rattle.image.specs.Accepted.{Accepted}
+use Rattle.image.proofs.ImageLaws.{accepted, says}
 use Rattle.lookup.specs.declared.Probe.{Probe}
 use Rattle.lookup.specs.declared.Found.the-variants as found
 use Rattle.lookup.specs.Halving.{seekOf}

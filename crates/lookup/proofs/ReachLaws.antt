@@ -6,18 +6,15 @@ use mathlib.Core.List.{List}
 use native.Mathlib.Omega.{arith}
 use native.Mathlib.Decide.{decLt}
 use lib.ListN.{getD}
-use borrow.Author.Tests.{ne-eqb, le-ltb}
-use Rattle.lists.proofs.FirstLaws.{first-none}
 use Rattle.image.specs.Ranges.{classIn}
-use Rattle.image.specs.Profile.{roleOf, afterRole}
+use Rattle.image.specs.Profile.{profileBy, roleOf, afterRole}
 use Rattle.image.specs.declared.Range.{Range}
 use Rattle.image.specs.declared.Profile.{Profile}
 use Rattle.lookup.specs.declared.Stretch.{Stretch}
 use Rattle.lookup.specs.declared.Reach.{Reach}
-use Rattle.lookup.specs.Lookup.{profileBy}
 use Rattle.lookup.specs.Stretch.{StretchOf}
 use Rattle.lookup.specs.Reach.{CutBy, CutOf, ReachOf}
-use Rattle.lookup.proofs.RoleLaws.{named}
+use Rattle.lookup.proofs.RoleLaws.{role-absent}
 
 module _ (points : List ℕ) (x : ℕ) (s : Stretch) where
   pub cut-none : s .first ≤ x → x ≤ s .last → CutOf points 0 x s s
@@ -36,11 +33,6 @@ module _ (points : List ℕ) (x : ℕ) (s : Stretch) where
       go : (j : ℕ) → Dec (j < i) → j < i + 1 → q .first ≤ getD points j 0 → getD points j 0 ≤ q .last → getD points j 0 ≡ x
       go j (yes k) l u v = a .free j k (omega (arith, b .part .begins)) (omega (arith, b .part .ends))
       go j (no k) l u v = let z : j ≡ i = omega arith in rw z (b .free (rw z at u) (rw z at v))
-
--- a code point of no entry has no role
-pub role-absent : (points roles : List ℕ) (used y : ℕ) → ((j : ℕ) → j < used → getD points j 0 ≡ y → ⊥) → roleOf (profileBy points roles used) y ≡ 0
-unfolding roleOf
-role-absent points roles used y f = rw (first-none (named points y) used (λ j l. ne-eqb _ _ (f j l))) (simp (le-ltb used used (omega arith)))
 
 module _ (points roles : List ℕ) (used x : ℕ) (s : Stretch) where
   pub reach-here :
@@ -65,7 +57,7 @@ module _ (points roles : List ℕ) (used x : ℕ) (s : Stretch) where
       record { begins = p .begins; from = p .from; to = p .to; ends = p .ends; role = λ y l u. go y l u (decLt y x) (decLt x y); class = p .same }
     where
       other : (y : ℕ) → r .first ≤ y → y ≤ r .last → (y ≡ x → ⊥) → roleOf (profileBy points roles used) y ≡ 0
-      other y l u n = role-absent points roles used y (λ j k z. n (sym z ∙ c .free j k (omega arith) (omega arith)))
+      other y l u n = role-absent (profileBy points roles used) y (λ j k z. n (sym z ∙ c .free j k (omega arith) (omega arith)))
 
       go : (y : ℕ) → r .first ≤ y → y ≤ r .last → Dec (y < x) → Dec (x < y) → roleOf (profileBy points roles used) y ≡ 0
       go y l u (yes a) d = other y l u (λ z. omega arith)

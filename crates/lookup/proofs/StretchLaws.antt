@@ -7,20 +7,14 @@ use Rattle.lookup.specs.Stretch.{GoodRanges, Passed, Placed, StretchOf}
 use Rattle.lookup.proofs.ClassLaws.{class-held, class-gap}
 
 module _ (at : ℕ → Range) (n x : ℕ) where
-  pub passed-none : Passed at n 0 x
+  passed-none : Passed at n 0 x
   passed-none = record { within = omega arith; before = λ l. absurd (omega arith) }
 
-  pub passed-next : (i : ℕ) (r : Range) → r ≡ at i → i < n → r .last < x → Passed at n (i + 1) x
+  passed-next : (i : ℕ) (r : Range) → r ≡ at i → i < n → r .last < x → Passed at n (i + 1) x
   passed-next i r e l h =
       let z : i ≡ i + 1 - 1 = omega arith in
       let k : at i .last < x = rw e at h in
       record { within = omega arith; before = λ _. rw z at k }
-
-  pub place : (i : ℕ) (r : Range) → Passed at n i x → r ≡ at i → x ≤ r .last → Placed at n i x
-  place i r p e h = let k : x ≤ at i .last = rw e at h in record { passed = p; reached = λ _. k }
-
-  pub place-end : (i : ℕ) → Passed at n i x → n ≤ i → Placed at n i x
-  place-end i p h = record { passed = p; reached = λ l. absurd (omega arith) }
 
   -- halving: the place of x is from lo to hi
   pub record Between (lo hi : ℕ) : Type 0 where

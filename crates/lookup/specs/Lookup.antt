@@ -9,14 +9,9 @@ use Rattle.refusal.specs.declared.Refusal.the-variants as refusal
 use Rattle.image.specs.Header.{rangeCount}
 use Rattle.image.specs.Ranges.{rangeAt}
 use Rattle.image.specs.Check.{refusalOf, classOf}
-use Rattle.image.specs.declared.Profile.{Profile}
 use Rattle.lookup.specs.Halving.{seekOf}
 use Rattle.lookup.specs.declared.Found.{Found}
 use Rattle.lookup.specs.declared.Found.the-variants as found
-
--- the profile with these code points, roles and used length
-abbrev pub profileBy : List ℕ → List ℕ → ℕ → Profile
-profileBy points roles used = record { points = points; roles = roles; used = used }
 
 abbrev pub pickFound : Bool → Found → Found → Found
 pickFound true a b = a

@@ -1,14 +1,14 @@
 -- Stretches of code points that have one class in the ranges (document 01, "The class image").
 use Prim.Native.Nat.{ℕ, _-_, _≤_, _<_}
 use mathlib.Core.Path.{_≡_}
-use mathlib.Core.Bool.{true}
+use Rattle.lists.specs.First.{AllGood}
 use Rattle.image.specs.Ranges.{goodRange, classIn}
 use Rattle.image.specs.declared.Range.{Range}
 use Rattle.lookup.specs.declared.Stretch.{Stretch}
 
 -- each of the n ranges is good
 abbrev pub GoodRanges : (ℕ → Range) → ℕ → Type 0
-GoodRanges at n = (i : ℕ) → i < n → goodRange at i ≡ true
+GoodRanges at n = AllGood (goodRange at) n
 
 -- x lies in the stretch r, and every number of r has its class in the n ranges
 pub record StretchOf (at : ℕ → Range) (n x : ℕ) (r : Stretch) : Type 0 where

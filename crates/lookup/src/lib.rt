@@ -4,10 +4,10 @@ ghost use Prim.Native.Nat.{_+_, _-_, _*_, _≤_, _<_};
 ghost use lib.ListN.{length};
 ghost use Rattle.image.specs.Limits.{headerBytes, rangeBytes, maxEntries};
 ghost use Rattle.image.specs.Ranges.{rangeAt};
-ghost use Rattle.image.specs.Profile.{roleOf, afterRole};
+ghost use Rattle.image.specs.Profile.{profileBy, roleOf, afterRole};
 ghost use Rattle.lookup.specs.Halving.{seekOf};
-ghost use Rattle.lookup.specs.Lookup.{profileBy, lookupOf};
-ghost use Rattle.lookup.specs.Stretch.{GoodRanges, Passed, Placed, StretchOf};
+ghost use Rattle.lookup.specs.Lookup.{lookupOf};
+ghost use Rattle.lookup.specs.Stretch.{GoodRanges, Placed, StretchOf};
 ghost use Rattle.lookup.specs.Reach.{CutBy, CutOf, ReachOf};
 use image::Answer;
 use image::MAX_ENTRIES;
@@ -41,7 +41,7 @@ pub struct Reach {
 }
 
 // The halving search for x in the ranges lo to hi of an image.
-pub fn seek(image: &[u8], lo: usize, hi: usize, x: u32) -> Probe
+fn seek(image: &[u8], lo: usize, hi: usize, x: u32) -> Probe
     requires { ⌜ headerBytes + rangeBytes * hi ≤ length (now image) ⌝ }
     ensures { λ r. ⌜ r ≡ seekOf (rangeAt (now (image .entry))) lo hi x ⌝ }
 {
@@ -136,7 +136,7 @@ pub fn lookup(image: &[u8], x: u32) -> Found
 }
 
 // The place of x among the first n ranges of an image, by halving.
-pub fn place_of(image: &[u8], n: usize, x: u32) -> usize
+fn place_of(image: &[u8], n: usize, x: u32) -> usize
     requires { ⌜ headerBytes + rangeBytes * n ≤ length (now image) ⌝ }
     ensures { λ r. ⌜ Placed (rangeAt (now (image .entry))) n r x ⌝ }
 {
@@ -154,23 +154,6 @@ pub fn place_of(image: &[u8], n: usize, x: u32) -> usize
     lo
 }
 
-// The place of x among the first n ranges of an image, from range i on, one range at a time.
-pub fn skip_ranges(image: &[u8], n: usize, i: usize, x: u32) -> usize
-    requires { ⌜ headerBytes + rangeBytes * n ≤ length (now image) ⌝ }
-    requires { ⌜ Passed (rangeAt (now image)) n i x ⌝ }
-    ensures { λ r. ⌜ Placed (rangeAt (now (image .entry))) n r x ⌝ }
-{
-    let mut k = i;
-    while k < n {
-        let r = image::range_at(image, k);
-        if x <= r.last {
-            return k;
-        }
-        k += 1;
-    }
-    k
-}
-
 // The first number after the range before range i.
 fn gap_start(image: &[u8], i: usize, x: u32) -> u32
     requires { ⌜ headerBytes + rangeBytes * i ≤ length (now image) ⌝ }
@@ -185,7 +168,7 @@ fn gap_start(image: &[u8], i: usize, x: u32) -> u32
 }
 
 // The stretch of x, whose place among the first n ranges of an image is i.
-pub fn stretch_from(image: &[u8], n: usize, i: usize, x: u32) -> Stretch
+fn stretch_from(image: &[u8], n: usize, i: usize, x: u32) -> Stretch
     requires { ⌜ headerBytes + rangeBytes * n ≤ length (now image) ⌝ }
     requires { ⌜ Placed (rangeAt (now image)) n i x ⌝ }
     ensures { λ r. ⌜ (GoodRanges (rangeAt (now (image .entry))) n → StretchOf (rangeAt (now (image .entry))) n x r) ⌝ }

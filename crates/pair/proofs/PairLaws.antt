@@ -1,32 +1,31 @@
 -- What each answer of the pair check says of the two images, exactly when. Assumes nothing.
 use Prim.Native.Nat.{ℕ, _-_, _≤_, _<_}
-use mathlib.Core.Path.{_≡_, refl, sym, ap, subst, _∙_}
-use mathlib.Core.List.{List, [], _∷_, _++_}
+use mathlib.Core.Path.{_≡_, refl, sym, subst, _∙_}
+use mathlib.Core.List.{List}
 use mathlib.Core.Bool.{Bool, true, false, true≢false}
 use mathlib.Core.Option.{Option, none, some}
 use native.Mathlib.Omega.{arith}
 use native.Mathlib.Decide.{decLt}
 use lib.Dec.{ltb, eqb, leb}
-use lib.ListN.{replicate}
 use borrow.Author.Tests.{lt-ltb, le-ltb, eq-eqb, eqb-true, ltb-true, ltb-false, leb-true, not-true, not-false}
-use Rattle.lists.specs.First.{pickN, firstWhere}
-use Rattle.lists.specs.Each.{each, single, column}
+use Rattle.lists.specs.First.{firstWhere}
 use Rattle.lists.proofs.BoolLaws.{and-left, and-right, or-false}
 use Rattle.lists.proofs.FirstLaws.{first-is, first-none, first-passed, first-holds}
-use Rattle.lists.proofs.EachLaws.{each-same}
+use Rattle.lists.proofs.EachLaws.{column-same}
 use Rattle.utf8.specs.Scalar.{isScalar}
 use Rattle.refusal.specs.declared.Refusal.{Refusal}
 use Rattle.refusal.specs.declared.Refusal.the-variants as refusal
-use Rattle.image.specs.Class.{classNamed}
 use Rattle.image.specs.Limits.{maxEntries}
 use Rattle.image.specs.Header.{rangeCount, entryCount}
 use Rattle.image.specs.Ranges.{rangeAt}
-use Rattle.image.specs.Profile.{pointAt, roleAt, profileOf, roleOf, afterRole, isMedial}
-use Rattle.image.specs.Check.{refusalOf, rangeClass, classOf, medialOf}
-use Rattle.image.proofs.ImageLaws.{Accepted, accepted, refused-none}
+use Rattle.image.specs.Profile.{pointAt, roleAt, profileOf}
+use Rattle.image.specs.Check.{refusalOf, rangeClass}
+use Rattle.image.specs.Accepted.{Accepted}
+use Rattle.image.proofs.ImageLaws.{accepted, refused-none}
 use Rattle.lookup.proofs.ClassLaws.{class-known}
-use Rattle.image.specs.Permitted.{Permitted, same}
+use Rattle.image.specs.Permitted.{Permitted}
 use Rattle.pair.specs.Change.{permitted}
+use Rattle.pair.specs.Means.{PermittedAt, OnlyPermitted, FirstChange, SameProfile, BothAccepted, Means}
 use Rattle.pair.specs.Pair.{
   forbiddenAt,
   codePoints,
@@ -42,49 +41,6 @@ use Rattle.pair.specs.Pair.{
 use Rattle.pair.specs.declared.Pair.{Pair}
 use Rattle.pair.specs.declared.Pair.the-variants as pair
 use Rattle.pair.proofs.ChangeLaws.{permitted-is, is-permitted}
-
--- the change of x from the older image's ranges to the newer's is permitted
-abbrev pub PermittedAt : List ℕ → List ℕ → ℕ → Type 0
-PermittedAt older newer x = Permitted (classNamed (rangeClass older x)) (classNamed (rangeClass newer x))
-
--- the newer differs from the older only by permitted changes
-abbrev pub OnlyPermitted : List ℕ → List ℕ → Type 0
-OnlyPermitted older newer = (x : ℕ) → isScalar x ≡ true → PermittedAt older newer x
-
--- x is the smallest scalar value with a forbidden change
-pub record FirstChange (older newer : List ℕ) (x : ℕ) : Type 0 where
-  pub scalar : isScalar x ≡ true
-  pub forbidden : PermittedAt older newer x → ⊥
-  pub before : (y : ℕ) → y < x → isScalar y ≡ true → PermittedAt older newer y
-
--- equal profile sections: m and the entries before it
-pub record SameProfile (older newer : List ℕ) : Type 0 where
-  pub count : entryCount older ≡ entryCount newer
-  pub point : (i : ℕ) → i < entryCount older → pointAt older i ≡ pointAt newer i
-  pub role : (i : ℕ) → i < entryCount older → roleAt older i ≡ roleAt newer i
-
--- two accepted images
-abbrev pub BothAccepted : List ℕ → List ℕ → Type 0
-BothAccepted older newer = Accepted older × Accepted newer
-
--- what is so exactly where the pair check gives this answer
-abbrev pub Means : List ℕ → List ℕ → Pair → Type 0
-Means older newer (pair.Older r) = refusalOf older ≡ some r
-Means older newer (pair.Newer r) = Accepted older × (refusalOf newer ≡ some r)
-Means older newer (pair.Refused refusal.Profiles) = BothAccepted older newer × (SameProfile older newer → ⊥)
-Means older newer (pair.Refused (refusal.Change x)) = BothAccepted older newer × SameProfile older newer × FirstChange older newer x
-Means older newer (pair.Refused refusal.Length) = ⊥
-Means older newer (pair.Refused refusal.Header) = ⊥
-Means older newer (pair.Refused (refusal.Range i)) = ⊥
-Means older newer (pair.Refused (refusal.Entry i)) = ⊥
-Means older newer (pair.Refused refusal.TextLength) = ⊥
-Means older newer (pair.Refused (refusal.IllFormed p)) = ⊥
-Means older newer (pair.Refused (refusal.Characters p)) = ⊥
-Means older newer (pair.Refused (refusal.Room n)) = ⊥
-Means older newer (pair.Refused (refusal.NotScalar x)) = ⊥
-Means older newer (pair.Refused (refusal.Buffer n)) = ⊥
-Means older newer (pair.Refused refusal.Shape) = ⊥
-Means older newer pair.Permitted = BothAccepted older newer × SameProfile older newer × OnlyPermitted older newer
 
 -- scalar values are code points
 scalar-below : (x : ℕ) → isScalar x ≡ true → x < codePoints
@@ -221,14 +177,9 @@ module _ (older newer : List ℕ) where
       compared both ∙ simp (profile-same s, e)
 
   -- equal profile sections give equal profile records
-  column-same : (f g : ℕ → ℕ) (m : ℕ) → ((i : ℕ) → i < m → f i ≡ g i) → column maxEntries f m ≡ column maxEntries g m
-  unfolding column each
-  column-same f g m e =
-      ap (λ (l : List ℕ). l ++ replicate (maxEntries - m) 0) (each-same (single f) (single g) m 0 (λ j l u. ap (λ (v : ℕ). v ∷ []) (e j (omega arith))))
-
   pub profiles-equal : SameProfile older newer → profileOf older ≡ profileOf newer
   unfolding profileOf
   profiles-equal s =
-      let p = column-same (pointAt older) (pointAt newer) (entryCount older) (s .point) in
-      let r = column-same (roleAt older) (roleAt newer) (entryCount older) (s .role) in
+      let p = column-same maxEntries (pointAt older) (pointAt newer) (entryCount older) (s .point) in
+      let r = column-same maxEntries (roleAt older) (roleAt newer) (entryCount older) (s .role) in
       rw (p, r, s .count)

@@ -8,7 +8,7 @@ use Rattle.utf8.specs.Scalar.{pickB}
 unfoldable pub isContinueClass : ℕ → Bool
 isContinueClass class = eqb class 1 || eqb class 2
 
--- the same changes, of class numbers
+-- 0 to 1, 2 or 5; 5 to 1 or 2; 2 to 1; and no change
 unfoldable pub permitted : ℕ → ℕ → Bool
 permitted older newer =
     pickB (eqb newer older) true

@@ -1,4 +1,4 @@
--- What the inner functions of the pair check are told: two accepted images, and where their profile entries stand.
+-- What the inner functions of the pair check require: two accepted images, and where their profile entries stand.
 use Prim.Native.Nat.{ℕ, _+_, _*_, _≤_}
 use mathlib.Core.Path.{_≡_}
 use mathlib.Core.List.{List}

@@ -1,12 +1,11 @@
 -- What the pair check of two images answers (document 01, "Permitted changes", and refusals 10 and 11).
 use Prim.Native.Nat.{ℕ}
-use mathlib.Core.List.{List, []}
+use mathlib.Core.List.{List}
 use mathlib.Core.Bool.{Bool, true, false, not, _&&_, _||_}
 use mathlib.Core.Option.{Option, none, some}
 use lib.Dec.{ltb, eqb}
 use Rattle.lists.specs.First.{firstWhere}
 use Rattle.utf8.specs.Scalar.{isScalar}
-use Rattle.refusal.specs.Refusal.{numberOf, carriedBy}
 use Rattle.refusal.specs.declared.Refusal.{Refusal}
 use Rattle.refusal.specs.declared.Refusal.the-variants as refusal
 use Rattle.image.specs.Header.{entryCount}
@@ -59,31 +58,3 @@ pairBy older newer none none = comparedOf older newer
 -- the older image is judged wholly, then the newer, then the pair
 unfoldable pub pairOf : List ℕ → List ℕ → Pair
 pairOf older newer = pairBy older newer (refusalOf older) (refusalOf newer)
-
--- the refusal in an answer, and the image that it tells of: 1 the older, 2 the newer, 0 neither
-abbrev pub refusalIn : Pair → Option Refusal
-refusalIn (pair.Older r) = some r
-refusalIn (pair.Newer r) = some r
-refusalIn (pair.Refused r) = some r
-refusalIn pair.Permitted = none
-
-abbrev pub imageIn : Pair → ℕ
-imageIn (pair.Older r) = 1
-imageIn (pair.Newer r) = 2
-imageIn (pair.Refused r) = 0
-imageIn pair.Permitted = 0
-
-abbrev pub numberBy : Option Refusal → ℕ
-numberBy none = 0
-numberBy (some r) = numberOf r
-
-abbrev pub carriedIn : Option Refusal → List ℕ
-carriedIn none = []
-carriedIn (some r) = carriedBy r
-
--- document 01's number of an answer, 0 for yes, and the numbers that it carries
-abbrev pub pairNumber : Pair → ℕ
-pairNumber p = numberBy (refusalIn p)
-
-abbrev pub pairCarried : Pair → List ℕ
-pairCarried p = carriedIn (refusalIn p)

@@ -79,7 +79,7 @@ pub struct Step {
 }
 
 // What begins at code point x of an image with n ranges, where i is the place of x among them.
-pub fn look_ahead(s: &[u8], n: usize, i: usize, x: u32) -> Ahead
+fn look_ahead(s: &[u8], n: usize, i: usize, x: u32) -> Ahead
     requires { ⌜ Walk (now s) n i x ⌝ }
     requires { ⌜ x ≤ 0x10FFFF ⌝ }
     ensures { λ r. ⌜ AheadOf (now (s .entry)) n i x r ⌝ }
@@ -117,7 +117,7 @@ fn place_after(a: Ahead, i: usize, end: u32) -> usize
 }
 
 // One step of the walk over two images, with n and m ranges, at code point x.
-pub fn walk_step(older: &[u8], newer: &[u8], n: usize, m: usize, i: usize, j: usize, x: u32) -> Step
+fn walk_step(older: &[u8], newer: &[u8], n: usize, m: usize, i: usize, j: usize, x: u32) -> Step
     requires { ⌜ Walk (now older) n i x ⌝ }
     requires { ⌜ Walk (now newer) m j x ⌝ }
     requires { ⌜ x ≤ 0x10FFFF ⌝ }

@@ -28,7 +28,7 @@ pub enum Refusal {
     Profiles,
     // 12: the buffer for an image is too short; the bytes needed.
     Buffer(usize),
-    // 13: a list of words is no multiple of its record, or a place is past the end, or a start after an end.
+    // 13: a list of words is no multiple of its record's words, or a place lies past the text's end, or a start after an end.
     Shape,
 }
 

@@ -153,7 +153,7 @@ pub fn count_tokens<'a>(
 {
     let mut memo = character::no_memo();
     let mut kind = 0;
-    let mut count = 0;
+    let mut count: usize = 0;
     let mut at = 0;
     while at < text.len() {
         let c = character::read(image, n, points, roles, used, table, memo, text, at);

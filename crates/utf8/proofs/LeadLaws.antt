@@ -1,6 +1,6 @@
 -- The lead of a byte is its row of Table 3-7, and the sequence at the head of a text is the one that its lead asks for.
 -- Assumes nothing.
-use Prim.Native.Nat.{ℕ, zero, suc, _≤_, _<_}
+use Prim.Native.Nat.{ℕ, suc, _≤_, _<_}
 use mathlib.Core.Path.{_≡_, refl, sym, ap, _∙_}
 use mathlib.Core.Bool.{Bool, true, false, _&&_}
 use mathlib.Core.List.{List, [], _∷_, _++_}
@@ -10,7 +10,6 @@ use lib.ListN.{length, take, drop, getD, replicate, take-append-drop}
 use borrow.Author.Tests.{leb-true, ltb-true}
 use Rattle.lists.proofs.BoolLaws.{and-left, and-right}
 use Rattle.utf8.specs.declared.Lead.{Lead}
-use Rattle.utf8.specs.declared.Step.{Step}
 use Rattle.utf8.specs.declared.Step.the-variants.{Scalar, IllFormed, End}
 use Rattle.utf8.specs.Table.{Bytes, _to_, Row, table, inside, fits, codePoint}
 use Rattle.utf8.specs.Head.{pickStep, stepIn, stepOf}

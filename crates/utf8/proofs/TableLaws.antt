@@ -1,17 +1,17 @@
 -- Bytes and rows of Table 3-7: whether a byte is in a range, and whether a text begins with the bytes of a row, byte by byte.
 -- Assumes nothing.
-use Prim.Native.Nat.{ℕ, zero, suc, _+_, _≤_, _<_}
+use Prim.Native.Nat.{ℕ, suc, _≤_, _<_}
 use mathlib.Core.Path.{_≡_, refl, sym, ap, _∙_}
-use mathlib.Core.Bool.{Bool, true, false, not, _&&_, false≢true, true≢false}
-use mathlib.Core.List.{List, [], _∷_, _++_}
+use mathlib.Core.Bool.{Bool, true, false, not, _&&_}
+use mathlib.Core.List.{List, [], _∷_}
 use native.Mathlib.Omega.{arith}
 use native.Mathlib.Decide.{decLt}
 use lib.Dec.{leb, ltb}
-use lib.ListN.{length, take, drop, getD, length-drop, drop-of-length-le}
+use lib.ListN.{length, take, drop, getD, drop-of-length-le}
 use lib.Seq.{drop-cons}
 use borrow.Author.Tests.{leb-true, le-leb, lt-leb, lt-ltb, le-ltb, ltb-true, ltb-false}
 use Rattle.lists.proofs.BoolLaws.{and-left, and-right}
-use Rattle.utf8.specs.Table.{Bytes, _to_, Row, inside, fits, Fills}
+use Rattle.utf8.specs.Table.{Bytes, Row, inside, fits}
 use Rattle.utf8.specs.Lead.{byteFits}
 
 pub inside-in : (g : Bytes) (b : ℕ) → g .low ≤ b → b ≤ g .high → inside g b ≡ true

@@ -13,7 +13,7 @@ use Rattle.utf8.specs.declared.Step.the-variants.{Scalar, IllFormed, End
 use Rattle.utf8.specs.declared.Text.{Text}
 use Rattle.utf8.specs.declared.Text.the-variants as text
 use Rattle.utf8.specs.Scalar.{isScalar}
-use Rattle.utf8.specs.Table.{Sequence, codePoint}
+use Rattle.utf8.specs.Table.{codePoint}
 use Rattle.utf8.specs.Head.{stepOf}
 use Rattle.utf8.specs.Lead.{stepLength}
 use Rattle.utf8.specs.Text.{
@@ -32,6 +32,7 @@ use Rattle.utf8.specs.Text.{
   Encoded,
   ends,
   takes,
+  TextMeans,
 }
 use Rattle.utf8.proofs.LeadLaws.{ascii}
 use Rattle.utf8.proofs.SequenceLaws.{
@@ -233,6 +234,25 @@ encoded-unique {s} (takes q r e f d) =
     decode-scalar s (codePoint q) (length q) g
     ∙ ap (λ (u : List ℕ). before (characterOf q) (decode u)) (ap (drop (length q)) e ∙ drop-append-seam q r)
     ∙ ap (before (characterOf q)) (encoded-unique d)
+
+-- what the answer of the check of a text means
+means-by : (s : List ℕ) (cs : List Character) (r : List ℕ) → Encoded s cs r → TextMeans s (textBy (widthOf cs) r)
+means-by s cs [] e = (cs, e)
+means-by s cs (b ∷ r) e = record { characters = cs; rest = b ∷ r; encoded = e; left = omega arith; place = refl }
+
+pub text-means : (s : List ℕ) (t : Text) → textOf s ≡ t → TextMeans s t
+unfolding textOf
+text-means s t e = subst (TextMeans s) e (means-by s (decode s .characters) (decode s .rest) (encodes s))
+
+-- and back: where it is so, that is the answer
+pub means-text : (s : List ℕ) (t : Text) → TextMeans s t → textOf s ≡ t
+unfolding textOf
+means-text s text.WellFormed (cs, e) = rw (encoded-unique e)
+means-text s (text.IllFormed p) h = rw (encoded-unique (h .encoded)) (go (h .rest) (h .left) ∙ ap text.IllFormed (sym (h .place)))
+  where
+    go : (r : List ℕ) → 0 < length r → textBy (widthOf (h .characters)) r ≡ text.IllFormed (widthOf (h .characters))
+    go [] l = absurd (omega arith)
+    go (b ∷ r) l = refl
 
 -- every character is a scalar value
 abbrev pub AllScalar : List Character → Type 0

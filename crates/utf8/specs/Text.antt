@@ -1,5 +1,5 @@
 -- A text as characters, up to the first place at which no well-formed sequence begins.
-use Prim.Native.Nat.{ℕ, zero, suc, _+_}
+use Prim.Native.Nat.{ℕ, zero, suc, _+_, _<_}
 use mathlib.Core.List.{List, [], _∷_, _++_}
 use mathlib.Core.Path.{_≡_}
 use lib.ListN.{length, drop}
@@ -26,7 +26,7 @@ ended s = record { characters = []; rest = s }
 abbrev pub before : Character → Decoded → Decoded
 before c d = record { characters = c ∷ d .characters; rest = d .rest }
 
--- the bytes that follow where the step t stands at the head of s; f decodes what follows
+-- the characters of s, where the step t stands at its head; f decodes the bytes that follow
 abbrev pub decodeBy : (List ℕ → Decoded) → List ℕ → Step → Decoded
 decodeBy f s (Scalar x n) = before (record { code = x; width = n }) (f (drop n s))
 decodeBy f s IllFormed = ended s
@@ -64,3 +64,15 @@ characterOf q = record { code = codePoint q; width = length q }
 pub data Encoded : List ℕ → List Character → List ℕ → Type 0 where
   ends : {s : List ℕ} → NoSequence s → Encoded s [] s
   takes : {s : List ℕ} {cs : List Character} {rest : List ℕ} (q r : List ℕ) → s ≡ q ++ r → Sequence q → Encoded r cs rest → Encoded s (characterOf q ∷ cs) rest
+
+-- what `textOf` means: the sequences go to the text's end, or p is the place where they end, and bytes are left there
+pub record IllFormedAt (s : List ℕ) (p : ℕ) : Type 0 where
+  pub characters : List Character
+  pub rest : List ℕ
+  pub encoded : Encoded s characters rest
+  pub left : 0 < length rest
+  pub place : p ≡ widthOf characters
+
+abbrev pub TextMeans : List ℕ → Text → Type 0
+TextMeans s text.WellFormed = (cs : List Character) × Encoded s cs []
+TextMeans s (text.IllFormed p) = IllFormedAt s p

@@ -169,7 +169,7 @@ fn measure_by(s: &[u8], lead: Lead) -> usize
 }
 
 // The length of the sequence at the head of `s`; 0 where none begins.
-fn measure(s: &[u8]) -> usize
+pub fn measure(s: &[u8]) -> usize
     ensures { λ r. ⌜ r ≡ stepLength (stepOf (now (s .entry))) ⌝ }
 {
     if s.len() == 0 {
@@ -177,6 +177,19 @@ fn measure(s: &[u8]) -> usize
     }
     let b = s[0];
     measure_by(s, read_lead(b))
+}
+
+// The code point of the sequence at the head of `s`, whose length is `len`.
+pub fn code_point(s: &[u8], len: usize) -> u32
+    requires { ⌜ (0 < len) × (len ≡ stepLength (stepOf (now s))) ⌝ }
+    ensures { λ r. ⌜ Step.Scalar r len ≡ stepOf (now (s .entry)) ⌝ }
+{
+    match len {
+        1 => join1(s[0]),
+        2 => join2(s[0], s[1]),
+        3 => join3(s[0], s[1], s[2]),
+        _ => join4(s[0], s[1], s[2], s[3]),
+    }
 }
 
 // The sequence at the head of `s`.
@@ -187,24 +200,12 @@ pub fn decode(s: &[u8]) -> Step
         return Step::End;
     }
     let len = measure(s);
-    match len {
-        0 => Step::IllFormed,
-        1 => Step::Scalar {
-            code: join1(s[0]),
-            len,
-        },
-        2 => Step::Scalar {
-            code: join2(s[0], s[1]),
-            len,
-        },
-        3 => Step::Scalar {
-            code: join3(s[0], s[1], s[2]),
-            len,
-        },
-        _ => Step::Scalar {
-            code: join4(s[0], s[1], s[2], s[3]),
-            len,
-        },
+    if len == 0 {
+        return Step::IllFormed;
+    }
+    Step::Scalar {
+        code: code_point(s, len),
+        len,
     }
 }
 

@@ -1,6 +1,5 @@
 pub mod WordLaws
 pub mod LayLaws
 pub mod PartLaws
-pub mod JudgeLaws
 pub mod WriteLaws
 pub mod RoundTrip

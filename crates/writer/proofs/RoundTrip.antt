@@ -1,16 +1,18 @@
 -- Demand 2: an image that was written reads back as what was written, and an accepted image is the only one for its version, ranges
 -- and profile. Over the definitions alone. Assumes nothing.
-use Prim.Native.Nat.{ℕ, zero, suc, _+_, _-_, _*_, _/_, _%_, _≤_, _<_}
+use Prim.Native.Nat.{ℕ, _+_, _-_, _*_, _/_, _%_, _≤_, _<_}
 use mathlib.Core.Path.{_≡_, refl, sym, ap, subst, _∙_}
-use mathlib.Core.List.{List, [], _∷_, _++_, append-nil}
-use mathlib.Core.Bool.{true}
-use mathlib.Core.Option.{Option, none}
+use mathlib.Core.List.{List, [], _∷_, _++_}
+use mathlib.Core.Bool.{true, not}
+use mathlib.Core.Option.{Option, none, some}
 use native.Mathlib.Omega.{arith}
-use lib.ListN.{length, take, drop, getD, length-drop, take-append-drop, replicate, List·getD-append}
-use lib.Seq.{getD-drop, getD-append-add, take-at, take-all, drop-drop}
-use Rattle.lists.specs.Each.{each, eachFrom, single, column}
+use lib.ListN.{length, take, drop, getD, length-drop, take-append-drop, List·getD-append}
+use lib.Seq.{getD-append-add, take-at, take-all, drop-drop}
+use Rattle.lists.specs.First.{firstWhere}
+use Rattle.lists.specs.Each.{each, eachFrom}
 use Rattle.lists.specs.Laid.{laid}
-use Rattle.lists.proofs.EachLaws.{drop-each, each-same, length-each, length-singles, column-at}
+use Rattle.lists.proofs.FirstLaws.{first-same}
+use Rattle.lists.proofs.EachLaws.{each-at, each-same, length-each}
 use borrow.Author.Tests.{le-ltb}
 use Rattle.refusal.specs.declared.Refusal.{Refusal}
 use Rattle.image.specs.declared.Range.{Range}
@@ -19,63 +21,19 @@ use Rattle.image.specs.Limits.{maxRanges, maxEntries}
 use Rattle.image.specs.Word.{wordAt}
 use Rattle.image.specs.Header.{versionOf, rangeCount, entryCount, entriesAt, imageEnd}
 use Rattle.image.specs.Ranges.{rangeAt, rangeIn, rangeWords, goodRange}
-use Rattle.image.specs.Profile.{pointAt, roleAt, pointIn, roleIn, goodEntry, profileOf}
+use Rattle.image.specs.Profile.{pointAt, roleAt, pointIn, roleIn, goodEntry, firstBadEntry, profileOf}
 use Rattle.image.specs.Image.{headerWords, entryWords, imageWords, bytesOfAll, imageOf}
 use Rattle.image.specs.Check.{refusalOf, checkBy, readRefusal, readOf, wordsBy, wordsAfter}
 use Rattle.image.specs.declared.Answer.the-variants as answer
-use Rattle.image.proofs.ImageLaws.{Headed, accepted, refused-none}
+use Rattle.image.specs.Accepted.{Headed}
+use Rattle.image.proofs.ImageLaws.{accepted, refused-none, good-range-same, good-entry-same, entry-read, zeros-past}
 use Rattle.writer.specs.declared.Written.the-variants as written
-use Rattle.writer.specs.Write.{rangesIn, bytesNeeded, writtenBy, writeOf, bytesBy, bytesAfter}
+use Rattle.writer.specs.Writable.{Writable}
+use Rattle.writer.specs.Back.{SameEntries, ReadBack}
+use Rattle.writer.specs.Write.{rangesIn, bytesNeeded, writeRefusal, writtenBy, writeOf, bytesBy, bytesAfter}
 use Rattle.writer.proofs.WordLaws.{Bytes, Words, word-is, wordsFrom, bytes-from, bytes-each, all-append}
 use Rattle.writer.proofs.PartLaws.{whole, words-back, image-words, length-words, length-image}
-use Rattle.writer.proofs.WriteLaws.{Writable, decides, says}
-
--- profiles are the same if the used lengths and the entries before them are
-pub record SameEntries (p q : Profile) : Type 0 where
-  pub count : p .used ≡ q .used
-  pub point : (i : ℕ) → i < p .used → pointIn p i ≡ pointIn q i
-  pub role : (i : ℕ) → i < p .used → roleIn p i ≡ roleIn q i
-
--- what stands at a place of records of w values each
-each-at : (f : ℕ → List ℕ) (w : ℕ) → ((i : ℕ) → length (f i) ≡ w) → (n i j : ℕ) → i < n → j < w → getD (each f n) (w * i + j) 0 ≡ getD (f i) j 0
-each-at f w long n i j h l =
-    let z = long i in
-    sym (getD-drop (w * i) (each f n) j 0)
-    ∙ ap (λ (x : List ℕ). getD (drop (w * i) x) j 0) (sym (append-nil (each f n)))
-    ∙ ap (λ (x : List ℕ). getD x j 0) (drop-each f w long n i h [])
-    ∙ List·getD-append (f i) (eachFrom f (n - suc i) (suc i) ++ []) 0 j (omega arith)
-
--- past the entries a column is zero
-getD-zero : (k i : ℕ) → _≡_ {A = ℕ} (getD (replicate k 0) i 0) 0
-getD-zero zero i = refl
-getD-zero (suc k) zero = refl
-getD-zero (suc k) (suc i) = getD-zero k i
-
-column-past : (size : ℕ) (f : ℕ → ℕ) (m i : ℕ) → m ≤ i → getD (column size f m) i 0 ≡ 0
-unfolding column
-column-past size f m i h =
-    let l = length-singles size f m in
-    let z : i ≡ length (each (single f) m) + (i - m) = omega arith in
-    ap (λ (k : ℕ). getD (each (single f) m ++ replicate (size - m) 0) k 0) z
-    ∙ getD-append-add (each (single f) m) (replicate (size - m) 0) (i - m) 0
-    ∙ getD-zero (size - m) (i - m)
-
-good-range-same : (f g : ℕ → Range) (i : ℕ) → f i ≡ g i → f (i - 1) ≡ g (i - 1) → goodRange f i ≡ goodRange g i
-unfolding goodRange
-good-range-same f g i e h = rw (e, h)
-
-good-entry-same : (f g a b : ℕ → ℕ) (i : ℕ) → f i ≡ g i → f (i - 1) ≡ g (i - 1) → a i ≡ b i → goodEntry f a i ≡ goodEntry g b i
-unfolding goodEntry
-good-entry-same f g a b i e h r = rw (e, h, r)
-
--- what an image gives back
-pub record ReadBack (version : ℕ) (words : List ℕ) (p : Profile) (s : List ℕ) : Type 0 where
-  pub is-accepted : refusalOf s ≡ none
-  pub same-version : versionOf s ≡ version
-  pub same-count : rangeCount s ≡ rangesIn words
-  pub same-words : each (λ (i : ℕ). rangeWords (rangeAt s i)) (rangeCount s) ≡ words
-  pub same-entries : SameEntries p (profileOf s)
-  pub zeros : (i : ℕ) → p .used ≤ i → (pointIn (profileOf s) i ≡ 0) × (roleIn (profileOf s) i ≡ 0)
+use Rattle.writer.proofs.WriteLaws.{decides, says}
 
 module _ (version : ℕ) (words : List ℕ) (p : Profile) (w : Writable words p) (hv : version < 0x100000000) (hw : Words words) (hp : Words (p .points)) (hr : Words (p .roles)) where
   abbrev n : ℕ
@@ -223,11 +181,10 @@ module _ (version : ℕ) (words : List ℕ) (p : Profile) (w : Writable words p)
         same-entries =
             record {
               count = sym u;
-              point = λ i l. sym (column-at maxEntries (pointAt image) (entryCount image) i (omega arith) ∙ point-back i l);
-              role = λ i l. sym (column-at maxEntries (roleAt image) (entryCount image) i (omega arith) ∙ role-back i l);
+              point = λ i l. sym (entry-read image i (omega arith) .0 ∙ point-back i l);
+              role = λ i l. sym (entry-read image i (omega arith) .1 ∙ role-back i l);
             };
-        zeros =
-            λ i l. (column-past maxEntries (pointAt image) (entryCount image) i (omega arith), column-past maxEntries (roleAt image) (entryCount image) i (omega arith));
+        zeros = λ i l. zeros-past image i (omega arith);
       }
 
 -- an image depends on the ranges below n and on the entries before the used length only
@@ -239,6 +196,35 @@ image-same v f g n p q e h =
     let t = each-same (entryWords p) (entryWords q) (p .used) 0 (λ i _ l. let x = h .point i (omega arith) in let y = h .role i (omega arith) in λ d. x d ∷ y d ∷ []) in
     let u = t ∙ ap (λ (k : ℕ). eachFrom (entryWords q) k 0) (h .count) in
     ap bytesOfAll (λ d. headerWords v n (h .count d) ++ (r d ++ u d))
+
+-- the writer doesn't look at entries past the used length: same answer, same bytes
+module _ (words : List ℕ) (p q : Profile) (h : SameEntries p q) where
+  bad-same : firstBadEntry (pointIn p) (roleIn p) (p .used) ≡ firstBadEntry (pointIn q) (roleIn q) (q .used)
+  unfolding firstBadEntry
+  bad-same =
+      first-same (λ (i : ℕ). not (goodEntry (pointIn p) (roleIn p) i)) (λ (i : ℕ). not (goodEntry (pointIn q) (roleIn q) i)) (p .used)
+      (λ i l. ap not (good-entry-same (pointIn p) (pointIn q) (roleIn p) (roleIn q) i (h .point i l) (h .point (i - 1) (omega arith)) (h .role i l)))
+      ∙ ap (λ (k : ℕ). firstWhere (λ (i : ℕ). not (goodEntry (pointIn q) (roleIn q) i)) k) (h .count)
+
+  refusal-same : (room : ℕ) → writeRefusal words p room ≡ writeRefusal words q room
+  unfolding writeRefusal
+  refusal-same room = rw (bad-same, h .count)
+
+  pub answer-same : (room : ℕ) → writeOf words p room ≡ writeOf words q room
+  unfolding writeOf
+  answer-same room = ap (writtenBy words p) (refusal-same room) ∙ go (writeRefusal words q room)
+    where
+      go : (o : Option Refusal) → writtenBy words p o ≡ writtenBy words q o
+      go none = ap (λ (k : ℕ). written.Image (imageEnd (rangesIn words) k)) (h .count)
+      go (some r) = refl
+
+  pub bytes-same : (version : ℕ) (out : List ℕ) → bytesAfter version words p out ≡ bytesAfter version words q out
+  unfolding bytesAfter
+  bytes-same version out = ap (bytesBy version words p out) (refusal-same (length out)) ∙ go (writeRefusal words q (length out))
+    where
+      go : (o : Option Refusal) → bytesBy version words p out o ≡ bytesBy version words q out o
+      go none = ap (laid out 0) (image-same version (rangeIn words) (rangeIn words) (rangesIn words) p q (λ i l. refl) h)
+      go (some r) = refl
 
 -- the words that reading an image gives
 abbrev pub wordsRead : List ℕ → List ℕ
@@ -273,9 +259,7 @@ module _ (s : List ℕ) (b : Bytes s) (a : refusalOf s ≡ none) where
       let l = h .size in
       let m = entryCount s in
       let f : ℕ → List ℕ = λ j. pointAt s j ∷ roleAt s j ∷ [] in
-      let p = column-at maxEntries (pointAt s) m in
-      let r = column-at maxEntries (roleAt s) m in
-      ap bytesOfAll (each-same (entryWords (profileOf s)) f m 0 (λ i _ u. let v : i < m = omega arith in λ d. p i v d ∷ r i v d ∷ []))
+      ap bytesOfAll (each-same (entryWords (profileOf s)) f m 0 (λ i _ u. let (p, r) = entry-read s i (omega arith) in λ d. p d ∷ r d ∷ []))
       ∙ bytes-each s b f 2 8 (entriesAt (rangeCount s)) refl (λ j. refl) m 0 (entriesAt (rangeCount s)) (omega arith) (omega arith)
 
   cut : take 32 s ++ (take (12 * rangeCount s) (drop 32 s) ++ take (8 * entryCount s) (drop (entriesAt (rangeCount s)) s)) ≡ s
@@ -324,9 +308,7 @@ module _ (s : List ℕ) (b : Bytes s) (a : refusalOf s ≡ none) where
   may-rewrite =
       let k = accepted s a in
       let n = count-read in
-      let m = entryCount s in
-      let p = column-at maxEntries (pointAt s) m in
-      let r = column-at maxEntries (roleAt s) m in
+      let e = entry-read s in
       record {
         counted =
             record {
@@ -337,7 +319,7 @@ module _ (s : List ℕ) (b : Bytes s) (a : refusalOf s ≡ none) where
         ranges =
             λ i l. good-range-same (rangeIn (wordsRead s)) (rangeAt s) i (range-read s i (omega arith)) (range-read s (i - 1) (omega arith)) ∙ k .ranges i (omega arith);
         entries =
-            λ i l. good-entry-same (pointIn (profileOf s)) (pointAt s) (roleIn (profileOf s)) (roleAt s) i (p i l) (p (i - 1) (omega arith)) (r i l) ∙ k .entries i l;
+            λ i l. good-entry-same (pointIn (profileOf s)) (pointAt s) (roleIn (profileOf s)) (roleAt s) i (e i l .0) (e (i - 1) (omega arith) .0) (e i l .1) ∙ k .entries i l;
       }
 
   -- and gives the same bytes

@@ -7,8 +7,9 @@ use native.Mathlib.Nat.{add-zero, add-assoc, mul-zero, mul-suc, div-div-eq-div-m
 use native.Mathlib.Omega.{arith}
 use lib.ListN.{length, take, drop, getD, length-append, length-drop, drop-of-length-le}
 use lib.Seq.{drop-cons, drop-drop, take-add, getD-drop, getD-append-add}
-use Rattle.lists.specs.Each.{each, eachFrom}
+use Rattle.lists.specs.Each.{eachFrom}
 use Rattle.lists.proofs.EachLaws.{each-next, each-end}
+use Rattle.utf8.proofs.TableLaws.{four-bytes}
 use Rattle.image.specs.Word.{wordAt, bytesOf, joinOf}
 use Rattle.image.specs.Image.{bytesOfAll}
 
@@ -103,13 +104,6 @@ word-is (w ∷ ws) (suc i) v h e l =
     let z : 4 * suc i ≡ length (bytesOf w) + 4 * i = omega (arith, length-four w) in
     ap (wordAt (bytesOf w ++ bytesOfAll ws)) z ∙ word-past (bytesOf w) (bytesOfAll ws) (4 * i) ∙ word-is ws i v (omega arith) e l
 
-four : (l : List ℕ) → 4 ≤ length l → take 4 l ≡ getD l 0 0 ∷ getD l 1 0 ∷ getD l 2 0 ∷ getD l 3 0 ∷ []
-four [] h = absurd (omega arith)
-four (a ∷ []) h = absurd (omega arith)
-four (a ∷ b ∷ []) h = absurd (omega arith)
-four (a ∷ b ∷ c ∷ []) h = absurd (omega arith)
-four (a ∷ b ∷ c ∷ d ∷ l) h = refl
-
 -- k numbers from byte i on
 abbrev pub wordsFrom : List ℕ → ℕ → ℕ → List ℕ
 wordsFrom s zero i = []
@@ -120,7 +114,7 @@ module _ (s : List ℕ) (b : Bytes s) where
   unfolding wordAt
   bytes-four i h =
       bytes-join (getD s i 0) (getD s (i + 1) 0) (getD s (i + 2) 0) (getD s (i + 3) 0) (b i) (b (i + 1)) (b (i + 2)) (b (i + 3))
-      ∙ sym (four (drop i s) (rw length-drop (omega arith)) ∙ simp (getD-drop, add-zero))
+      ∙ sym (four-bytes (drop i s) (rw length-drop (omega arith)) ∙ simp (getD-drop, add-zero))
 
   -- their bytes are those of the list
   pub bytes-from : (k i : ℕ) → i + 4 * k ≤ length s → bytesOfAll (wordsFrom s k i) ≡ take (4 * k) (drop i s)

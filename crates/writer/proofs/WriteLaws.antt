@@ -1,17 +1,17 @@
 -- What the writer's answers say of the words, the profile and the buffer, each refusal exactly when. Assumes nothing.
-use Prim.Native.Nat.{ℕ, _%_, _≤_, _<_}
+use Prim.Native.Nat.{ℕ, _%_, _≤_}
 use mathlib.Core.Path.{_≡_, refl, sym, ap, subst, _∙_}
 use mathlib.Core.List.{List}
-use mathlib.Core.Bool.{Bool, true, false, not}
-use mathlib.Core.Logic.{_⊎_, inl, inr}
+use mathlib.Core.Bool.{Bool, true, false}
+use mathlib.Core.Logic.{inl, inr}
 use mathlib.Core.Option.{Option, none, some}
 use native.Mathlib.Omega.{arith}
 use lib.ListN.{length}
 use lib.Dec.{leb, ltb, eqb}
-use borrow.Author.Tests.{leb-true, leb-false, eqb-true, eqb-false, ltb-true, ltb-false, le-leb, lt-leb, eq-eqb, ne-eqb, lt-ltb, le-ltb, not-true, not-false}
-use Rattle.lists.specs.First.{firstWhere}
+use borrow.Author.Tests.{leb-true, leb-false, eqb-true, eqb-false, ltb-true, ltb-false, le-leb, lt-leb, eq-eqb, ne-eqb, lt-ltb, le-ltb}
+use Rattle.lists.specs.First.{AllGood}
 use Rattle.lists.specs.Laid.{laid}
-use Rattle.lists.proofs.FirstLaws.{first-passed, first-holds, first-is, first-none}
+use Rattle.lists.proofs.FirstLaws.{first-bad, all-good, first-is-bad, first-is-none}
 use Rattle.refusal.specs.declared.Refusal.{Refusal}
 use Rattle.refusal.specs.declared.Refusal.the-variants as refusal
 use Rattle.image.specs.declared.Profile.{Profile}
@@ -20,62 +20,10 @@ use Rattle.image.specs.Ranges.{rangeIn, goodRange, firstBadRange}
 use Rattle.image.specs.Profile.{pointIn, roleIn, goodEntry, firstBadEntry}
 use Rattle.image.specs.Image.{imageOf}
 use Rattle.image.specs.Check.{pickRefusal, refuseAt}
-use Rattle.image.proofs.ImageLaws.{AllGood, FirstBad}
 use Rattle.writer.specs.declared.Written.{Written}
 use Rattle.writer.specs.declared.Written.the-variants as written
+use Rattle.writer.specs.Writable.{Counted, Writable, Because}
 use Rattle.writer.specs.Write.{rangesIn, bytesNeeded, writeRefusal, writtenBy, writeOf, bytesBy, bytesAfter}
-
--- whole ranges, and both counts within their limits
-pub record Counted (words : List ℕ) (p : Profile) : Type 0 where
-  pub thirds : length words % 3 ≡ 0
-  pub few-ranges : rangesIn words ≤ maxRanges
-  pub few-entries : p .used ≤ maxEntries
-
--- ranges and entries that are good as well
-pub record Writable (words : List ℕ) (p : Profile) : Type 0 where
-  pub counted : Counted words p
-  pub ranges : AllGood (goodRange (rangeIn words)) (rangesIn words)
-  pub entries : AllGood (goodEntry (pointIn p) (roleIn p)) (p .used)
-
--- what is so exactly where the writer gives this refusal, or none
-abbrev pub Because : List ℕ → Profile → ℕ → Option Refusal → Type 0
-Because words p room none = Writable words p × (bytesNeeded words p ≤ room)
-Because words p room (some refusal.Length) = ⊥
-Because words p room (some refusal.Header) = (length words % 3 ≡ 0) × ((maxRanges < rangesIn words) ⊎ (maxEntries < p .used))
-Because words p room (some (refusal.Range i)) = Counted words p × FirstBad (goodRange (rangeIn words)) (rangesIn words) i
-Because words p room (some (refusal.Entry i)) =
-    Counted words p × AllGood (goodRange (rangeIn words)) (rangesIn words) × FirstBad (goodEntry (pointIn p) (roleIn p)) (p .used) i
-Because words p room (some refusal.TextLength) = ⊥
-Because words p room (some (refusal.IllFormed i)) = ⊥
-Because words p room (some (refusal.Characters i)) = ⊥
-Because words p room (some (refusal.Room n)) = ⊥
-Because words p room (some (refusal.NotScalar x)) = ⊥
-Because words p room (some (refusal.Change x)) = ⊥
-Because words p room (some refusal.Profiles) = ⊥
-Because words p room (some (refusal.Buffer k)) = Writable words p × (k ≡ bytesNeeded words p) × (room < k)
-Because words p room (some refusal.Shape) = length words % 3 ≡ 0 → ⊥
-
-module _ (good : ℕ → Bool) (n : ℕ) where
-  abbrev first : ℕ
-  first = firstWhere (λ (i : ℕ). not (good i)) n
-
-  first-bad : first < n → FirstBad good n first
-  first-bad l =
-      record {
-        within = l;
-        bad = not-true _ (first-holds (λ (i : ℕ). not (good i)) n l);
-        before = λ x u. not-false _ (first-passed (λ (i : ℕ). not (good i)) n x u);
-      }
-
-  all-good : n ≤ first → AllGood good n
-  all-good l i u = not-false _ (first-passed (λ (i : ℕ). not (good i)) n i (omega arith))
-
-  first-is-bad : (i : ℕ) → FirstBad good n i → first ≡ i
-  first-is-bad i h =
-      first-is (λ (i : ℕ). not (good i)) n i (h .within) (ap not (h .bad)) (λ x u. ap not (h .before x u))
-
-  first-is-none : AllGood good n → first ≡ n
-  first-is-none h = first-none (λ (i : ℕ). not (good i)) n (λ x u. ap not (h x u))
 
 module _ (words : List ℕ) (p : Profile) (room : ℕ) where
   abbrev badRange : ℕ
@@ -200,3 +148,7 @@ module _ (version : ℕ) (words : List ℕ) (p : Profile) (out : List ℕ) where
   -- for a caller that has the answer w in hand, and knows that it is x
   pub says : (w x : Written) → w ≡ writeOf words p (length out) → w ≡ x → (x ≡ writeOf words p (length out)) × Says version words p out x
   says w x e f = let g = sym f ∙ e in (g, subst (Says version words p out) (sym g) says-of)
+
+  -- a refused call leaves the buffer as it was
+  pub refused-keeps : (r : Refusal) → writeOf words p (length out) ≡ written.Refused r → bytesAfter version words p out ≡ out
+  refused-keeps r e = says (writeOf words p (length out)) (written.Refused r) refl e .1 .1

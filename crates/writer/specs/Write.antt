@@ -1,6 +1,6 @@
 -- What writing an image gives (document 01, "Named refusals": the writer checks 13, then 2 for counts, 3, 4, 12).
 use Prim.Native.Nat.{ℕ, _/_, _%_}
-use mathlib.Core.List.{List, [], _∷_}
+use mathlib.Core.List.{List}
 use mathlib.Core.Option.{Option, none, some}
 use lib.ListN.{length, getD}
 use lib.Dec.{leb, eqb}
@@ -25,17 +25,9 @@ rangesIn words = length words / 3
 abbrev pub bytesNeeded : List ℕ → Profile → ℕ
 bytesNeeded words p = imageEnd (rangesIn words) (p .used)
 
--- the record of a profile's two arrays and its used length
-abbrev pub profileWith : List ℕ → List ℕ → ℕ → Profile
-profileWith points roles m = record { points = points; roles = roles; used = m }
-
 -- the value at each index of an array
-abbrev pub at : List ℕ → ℕ → ℕ
-at l i = getD l i 0
-
--- the two words of entry i
-abbrev pub pairAt : List ℕ → List ℕ → ℕ → List ℕ
-pairAt points roles i = getD points i 0 ∷ getD roles i 0 ∷ []
+abbrev pub valueAt : List ℕ → ℕ → ℕ
+valueAt l i = getD l i 0
 
 -- 13: the words are no multiple of 3. 2: a count is above its limit. 3 and 4: a range or an entry is bad.
 -- 12: the buffer of `room` bytes is too short. Entries past the used length are not looked at.

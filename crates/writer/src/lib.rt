@@ -8,10 +8,10 @@ ghost use Rattle.lists.specs.Each.{each};
 ghost use Rattle.image.specs.Word.{bytesOf};
 ghost use Rattle.image.specs.Limits.{maxRanges, maxEntries};
 ghost use Rattle.image.specs.Ranges.{rangeIn, goodRange, firstBadRange};
-ghost use Rattle.image.specs.Profile.{goodEntry, firstBadEntry};
+ghost use Rattle.image.specs.Profile.{profileBy, goodEntry, firstBadEntry};
 ghost use Rattle.image.specs.Header.{imageEnd};
-ghost use Rattle.image.specs.Image.{bytesOfAll, imageOf};
-ghost use Rattle.writer.specs.Write.{at, pairAt, profileWith, rangesIn, writeOf, bytesAfter};
+ghost use Rattle.image.specs.Image.{entryWords, bytesOfAll, imageOf};
+ghost use Rattle.writer.specs.Write.{valueAt, rangesIn, writeOf, bytesAfter};
 use image::MAX_ENTRIES;
 use image::MAX_RANGES;
 use image::Profile;
@@ -66,7 +66,7 @@ fn put_entries<'a>(
     m: usize,
 )
     requires { ⌜ (m ≤ maxEntries) × (8 * m ≤ length (now out)) ⌝ }
-    ensures { λ _. ⌜ now (out .exit) ≡ laid (now (out .entry)) 0 (bytesOfAll (each (pairAt (now (points .entry)) (now (roles .entry))) m)) ⌝ }
+    ensures { λ _. ⌜ now (out .exit) ≡ laid (now (out .entry)) 0 (bytesOfAll (each (entryWords (profileBy (now (points .entry)) (now (roles .entry)) m)) m)) ⌝ }
 {
     let mut i = 0;
     while i < m {
@@ -86,7 +86,7 @@ fn put_image<'a>(
     out: &mut [u8],
 )
     requires { ⌜ (length (now words) % 3 ≡ 0) × (rangesIn (now words) ≤ maxRanges) × (m ≤ maxEntries) × (imageEnd (rangesIn (now words)) m ≤ length (now out)) ⌝ }
-    ensures { λ _. ⌜ now (out .exit) ≡ laid (now (out .entry)) 0 (imageOf version (rangeIn (now (words .entry))) (rangesIn (now (words .entry))) (profileWith (now (points .entry)) (now (roles .entry)) m)) ⌝ }
+    ensures { λ _. ⌜ now (out .exit) ≡ laid (now (out .entry)) 0 (imageOf version (rangeIn (now (words .entry))) (rangesIn (now (words .entry))) (profileBy (now (points .entry)) (now (roles .entry)) m)) ⌝ }
 {
     let n = words.len() / 3;
     let at = 32 + 12 * n;
@@ -146,10 +146,10 @@ fn is_good_entry<'a>(
     i: usize,
 ) -> bool
     requires { ⌜ i < maxEntries ⌝ }
-    ensures { λ t. ⌜ t ≡ goodEntry (at (now (points .entry))) (at (now (roles .entry))) i ⌝ }
+    ensures { λ t. ⌜ t ≡ goodEntry (valueAt (now (points .entry))) (valueAt (now (roles .entry))) i ⌝ }
 {
     let point = points[i];
-    if image::is_good_pair(point, roles[i]) {
+    if image::is_good_entry_alone(point, roles[i]) {
         if i == 0 {
             return true;
         }
@@ -165,7 +165,7 @@ fn first_bad_entry<'a>(
     m: usize,
 ) -> usize
     requires { ⌜ m ≤ maxEntries ⌝ }
-    ensures { λ r. ⌜ r ≡ firstBadEntry (at (now (points .entry))) (at (now (roles .entry))) m ⌝ }
+    ensures { λ r. ⌜ r ≡ firstBadEntry (valueAt (now (points .entry))) (valueAt (now (roles .entry))) m ⌝ }
 {
     let mut i = 0;
     while i < m {
@@ -186,7 +186,7 @@ fn judge<'a>(
     m: usize,
     room: usize,
 ) -> Written
-    ensures { λ r. ⌜ r ≡ writeOf (now (words .entry)) (profileWith (now (points .entry)) (now (roles .entry)) m) room ⌝ }
+    ensures { λ r. ⌜ r ≡ writeOf (now (words .entry)) (profileBy (now (points .entry)) (now (roles .entry)) m) room ⌝ }
 {
     if words.len() % 3 != 0 {
         return Written::Refused(Refusal::Shape);

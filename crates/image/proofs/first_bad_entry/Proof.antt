@@ -3,7 +3,7 @@ use Prim.Native.Nat.{_-_}
 use mathlib.Core.Path.{sym, _∙_}
 use native.Mathlib.Omega.{arith}
 use Rattle.image.specs.Profile.{pointAt, roleAt, goodEntry, firstBadEntry}
-use Rattle.image.proofs.SearchLaws.{Searching, search-begins, good-next, bad-here, none-bad}
+use Rattle.lists.proofs.SearchLaws.{Searching, search-begins, good-next, bad-here, none-bad}
 use Rattle.image.proofs.first_bad_entry.Statement.{statement}
 use Rattle.image.proofs.first_bad_entry.Tie as tie
 

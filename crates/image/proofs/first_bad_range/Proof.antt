@@ -3,7 +3,7 @@ use Prim.Native.Nat.{_-_}
 use mathlib.Core.Path.{sym, _∙_}
 use native.Mathlib.Omega.{arith}
 use Rattle.image.specs.Ranges.{rangeAt, goodRange, firstBadRange}
-use Rattle.image.proofs.SearchLaws.{Searching, search-begins, good-next, bad-here, none-bad}
+use Rattle.lists.proofs.SearchLaws.{Searching, search-begins, good-next, bad-here, none-bad}
 use Rattle.image.proofs.first_bad_range.Statement.{statement}
 use Rattle.image.proofs.first_bad_range.Tie as tie
 

@@ -49,11 +49,11 @@ add-word c = search needs
 word-requires-2 : tie.Need-word-requires-2
 word-requires-2 c κs = search needs
 
-is-good-pair-requires : tie.Need-is-good-pair-requires
-is-good-pair-requires c κs = search needs
+is-good-entry-alone-requires : tie.Need-is-good-entry-alone-requires
+is-good-entry-alone-requires c κs = search needs
 
 returns : tie.Need-returns
-returns c = first-good _ _ _ _ _ _ (c .before .before .before .before .before .before .pre .0) (c .before .before .before .before .word .ensures) (c .before .before .before .word2 .ensures) (c .before .before .is-good-pair .ensures) (c .before .if1 .taken) (c .if2 .taken)
+returns c = first-good _ _ _ _ _ _ (c .before .before .before .before .before .before .pre .0) (c .before .before .before .before .word .ensures) (c .before .before .before .word2 .ensures) (c .before .before .is-good-entry-alone .ensures) (c .before .if1 .taken) (c .if2 .taken)
 
 sub-word : tie.Need-sub-word
 sub-word c = search needs
@@ -62,10 +62,10 @@ word-requires-3 : tie.Need-word-requires-3
 word-requires-3 c κs = search needs
 
 returns-2 : tie.Need-returns-2
-returns-2 c = next-good _ _ _ _ _ _ (c .before .before .before .before .before .before .before .pre .0) (c .before .before .before .before .before .word .ensures) (c .before .before .before .before .word2 .ensures) (c .before .before .before .is-good-pair .ensures) (c .before .before .if1 .taken) (c .before .if2 .left) _ (c .word3 .ensures)
+returns-2 c = next-good _ _ _ _ _ _ (c .before .before .before .before .before .before .before .pre .0) (c .before .before .before .before .before .word .ensures) (c .before .before .before .before .word2 .ensures) (c .before .before .before .is-good-entry-alone .ensures) (c .before .before .if1 .taken) (c .before .if2 .left) _ (c .word3 .ensures)
 
 returns-3 : tie.Need-returns-3
-returns-3 c = pair-bad _ _ _ _ _ _ (c .before .before .before .before .before .pre .0) (c .before .before .before .word .ensures) (c .before .before .word2 .ensures) (c .before .is-good-pair .ensures) (c .if1 .left)
+returns-3 c = pair-bad _ _ _ _ _ _ (c .before .before .before .before .before .pre .0) (c .before .before .before .word .ensures) (c .before .before .word2 .ensures) (c .before .is-good-entry-alone .ensures) (c .if1 .left)
 
 pub is-good-entry-spec : {M : Type 1} → statement M
 is-good-entry-spec =
@@ -76,7 +76,7 @@ is-good-entry-spec =
     word-requires
     add-word
     word-requires-2
-    is-good-pair-requires
+    is-good-entry-alone-requires
     returns
     sub-word
     word-requires-3

@@ -10,7 +10,8 @@ use Rattle.image.specs.Header.{rangeCount, entryCount, entriesAt}
 use Rattle.image.specs.Ranges.{rangeAt, firstBadRange}
 use Rattle.image.specs.Profile.{pointAt, roleAt, firstBadEntry}
 use Rattle.image.specs.Check.{refusalOf}
-use Rattle.image.proofs.ImageLaws.{Headed, headed, afterRanges, past-header, refuses, accepts}
+use Rattle.image.specs.Accepted.{Headed}
+use Rattle.image.proofs.ImageLaws.{headed, afterRanges, past-header, refuses, accepts}
 use borrow.Author.Needs.{needs}
 use Rattle.image.proofs.judge_records.Statement.{statement}
 use Rattle.image.proofs.judge_records.Tie as tie

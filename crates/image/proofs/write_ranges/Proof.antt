@@ -8,7 +8,7 @@ use Rattle.lists.specs.Laid.{laid}
 use Rattle.lists.proofs.LaidLaws.{lent}
 use Rattle.image.specs.Ranges.{rangeAt, rangeWords}
 use Rattle.image.specs.declared.Range.{Range}
-use Rattle.image.proofs.WriteLaws.{Writing, writing-begins, writing-next, writing-ends}
+use Rattle.lists.proofs.WritingLaws.{Writing, writing-begins, writing-next, writing-ends}
 use Rattle.image.proofs.write_ranges.Statement.{statement}
 use Rattle.image.proofs.write_ranges.Tie as tie
 

@@ -1,5 +1,5 @@
 -- `utf8::measure` meets its contract: nothing is left, or what the lead of the first byte asks for. Assumes nothing.
-use mathlib.Core.Path.{_≡_, sym, ap, _∙_}
+use mathlib.Core.Path.{sym, ap, _∙_}
 use lib.ListN.{getD}
 use native.Mathlib.Omega.{arith}
 use Rattle.utf8.specs.declared.Lead.{Lead}

@@ -1,8 +1,8 @@
 -- `utf8::measure_by` meets its contract: each return is the length that the lead asks for, as far as the bytes before it fit.
 -- Assumes nothing.
-use mathlib.Core.Bool.{not, true, false}
-use mathlib.Core.Path.{_≡_, refl, sym, ap, _∙_}
-use Prim.Native.Nat.{ℕ, _-_}
+use mathlib.Core.Bool.{true}
+use mathlib.Core.Path.{_≡_, sym, ap, _∙_}
+use Prim.Native.Nat.{_-_}
 use native.Mathlib.Omega.{arith}
 use borrow.Author.Tests.{not-true, not-false}
 use Rattle.utf8.specs.Table.{_to_}

@@ -1,6 +1,6 @@
 -- `utf8::read_lead` meets its contract: each arm knows bounds on the byte, and those say which row of the table it is in.
 -- Assumes nothing.
-use mathlib.Core.Path.{_≡_, refl, sym, _∙_}
+use mathlib.Core.Path.{refl, sym, _∙_}
 use native.Mathlib.Omega.{arith}
 use native.Mathlib.Decide.{decLt}
 use lib.ListN.{drop}

@@ -1,25 +1,20 @@
 -- `writer::first_bad_range` meets its contract. The loop's invariant: the first bad range from i on is the first bad one. Assumes nothing.
-use Prim.Native.Nat.{ℕ, _≤_, _-_}
-use mathlib.Core.Path.{_≡_, sym, ap, _∙_}
-use mathlib.Core.Bool.{not}
+use Prim.Native.Nat.{_-_}
+use mathlib.Core.Path.{sym, _∙_}
 use native.Mathlib.Omega.{arith}
-use Rattle.lists.specs.First.{firstFrom}
-use Rattle.lists.proofs.FirstLaws.{first-here, first-next, first-end, first-begins}
+use Rattle.lists.proofs.SearchLaws.{Searching, search-begins, good-next, bad-here, none-bad}
 use Rattle.image.specs.Ranges.{rangeIn, goodRange, firstBadRange}
 use Rattle.writer.proofs.first_bad_range.Statement.{statement}
 use Rattle.writer.proofs.first_bad_range.Tie as tie
 
 abbrev Inv-loop : tie.InvT-loop
-Inv-loop words n i₀ i = (i ≤ n) × (firstFrom (λ (j : ℕ). not (goodRange (rangeIn words) j)) (n - i) i ≡ firstBadRange (rangeIn words) n)
+Inv-loop words n i₀ i = Searching (goodRange (rangeIn words)) n i
 
 abbrev μ-loop : tie.MeasureT-loop
 μ-loop words n i₀ i = n - i
 
 loop-holds : tie.Need-loop-holds Inv-loop μ-loop
-unfolding firstBadRange
-loop-holds c =
-    let s = c .before .args in
-    (omega arith, first-begins (λ (i : ℕ). not (goodRange (rangeIn (s .words .now)) i)) (s .n))
+loop-holds c = search-begins (goodRange (rangeIn (c .before .args .words .now))) _
 
 is-good-range-requires : tie.Need-is-good-range-requires Inv-loop μ-loop
 is-good-range-requires c κs = omega arith
@@ -32,20 +27,18 @@ loop-less c = omega arith
 
 loop-again : tie.Need-loop-again Inv-loop μ-loop
 loop-again c =
-    let s = c .before .before .before .before .before .args in
-    let l = c .before .before .before .loop in
-    (omega arith, sym (first-next (λ (i : ℕ). not (goodRange (rangeIn (s .words .now)) i)) (s .n) (l .i) (ap not (sym (c .before .is-good-range .ensures) ∙ c .if1 .taken)) (c .before .before .loop-test .taken)) ∙ l .inv .1)
+    let w = c .before .before .before .before .before .args .words .now in
+    good-next (goodRange (rangeIn w)) _ _ (c .before .before .before .loop .inv) (c .before .before .loop-test .taken) (sym (c .before .is-good-range .ensures) ∙ c .if1 .taken)
 
 returns : tie.Need-returns Inv-loop μ-loop
+unfolding firstBadRange
 returns c =
-    let s = c .before .before .before .before .before .args in
-    let l = c .before .before .before .loop in
-    sym (first-here (λ (i : ℕ). not (goodRange (rangeIn (s .words .now)) i)) (s .n) (l .i) (ap not (sym (c .before .is-good-range .ensures) ∙ c .if1 .left)) (c .before .before .loop-test .taken)) ∙ l .inv .1
+    let w = c .before .before .before .before .before .args .words .now in
+    bad-here (goodRange (rangeIn w)) _ _ (c .before .before .before .loop .inv) (c .before .before .loop-test .taken) (sym (c .before .is-good-range .ensures) ∙ c .if1 .left)
 
 returns-2 : tie.Need-returns-2 Inv-loop μ-loop
-returns-2 c =
-    let s = c .before .before .before .args in
-    sym (first-end (λ (i : ℕ). not (goodRange (rangeIn (s .words .now)) i)) (s .n) (c .before .loop .i) (omega arith)) ∙ c .before .loop .inv .1
+unfolding firstBadRange
+returns-2 c = none-bad (goodRange (rangeIn (c .before .before .before .args .words .now))) _ _ (c .before .loop .inv) (c .loop-test .left)
 
 pub first-bad-range-spec : {M : Type 1} → statement M
 first-bad-range-spec =

@@ -1,6 +1,6 @@
 -- `writer::is_good_entry` meets its contract. Assumes nothing.
 use borrow.Author.Tests.{eq-eqb, ne-eqb}
-use Rattle.writer.proofs.JudgeLaws.{entry-parts}
+use Rattle.image.proofs.ImageLaws.{entry-parts}
 use borrow.Author.Needs.{needs}
 use Rattle.writer.proofs.is_good_entry.Statement.{statement}
 use Rattle.writer.proofs.is_good_entry.Tie as tie
@@ -11,17 +11,17 @@ mul-point c = search needs
 element-copy-out-point : tie.Need-element-copy-out-point
 element-copy-out-point c = search needs
 
-mul-is-good-pair : tie.Need-mul-is-good-pair
-mul-is-good-pair c = search needs
+mul-is-good-entry-alone : tie.Need-mul-is-good-entry-alone
+mul-is-good-entry-alone c = search needs
 
-element-copy-out-is-good-pair : tie.Need-element-copy-out-is-good-pair
-element-copy-out-is-good-pair c = search needs
+element-copy-out-is-good-entry-alone : tie.Need-element-copy-out-is-good-entry-alone
+element-copy-out-is-good-entry-alone c = search needs
 
-is-good-pair-requires : tie.Need-is-good-pair-requires
-is-good-pair-requires c κs = search needs
+is-good-entry-alone-requires : tie.Need-is-good-entry-alone-requires
+is-good-entry-alone-requires c κs = search needs
 
 returns : tie.Need-returns
-returns c = simp (entry-parts, ← c .before .before .is-good-pair .ensures, c .before .if1 .taken, eq-eqb _ _ (c .if2 .taken))
+returns c = simp (entry-parts, ← c .before .before .is-good-entry-alone .ensures, c .before .if1 .taken, eq-eqb _ _ (c .if2 .taken))
 
 sub-result : tie.Need-sub-result
 sub-result c = search needs
@@ -33,10 +33,10 @@ element-copy-out-result : tie.Need-element-copy-out-result
 element-copy-out-result c = search needs
 
 returns-2 : tie.Need-returns-2
-returns-2 c = simp (entry-parts, ← c .before .before .before .is-good-pair .ensures, c .before .before .if1 .taken, ne-eqb _ _ (c .before .if2 .left))
+returns-2 c = simp (entry-parts, ← c .before .before .before .is-good-entry-alone .ensures, c .before .before .if1 .taken, ne-eqb _ _ (c .before .if2 .left))
 
 returns-3 : tie.Need-returns-3
-returns-3 c = simp (entry-parts, ← c .before .is-good-pair .ensures, c .if1 .left)
+returns-3 c = simp (entry-parts, ← c .before .is-good-entry-alone .ensures, c .if1 .left)
 
 pub is-good-entry-spec : {M : Type 1} → statement M
 is-good-entry-spec =
@@ -44,9 +44,9 @@ is-good-entry-spec =
     (tie.spec
     mul-point
     element-copy-out-point
-    mul-is-good-pair
-    element-copy-out-is-good-pair
-    is-good-pair-requires
+    mul-is-good-entry-alone
+    element-copy-out-is-good-entry-alone
+    is-good-entry-alone-requires
     returns
     sub-result
     mul-result

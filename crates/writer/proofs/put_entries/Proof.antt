@@ -9,8 +9,8 @@ use Rattle.lists.specs.Laid.{laid}
 use Rattle.lists.specs.Each.{each, eachFrom}
 use Rattle.lists.proofs.LaidLaws.{laid-none}
 use Rattle.lists.proofs.EachLaws.{each-begins}
-use Rattle.image.specs.Image.{bytesOfAll}
-use Rattle.writer.specs.Write.{pairAt}
+use Rattle.image.specs.Profile.{profileBy}
+use Rattle.image.specs.Image.{entryWords, bytesOfAll}
 use Rattle.writer.proofs.WordLaws.{length-all, each-all-next, each-all-end}
 use Rattle.writer.proofs.LayLaws.{kept, turned}
 use Rattle.writer.proofs.put_entries.Statement.{statement}
@@ -20,7 +20,7 @@ abbrev Inv-loop : tie.InvT-loop
 Inv-loop out₀ points roles m i₀ out i =
     (i ≤ m)
     × (length out ≡ length out₀)
-    × (laid out (8 * i) (bytesOfAll (eachFrom (pairAt points roles) (m - i) i)) ≡ laid out₀ 0 (bytesOfAll (each (pairAt points roles) m)))
+    × (laid out (8 * i) (bytesOfAll (eachFrom (entryWords (profileBy points roles m)) (m - i) i)) ≡ laid out₀ 0 (bytesOfAll (each (entryWords (profileBy points roles m)) m)))
 
 abbrev μ-loop : tie.MeasureT-loop
 μ-loop out₀ points roles m i₀ out i = m - i
@@ -28,7 +28,7 @@ abbrev μ-loop : tie.MeasureT-loop
 loop-holds : tie.Need-loop-holds Inv-loop μ-loop
 loop-holds c =
     let s = c .before .args in
-    (omega arith, refl, ap (λ (l : List _). laid (s .out .now) 0 (bytesOfAll l)) (each-begins (pairAt (s .points .now) (s .roles .now)) (s .m)))
+    (omega arith, refl, ap (λ (l : List _). laid (s .out .now) 0 (bytesOfAll l)) (each-begins (entryWords (profileBy (s .points .now) (s .roles .now) (s .m))) (s .m)))
 
 mul-at : tie.Need-mul-at Inv-loop μ-loop
 mul-at c = omega arith
@@ -67,7 +67,7 @@ loop-again : tie.Need-loop-again Inv-loop μ-loop
 loop-again c =
     let s = c .before .before .before .before .before .before .before .before .before .args in
     let l = c .before .before .before .before .before .before .before .loop in
-    let f = pairAt (s .points .now) (s .roles .now) in
+    let f = entryWords (profileBy (s .points .now) (s .roles .now) (s .m)) in
     let b = bytesOfAll (f (l .i)) in
     let eight = length-all (f (l .i)) in
     let fits : 8 * l .i + length b ≤ length (l .out) = omega arith in
@@ -85,7 +85,7 @@ returns : tie.Need-returns Inv-loop μ-loop
 returns c =
     let l = c .before .loop in
     let s = c .before .before .before .args in
-    sym (laid-none (l .out) (8 * l .i)) ∙ ap (laid (l .out) (8 * l .i)) (sym (each-all-end (pairAt (s .points .now) (s .roles .now)) (s .m) (l .i) (omega arith))) ∙ l .inv .2
+    sym (laid-none (l .out) (8 * l .i)) ∙ ap (laid (l .out) (8 * l .i)) (sym (each-all-end (entryWords (profileBy (s .points .now) (s .roles .now) (s .m))) (s .m) (l .i) (omega arith))) ∙ l .inv .2
 
 pub put-entries-spec : {M : Type 1} → statement M
 put-entries-spec =

@@ -6,8 +6,9 @@ use native.Mathlib.Omega.{arith}
 use lib.ListN.{length, length-append}
 use Rattle.lists.specs.Laid.{laid}
 use Rattle.lists.specs.Each.{each}
+use Rattle.image.specs.Profile.{profileBy}
 use Rattle.image.specs.Image.{headerWords, entryWords, bytesOfAll}
-use Rattle.writer.specs.Write.{rangesIn, profileWith}
+use Rattle.writer.specs.Write.{rangesIn}
 use Rattle.writer.proofs.WordLaws.{length-all}
 use Rattle.writer.proofs.LayLaws.{joined}
 use Rattle.writer.proofs.PartLaws.{whole, image-parts, length-entries}
@@ -79,7 +80,7 @@ returns c =
     let out = a .out .now in
     let words = a .words .now in
     let n = rangesIn words in
-    let p = profileWith (a .points .now) (a .roles .now) (a .m) in
+    let p = profileBy (a .points .now) (a .roles .now) (a .m) in
     let header = headerWords (a .version) n (a .m) in
     let entries = each (entryWords p) (a .m) in
     let e = s .pre .0 in

@@ -1,9 +1,9 @@
--- `image::is_good_pair` meets its contract. Assumes nothing.
+-- `image::is_good_entry_alone` meets its contract. Assumes nothing.
 use mathlib.Core.Path.{sym, _∙_}
 use borrow.Author.Needs.{needs}
 use borrow.Author.Tests.{le-leb, lt-leb}
-use Rattle.image.proofs.is_good_pair.Statement.{statement}
-use Rattle.image.proofs.is_good_pair.Tie as tie
+use Rattle.image.proofs.is_good_entry_alone.Statement.{statement}
+use Rattle.image.proofs.is_good_entry_alone.Tie as tie
 
 is-scalar-requires : tie.Need-is-scalar-requires
 is-scalar-requires c κs = search needs
@@ -17,5 +17,5 @@ returns-2 c = simp (sym (c .before .before .is-scalar .ensures) ∙ c .before .i
 returns-3 : tie.Need-returns-3
 returns-3 c = simp (sym (c .before .is-scalar .ensures) ∙ c .if1 .left)
 
-pub is-good-pair-spec : {M : Type 1} → statement M
-is-good-pair-spec = tie.close (tie.spec is-scalar-requires returns returns-2 returns-3)
+pub is-good-entry-alone-spec : {M : Type 1} → statement M
+is-good-entry-alone-spec = tie.close (tie.spec is-scalar-requires returns returns-2 returns-3)

@@ -1,0 +1,49 @@
+-- An image and right after it a text, as the token lister reads them (document 01, "Small image M and its readings").
+use Prim.Native.Nat.{ℕ}
+use mathlib.Core.Bool.{Bool, true, false, _&&_}
+use mathlib.Core.List.{List}
+use lib.ListN.{length, take, drop}
+use lib.Dec.{ltb, leb}
+use Rattle.lists.specs.First.{pickN}
+use Rattle.refusal.specs.declared.Refusal.the-variants as refusal
+use Rattle.utf8.specs.Text.{Character}
+use Rattle.image.specs.Limits.{headerBytes, maxImage}
+use Rattle.image.specs.Header.{totalOf}
+use Rattle.image.specs.Check.{refusalOf}
+use Rattle.division.specs.Scan.{Tok}
+use Rattle.division.specs.Grammar.{Kind}
+use Rattle.division.specs.Outcome.{Outcome, refused, unless, refusedIf, outcomeMap}
+use Rattle.division.specs.Reading.{writtenOf, laidBy}
+
+-- the most bytes of the lister's text
+abbrev pub maxScript : ℕ
+maxScript = 8192
+
+-- the image comes whole: 32 bytes or more come, and its total length is 32 to 49,696 and no more than comes
+unfoldable pub comesWhole : List ℕ → Bool
+comesWhole input =
+    leb headerBytes (length input) && (leb headerBytes (totalOf input) && (leb (totalOf input) maxImage && leb (totalOf input) (length input)))
+
+-- where the image ends; 0 where it doesn't come whole
+unfoldable pub endOf : List ℕ → ℕ
+endOf input = pickN (comesWhole input) (totalOf input) 0
+
+-- 1 to 4 of the image, then 5 above 8,192 bytes of text, then what writing the list gives
+unfoldable pub writtenWithin : List ℕ → List ℕ → ℕ → Outcome (List (Tok Character Kind))
+writtenWithin image text words =
+    unless (refusalOf image) (unless (refusedIf (ltb maxScript (length text)) refusal.TextLength) (writtenOf image text words))
+
+-- 1 where the image doesn't come whole; else what the image gives with the text after it
+abbrev pub writtenBy : Bool → List ℕ → ℕ → Outcome (List (Tok Character Kind))
+writtenBy true input words = writtenWithin (take (totalOf input) input) (drop (totalOf input) input) words
+writtenBy false input words = refused refusal.Length
+
+unfoldable pub writtenFrom : List ℕ → ℕ → Outcome (List (Tok Character Kind))
+writtenFrom input words = writtenBy (comesWhole input) input words
+
+-- the answer, and what the lent words then hold
+unfoldable pub listedFrom : List ℕ → ℕ → Outcome ℕ
+listedFrom input words = outcomeMap length (writtenFrom input words)
+
+unfoldable pub wordsAfter : List ℕ → List ℕ → List ℕ
+wordsAfter input out = laidBy out (writtenFrom input (length out))

@@ -1,0 +1,75 @@
+// What the token lister does with its input: an image and right after it a text.
+ghost use mathlib.Core.Path.{_≡_};
+ghost use lib.ListN.{length};
+ghost use Rattle.division.specs.Outcome.{outcomeMap};
+ghost use Rattle.division.specs.Reading.{laidBy};
+ghost use Rattle.scan.specs.Counted.{countedBy};
+ghost use Rattle.listing.specs.Input.{endOf, writtenWithin, listedFrom, wordsAfter};
+use image::Answer;
+use refusal::Refusal;
+use scan::Counted;
+
+// The most bytes of the text, and of all input that is looked at: the largest image, the longest text and one byte more.
+pub const MAX_SCRIPT: usize = 8192;
+
+pub const MAX_INPUT: usize = 57889;
+
+// The words that the longest text's tokens can need.
+pub const MAX_WORDS: usize = 24576;
+
+const HEADER_BYTES: usize = 32;
+
+const MAX_IMAGE: usize = 49696;
+
+// Where the image at the front of the input ends; 0 where it doesn't come whole.
+fn find_end(input: &[u8]) -> usize
+    ensures { λ r. ⌜ r ≡ endOf (now (input .entry)) ⌝ }
+{
+    if input.len() < HEADER_BYTES {
+        return 0;
+    }
+    let total = image::word(input, 8) as usize;
+    if total < HEADER_BYTES {
+        return 0;
+    }
+    if MAX_IMAGE < total {
+        return 0;
+    }
+    if input.len() < total {
+        return 0;
+    }
+    total
+}
+
+// The list of the tokens of a text of at most 8,192 bytes.
+fn list_script<'a>(image: &'a [u8], text: &'a [u8], out: &mut [u32]) -> Counted
+    ensures { λ r. ⌜ r ≡ countedBy (outcomeMap length (writtenWithin (now (image .entry)) (now (text .entry)) (length (now (out .entry))))) ⌝ }
+    ensures { λ r. ⌜ now (out .exit) ≡ laidBy (now (out .entry)) (writtenWithin (now (image .entry)) (now (text .entry)) (length (now (out .entry)))) ⌝ }
+{
+    let checked = image::check(image);
+    let answer = checked.answer;
+    match answer {
+        Answer::Refused(r) => Counted::Refused(r),
+        Answer::Accepted { version: _, ranges } => {
+            if MAX_SCRIPT < text.len() {
+                return Counted::Refused(Refusal::TextLength);
+            }
+            let profile = checked.profile;
+            let points = profile.points;
+            let roles = profile.roles;
+            token::list_checked(image, ranges, &points, &roles, profile.used, text, out)
+        }
+    }
+}
+
+// The list of the tokens of the text that follows the image in the input.
+pub fn list_input(input: &[u8], out: &mut [u32]) -> Counted
+    ensures { λ r. ⌜ r ≡ countedBy (listedFrom (now (input .entry)) (length (now (out .entry)))) ⌝ }
+    ensures { λ r. ⌜ now (out .exit) ≡ wordsAfter (now (input .entry)) (now (out .entry)) ⌝ }
+{
+    let end = find_end(input);
+    if end == 0 {
+        return Counted::Refused(Refusal::Length);
+    }
+    list_script(&input[..end], &input[end..], out)
+}

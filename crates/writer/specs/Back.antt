@@ -1,0 +1,27 @@
+-- What reading gives back of what was written (demand 2; document 01, "The class image").
+use Prim.Native.Nat.{ℕ, _≤_, _<_}
+use mathlib.Core.Path.{_≡_}
+use mathlib.Core.List.{List}
+use mathlib.Core.Option.{none}
+use Rattle.lists.specs.Each.{each}
+use Rattle.image.specs.declared.Profile.{Profile}
+use Rattle.image.specs.Header.{versionOf, rangeCount}
+use Rattle.image.specs.Ranges.{rangeAt, rangeWords}
+use Rattle.image.specs.Profile.{pointIn, roleIn, profileOf}
+use Rattle.image.specs.Check.{refusalOf}
+use Rattle.writer.specs.Write.{rangesIn}
+
+-- profiles are the same if the used lengths and the entries before them are
+pub record SameEntries (p q : Profile) : Type 0 where
+  pub count : p .used ≡ q .used
+  pub point : (i : ℕ) → i < p .used → pointIn p i ≡ pointIn q i
+  pub role : (i : ℕ) → i < p .used → roleIn p i ≡ roleIn q i
+
+-- what an image gives back
+pub record ReadBack (version : ℕ) (words : List ℕ) (p : Profile) (s : List ℕ) : Type 0 where
+  pub is-accepted : refusalOf s ≡ none
+  pub same-version : versionOf s ≡ version
+  pub same-count : rangeCount s ≡ rangesIn words
+  pub same-words : each (λ (i : ℕ). rangeWords (rangeAt s i)) (rangeCount s) ≡ words
+  pub same-entries : SameEntries p (profileOf s)
+  pub zeros : (i : ℕ) → p .used ≤ i → (pointIn (profileOf s) i ≡ 0) × (roleIn (profileOf s) i ≡ 0)
