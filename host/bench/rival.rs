@@ -57,6 +57,46 @@ fn flat(ranges: &[u32], profile: &[(u32, u32)]) -> Vec<u8> {
     all
 }
 
+/// A word of 32 bits, little-endian.
+fn word(bytes: &[u8], at: usize) -> u32 {
+    u32::from_le_bytes(bytes[at..at + 4].try_into().unwrap())
+}
+
+/// The number of ranges of an accepted image, checked as a Rust user would; nothing for any other.
+pub fn check(image: &[u8]) -> Option<usize> {
+    if image.len() < 32 || image.len() > 49_696 || word(image, 8) as usize != image.len() {
+        return None;
+    }
+    let (n, m) = (word(image, 12) as usize, word(image, 20) as usize);
+    let entries = 32 + 12 * n.min(4096);
+    let fixed = word(image, 0) == 1 && word(image, 28) == 0 && word(image, 16) == 32;
+    let counts = n <= 4096 && m <= 64 && word(image, 24) as usize == entries;
+    if !fixed || !counts || image.len() != entries + 8 * m {
+        return None;
+    }
+    let mut before: Option<(u32, u32)> = None;
+    for range in image[32..entries].chunks_exact(12) {
+        let (first, last, class) = (word(range, 0), word(range, 4), word(range, 8));
+        let good = first <= last && last <= 0x10FFFF && !(first <= 0xDFFF && last >= 0xD800);
+        let follows =
+            before.map_or(true, |(end, of)| end < first && !(end + 1 == first && of == class));
+        if !good || !(1..=5).contains(&class) || !follows {
+            return None;
+        }
+        before = Some((last, class));
+    }
+    let mut point_before: Option<u32> = None;
+    for entry in image[entries..].chunks_exact(8) {
+        let (point, role) = (word(entry, 0), word(entry, 4));
+        let scalar = char::from_u32(point).is_some();
+        if !scalar || !(1..=4).contains(&role) || point_before.is_some_and(|p| p >= point) {
+            return None;
+        }
+        point_before = Some(point);
+    }
+    Some(n)
+}
+
 impl Tables {
     /// From an accepted image's ranges, three words each, and its profile.
     pub fn new(ranges: &[u32], profile: &[(u32, u32)]) -> Tables {
@@ -72,6 +112,12 @@ impl Tables {
         let mut bytes = [0; 256];
         bytes[..128].copy_from_slice(&blocks[index[0] as usize][..128]);
         Tables { bytes, index, blocks }
+    }
+
+    /// The flags of a scalar value.
+    #[inline(always)]
+    pub fn flags_of(&self, point: u32) -> u8 {
+        self.blocks[self.index[(point >> 8) as usize] as usize][(point & 0xFF) as usize]
     }
 
     /// The flags and length of the code point that begins at the byte; the
@@ -91,8 +137,7 @@ impl Tables {
         } else {
             ((lead & 0x07) << 18 | low(1) << 12 | low(2) << 6 | low(3), 4)
         };
-        let block = &self.blocks[self.index[(point >> 8) as usize] as usize];
-        (block[(point & 0xFF) as usize], length)
+        (self.flags_of(point), length)
     }
 
     /// The end of the run, from the byte on, of code points with the flag.

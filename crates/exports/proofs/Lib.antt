@@ -1,2 +1,3 @@
 mod ReplyLaws
 mod OpenedLaws
+mod PartLaws

@@ -1,2 +1,3 @@
 pub mod Reply
 pub mod ImageReply
+pub mod TokenReply

@@ -12,6 +12,11 @@ ghost use Rattle.lookup.specs.Lookup.{lookupOf};
 ghost use Rattle.writer.specs.Write.{writeOf, bytesAfter};
 ghost use Rattle.exports.specs.Reply.{Tells, refusesOf};
 ghost use Rattle.exports.specs.ImageReply.{TellsChecked, foundReply, writtenReply, pairReply};
+ghost use Rattle.division.specs.Reading.{countOf, listOf, listWords};
+ghost use Rattle.token.specs.Taken.{takenOf};
+ghost use Rattle.part.specs.Part.{refusalOf, bytesOf};
+ghost use Rattle.scan.specs.Counted.{countedBy};
+ghost use Rattle.exports.specs.TokenReply.{countedReply, takenReply, partReply, toldPart};
 use image::Answer;
 use image::Checked;
 use image::MAX_ENTRIES;
@@ -19,7 +24,12 @@ use image::Profile;
 use lookup::Found;
 use pair::Pair;
 use refusal::Refusal;
+use scan::Counted;
+use token::Taken;
 use writer::Written;
+
+// The result where a place is the text's end.
+const DONE: u32 = 255;
 
 // Fills the answer array.
 fn put(answer: &mut [u64; 4], a: u64, b: u64, c: u64, d: u64)
@@ -218,4 +228,150 @@ pub extern "C" fn luffinarc_pair(older: &[u8], newer: &[u8], answer: &mut [u64; 
 {
     let pair = pair::check_pair(older, newer);
     tell_pair(pair, answer)
+}
+
+// Tells what counting or writing the list gave.
+fn tell_counted(counted: Counted, answer: &mut [u64; 4]) -> u32
+    ensures { λ n. ⌜ Tells (countedReply counted) n (now (answer .exit)) ⌝ }
+{
+    match counted {
+        Counted::Refused(r) => refuse(r, 0, answer),
+        Counted::Tokens(count) => {
+            put(answer, count as u64, 0, 0, 0);
+            0
+        }
+    }
+}
+
+// Tells what taking one token gave.
+fn tell_taken(taken: Taken, answer: &mut [u64; 4]) -> u32
+    ensures { λ n. ⌜ Tells (takenReply taken) n (now (answer .exit)) ⌝ }
+{
+    match taken {
+        Taken::Refused(r) => refuse(r, 0, answer),
+        Taken::Done => {
+            put(answer, 0, 0, 0, 0);
+            DONE
+        }
+        Taken::Token { kind, start, end } => {
+            put(answer, kind as u64, start as u64, end as u64, 0);
+            0
+        }
+    }
+}
+
+// Counts the tokens of a text. Answer: their number.
+#[no_mangle]
+pub extern "C" fn luffinarc_count<'a>(image: &'a [u8], text: &'a [u8], answer: &mut [u64; 4]) -> u32
+    ensures { λ n. ⌜ Tells (countedReply (countedBy (countOf (now (image .entry)) (now (text .entry))))) n (now (answer .exit)) ⌝ }
+{
+    let counted = token::count(image, text);
+    tell_counted(counted, answer)
+}
+
+// As `luffinarc_count`, under an image that was checked.
+#[no_mangle]
+pub extern "C" fn luffinarc_count_checked<'a>(
+    image: &'a [u8],
+    n: usize,
+    points: &'a [u32; MAX_ENTRIES],
+    roles: &'a [u32; MAX_ENTRIES],
+    used: usize,
+    text: &'a [u8],
+    answer: &mut [u64; 4],
+) -> u32
+    requires { ⌜ Opened (now image) n (now points) (now roles) used ⌝ }
+    ensures { λ k. ⌜ Tells (countedReply (countedBy (countOf (now (image .entry)) (now (text .entry))))) k (now (answer .exit)) ⌝ }
+{
+    let counted = token::count_checked(image, n, points, roles, used, text);
+    tell_counted(counted, answer)
+}
+
+// Writes the list of a text's tokens, three words each. Answer: their number.
+#[no_mangle]
+pub extern "C" fn luffinarc_list<'a>(
+    image: &'a [u8],
+    text: &'a [u8],
+    words: &mut [u32],
+    answer: &mut [u64; 4],
+) -> u32
+    ensures { λ n. ⌜ Tells (countedReply (countedBy (listOf (now (image .entry)) (now (text .entry)) (length (now (words .entry)))))) n (now (answer .exit)) ⌝ }
+    ensures { λ _. ⌜ now (words .exit) ≡ listWords (now (image .entry)) (now (text .entry)) (now (words .entry)) ⌝ }
+{
+    let counted = token::list(image, text, words);
+    tell_counted(counted, answer)
+}
+
+// As `luffinarc_list`, under an image that was checked.
+#[no_mangle]
+pub extern "C" fn luffinarc_list_checked<'a>(
+    image: &'a [u8],
+    n: usize,
+    points: &'a [u32; MAX_ENTRIES],
+    roles: &'a [u32; MAX_ENTRIES],
+    used: usize,
+    text: &'a [u8],
+    words: &mut [u32],
+    answer: &mut [u64; 4],
+) -> u32
+    requires { ⌜ Opened (now image) n (now points) (now roles) used ⌝ }
+    ensures { λ k. ⌜ Tells (countedReply (countedBy (listOf (now (image .entry)) (now (text .entry)) (length (now (words .entry)))))) k (now (answer .exit)) ⌝ }
+    ensures { λ _. ⌜ now (words .exit) ≡ listWords (now (image .entry)) (now (text .entry)) (now (words .entry)) ⌝ }
+{
+    let counted = token::list_checked(image, n, points, roles, used, text, words);
+    tell_counted(counted, answer)
+}
+
+// Takes one token at a place of a text. Answer: kind, first byte, one past the last byte. The result is 255 where the
+// place is the text's end.
+#[no_mangle]
+pub extern "C" fn luffinarc_token<'a>(
+    image: &'a [u8],
+    text: &'a [u8],
+    place: usize,
+    answer: &mut [u64; 4],
+) -> u32
+    ensures { λ n. ⌜ Tells (takenReply (takenOf (now (image .entry)) (now (text .entry)) place)) n (now (answer .exit)) ⌝ }
+{
+    let taken = token::take_token(image, text, place);
+    tell_taken(taken, answer)
+}
+
+// As `luffinarc_token`, under an image that was checked.
+#[no_mangle]
+pub extern "C" fn luffinarc_token_checked<'a>(
+    image: &'a [u8],
+    n: usize,
+    points: &'a [u32; MAX_ENTRIES],
+    roles: &'a [u32; MAX_ENTRIES],
+    used: usize,
+    text: &'a [u8],
+    place: usize,
+    answer: &mut [u64; 4],
+) -> u32
+    requires { ⌜ Opened (now image) n (now points) (now roles) used ⌝ }
+    ensures { λ k. ⌜ Tells (takenReply (takenOf (now (image .entry)) (now (text .entry)) place)) k (now (answer .exit)) ⌝ }
+{
+    let taken = token::take_checked(image, n, points, roles, used, text, place);
+    tell_taken(taken, answer)
+}
+
+// Hands back the part of a text from `start` to `end`. Answer: its first byte and its number of bytes.
+#[no_mangle]
+pub extern "C" fn luffinarc_part(
+    text: &[u8],
+    start: usize,
+    end: usize,
+    answer: &mut [u64; 4],
+) -> u32
+    ensures { λ n. ⌜ Tells (partReply (refusalOf (now (text .entry)) start end) start end) n (now (answer .exit)) ⌝ }
+    ensures { λ _. ⌜ toldPart (now (text .entry)) (now (answer .exit)) ≡ bytesOf (now (text .entry)) start end ⌝ }
+{
+    let refused = part::check(text, start, end);
+    if refused != 0 {
+        put(answer, 0, 0, 0, 0);
+        return refused;
+    }
+    put(answer, start as u64, (end - start) as u64, 0, 0);
+    0
 }

@@ -1,6 +1,6 @@
 //! The rival and the reader agree.
 
-use luffinarc_bench::rival::{Refused, Tables};
+use luffinarc_bench::rival::{check, Refused, Tables};
 use luffinarc_bench::texts;
 use luffinarc_reader::cases::{self, Rng};
 use luffinarc_reader::{image, list, Refusal};
@@ -65,4 +65,14 @@ fn on_made_cases() {
         assert!(rival(&tables(&image), &case.text) == expected, "{case:02X?}");
     }
     assert!(accepted > 300, "{accepted}");
+}
+
+#[test]
+fn on_checks() {
+    let mut rng = Rng::new();
+    for _ in 0..4000 {
+        let case = cases::check_case(&mut rng);
+        let expected = luffinarc_reader::check(&case.image).ok().map(|checked| checked.ranges);
+        assert!(check(&case.image) == expected, "{case:02X?}");
+    }
 }

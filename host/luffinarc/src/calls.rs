@@ -58,3 +58,37 @@ pub fn pair(older: &[u8], newer: &[u8], answer: &mut Answer) -> u32 {
         ffi::luffinarc_pair(older.as_ptr(), older.len(), newer, newer_len, answer)
     }
 }
+
+/// The result of [`token`] where the place is the text's end.
+pub const DONE: u32 = 255;
+
+/// Counts the tokens of a text.
+pub fn count(image: &[u8], text: &[u8], answer: &mut Answer) -> u32 {
+    unsafe {
+        let (text, text_len) = (text.as_ptr(), text.len());
+        ffi::luffinarc_count(image.as_ptr(), image.len(), text, text_len, answer)
+    }
+}
+
+/// Writes the list of a text's tokens to `words`, three each: kind, start byte, end byte.
+pub fn list(image: &[u8], text: &[u8], words: &mut [u32], answer: &mut Answer) -> u32 {
+    unsafe {
+        let (image, image_len) = (image.as_ptr(), image.len());
+        let (text, text_len) = (text.as_ptr(), text.len());
+        let (words, words_len) = (words.as_mut_ptr(), words.len());
+        ffi::luffinarc_list(image, image_len, text, text_len, words, words_len, answer)
+    }
+}
+
+/// Takes the token at a place of a text.
+pub fn token(image: &[u8], text: &[u8], place: usize, answer: &mut Answer) -> u32 {
+    unsafe {
+        let (text, text_len) = (text.as_ptr(), text.len());
+        ffi::luffinarc_token(image.as_ptr(), image.len(), text, text_len, place, answer)
+    }
+}
+
+/// Hands back a part of a text, as its first byte and its number of bytes.
+pub fn part(text: &[u8], start: usize, end: usize, answer: &mut Answer) -> u32 {
+    unsafe { ffi::luffinarc_part(text.as_ptr(), text.len(), start, end, answer) }
+}

@@ -62,4 +62,78 @@ extern "C" {
         newer_len: usize,
         answer: *mut Answer,
     ) -> u32;
+
+    pub fn luffinarc_count(
+        image: *const u8,
+        image_len: usize,
+        text: *const u8,
+        text_len: usize,
+        answer: *mut Answer,
+    ) -> u32;
+
+    pub fn luffinarc_count_checked(
+        image: *const u8,
+        image_len: usize,
+        ranges: usize,
+        points: *const Entries,
+        roles: *const Entries,
+        used: usize,
+        text: *const u8,
+        text_len: usize,
+        answer: *mut Answer,
+    ) -> u32;
+
+    pub fn luffinarc_list(
+        image: *const u8,
+        image_len: usize,
+        text: *const u8,
+        text_len: usize,
+        words: *mut u32,
+        words_len: usize,
+        answer: *mut Answer,
+    ) -> u32;
+
+    pub fn luffinarc_list_checked(
+        image: *const u8,
+        image_len: usize,
+        ranges: usize,
+        points: *const Entries,
+        roles: *const Entries,
+        used: usize,
+        text: *const u8,
+        text_len: usize,
+        words: *mut u32,
+        words_len: usize,
+        answer: *mut Answer,
+    ) -> u32;
+
+    pub fn luffinarc_token(
+        image: *const u8,
+        image_len: usize,
+        text: *const u8,
+        text_len: usize,
+        place: usize,
+        answer: *mut Answer,
+    ) -> u32;
+
+    pub fn luffinarc_token_checked(
+        image: *const u8,
+        image_len: usize,
+        ranges: usize,
+        points: *const Entries,
+        roles: *const Entries,
+        used: usize,
+        text: *const u8,
+        text_len: usize,
+        place: usize,
+        answer: *mut Answer,
+    ) -> u32;
+
+    pub fn luffinarc_part(
+        text: *const u8,
+        text_len: usize,
+        start: usize,
+        end: usize,
+        answer: *mut Answer,
+    ) -> u32;
 }

@@ -117,6 +117,16 @@ pub struct Found {
     pub looked_at: u32,
 }
 
+/// An accepted image as the library takes it.
+pub(crate) struct Parts {
+    pub image: *const u8,
+    pub image_len: usize,
+    pub ranges: usize,
+    pub points: *const Entries,
+    pub roles: *const Entries,
+    pub used: usize,
+}
+
 /// An accepted image: bytes that were checked once, and are not checked again by the calls on it.
 #[derive(Clone, Debug)]
 pub struct Image<'a> {
@@ -128,6 +138,18 @@ pub struct Image<'a> {
 }
 
 impl<'a> Image<'a> {
+    /// What the calls with `_checked` in their name are given first.
+    pub(crate) fn parts(&self) -> Parts {
+        Parts {
+            image: self.bytes.as_ptr(),
+            image_len: self.bytes.len(),
+            ranges: self.ranges,
+            points: &self.profile.points,
+            roles: &self.profile.roles,
+            used: self.profile.used,
+        }
+    }
+
     /// Checks an image.
     ///
     /// # Errors
@@ -177,15 +199,16 @@ impl<'a> Image<'a> {
     /// [`Refusal::NotScalar`] for a number that is no scalar value.
     pub fn lookup(&self, number: u32) -> Result<Found, Refusal> {
         let mut answer = Answer::default();
+        let Parts { image, image_len, ranges, points, roles, used } = self.parts();
         // Safety: the bytes and what their check gave are together in `self`.
         let refused = unsafe {
             ffi::luffinarc_lookup_checked(
-                self.bytes.as_ptr(),
-                self.bytes.len(),
-                self.ranges,
-                &self.profile.points,
-                &self.profile.roles,
-                self.profile.used,
+                image,
+                image_len,
+                ranges,
+                points,
+                roles,
+                used,
                 number,
                 &mut answer,
             )

@@ -1,9 +1,39 @@
 //! Class images and tokens by Unicode Standard Annex #31: safe calls of the proved static library.
 //!
 //! A class image says of every code point whether it may begin or continue an identifier, is a syntax character or
-//! white space. Under an image, a text is cut into identifiers, syntax characters and white space.
+//! white space. Under an image, a text is cut into identifiers, syntax characters and white space: each token is the
+//! longest at its place.
 //!
-//! Every call ends with an answer or a named [`Refusal`], for all images, texts and numbers.
+//! Every call ends with an answer or a named [`Refusal`], for all images, texts and numbers. An [`Image`] was checked
+//! once, and the calls on it do not check it again.
+//!
+//! ```
+//! use luffinarc::{write_image, Class, Image, Kind, Profile, Range, Refusal};
+//!
+//! fn main() -> Result<(), Refusal> {
+//!     let range = |first: char, last: char, class| Range { first: first.into(), last: last.into(), class };
+//!     let ranges = [
+//!         range(' ', ' ', Class::White),
+//!         range('.', '.', Class::Syntax),
+//!         range('0', '9', Class::Nonstart),
+//!         range('A', 'Z', Class::Start),
+//!         range('a', 'z', Class::Start),
+//!     ];
+//!     // A full stop between letters or digits is part of the identifier.
+//!     let bytes = write_image(1_048_576, &ranges, &Profile::new(&[('.'.into(), 3)]))?;
+//!
+//!     let image = Image::check(&bytes)?;
+//!     assert_eq!(image.class('7'), Class::Nonstart);
+//!     let text = "ab.c1 .";
+//!     assert_eq!(image.count(text)?, 3);
+//!     let parts: Vec<_> = image.tokens(text)?.map(|token| (token.kind, &text[token.range])).collect();
+//!     assert_eq!(parts, [(Kind::Identifier, "ab.c1"), (Kind::Whitespace, " "), (Kind::Syntax, ".")]);
+//!
+//!     assert_eq!(image.count("a 1"), Err(Refusal::Characters { place: 2 }));
+//!     assert_eq!(image.count(b"a\xFF"), Err(Refusal::IllFormed { place: 1 }));
+//!     Ok(())
+//! }
+//! ```
 
 #![warn(missing_docs)]
 
@@ -11,12 +41,11 @@ pub mod calls;
 mod ffi;
 mod image;
 mod refusal;
+mod token;
 
 pub use image::{
     check_pair, write_image, Class, Found, Image, Profile, Range, MAX_ENTRIES, MAX_IMAGE,
     MAX_RANGES,
 };
 pub use refusal::{PairRefusal, Refusal};
-
-/// The most bytes that a text may have.
-pub const MAX_TEXT: usize = 1_048_576;
+pub use token::{part, Kind, Token, Tokens, MAX_TEXT, TOKEN_WORDS};

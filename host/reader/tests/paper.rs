@@ -58,6 +58,17 @@ fn readings() {
     assert_eq!(list(&m(), b"ab.c1 .", &mut [0; 8]), Err(Refusal::Room(3)));
 }
 
+/// The files of the small images hold them.
+#[test]
+fn small_image_files() {
+    let read = |name: &str| {
+        let folder = concat!(env!("CARGO_MANIFEST_DIR"), "/../data/images/");
+        std::fs::read(format!("{folder}{name}")).unwrap()
+    };
+    assert!(read("m.img") == m());
+    assert!(read("m2.img") == m2());
+}
+
 #[test]
 fn lookups_and_pairs() {
     let looked: Vec<u32> = [0x20, 0x2E, 0x7A].map(|p| lookup(&m(), p).unwrap().1).to_vec();

@@ -20,3 +20,9 @@ pub fn runs(usual: usize) -> usize {
 pub fn say(line: &str) {
     writeln!(std::io::stdout(), "{line}").unwrap();
 }
+
+/// The bytes of a file of the data folder.
+pub fn data(name: &str) -> Vec<u8> {
+    let folder = concat!(env!("CARGO_MANIFEST_DIR"), "/../data/");
+    std::fs::read(format!("{folder}{name}")).unwrap()
+}

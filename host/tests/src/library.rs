@@ -11,9 +11,6 @@ const OLD: Answer = [0xDEAD_BEEF_0BAD_CAFE; 4];
 const OLD_POINTS: Entries = [0x0BAD_0BAD; 64];
 const OLD_ROLES: Entries = [0x0BAD_CAFE; 64];
 
-/// The number that says that a place is the text's end.
-const DONE: u32 = 255;
-
 /// The refusal with this number; what it does not carry is zero.
 fn refusal(number: u32, carried: u64) -> Refusal {
     let refusal = match number {
@@ -138,20 +135,47 @@ impl Calls for Library {
         })
     }
 
-    fn count(&self, _image: &[u8], _text: &[u8]) -> Result<usize, Refusal> {
-        todo!()
+    fn count(&self, image: &[u8], text: &[u8]) -> Result<usize, Refusal> {
+        let (image, text) = (Lent::new(image, 0xAA), Lent::new(text, 0xAA));
+        let mut answer = OLD;
+        let number = calls::count(image.slice(), text.slice(), &mut answer);
+        image.same();
+        text.same();
+        let [count] = values(number, answer)?;
+        Ok(count as usize)
     }
 
-    fn list(&self, _image: &[u8], _text: &[u8], _words: &mut [u32]) -> Result<usize, Refusal> {
-        todo!()
+    fn list(&self, image: &[u8], text: &[u8], words: &mut [u32]) -> Result<usize, Refusal> {
+        let (image, text) = (Lent::new(image, 0xAA), Lent::new(text, 0xAA));
+        let mut lent = Lent::new(words, 0xAAAA_AAAA);
+        let mut answer = OLD;
+        let number = calls::list(image.slice(), text.slice(), lent.slice_mut(), &mut answer);
+        image.same();
+        text.same();
+        lent.back(words);
+        let [count] = values(number, answer)?;
+        Ok(count as usize)
     }
 
-    fn at(&self, _image: &[u8], _text: &[u8], _place: usize) -> Result<Option<Token>, Refusal> {
-        todo!()
+    fn at(&self, image: &[u8], text: &[u8], place: usize) -> Result<Option<Token>, Refusal> {
+        let (image, text) = (Lent::new(image, 0xAA), Lent::new(text, 0xAA));
+        let mut answer = OLD;
+        let number = calls::token(image.slice(), text.slice(), place, &mut answer);
+        image.same();
+        text.same();
+        if number == calls::DONE {
+            assert_eq!(answer, [0; 4]);
+            return Ok(None);
+        }
+        let [kind, start, end] = values(number, answer)?;
+        Ok(Some(Token { kind: kind as u32, start: start as usize, end: end as usize }))
     }
 
-    fn part<'a>(&self, _text: &'a [u8], _start: usize, _end: usize) -> Result<&'a [u8], Refusal> {
-        todo!()
+    fn part<'a>(&self, text: &'a [u8], start: usize, end: usize) -> Result<&'a [u8], Refusal> {
+        let mut answer = OLD;
+        let number = calls::part(text, start, end, &mut answer);
+        let [first, length] = values(number, answer)?;
+        Ok(&text[first as usize..][..length as usize])
     }
 
     fn lister(&self, _input: &[u8]) -> Option<String> {

@@ -4,7 +4,7 @@ use luffinarc::{Image, Refusal};
 use luffinarc_reader::cases::*;
 use luffinarc_reader::image::parse;
 use luffinarc_reader::{image, Calls, PairRefusal, Profile, Reader};
-use luffinarc_tests::{runs, say, Library};
+use luffinarc_tests::{data, runs, say, Library};
 
 const RUNS: usize = 4000;
 
@@ -118,8 +118,7 @@ fn accepted_images() {
 }
 
 fn unicode_image(version: &str) -> Vec<u8> {
-    let folder = concat!(env!("CARGO_MANIFEST_DIR"), "/../data/images/unicode-");
-    std::fs::read(format!("{folder}{version}.img")).unwrap()
+    data(&format!("images/unicode-{version}.img"))
 }
 
 /// Looks up every number to past the last code point, in the four images in use and in one of them with a profile.
@@ -151,6 +150,26 @@ fn every_scalar_value() {
     }
     assert_eq!(looked_up, images.len() * 1_112_064);
     say(&format!("scalar values looked up: {looked_up}"));
+}
+
+/// A buffer that is one word or byte too short is refused, with what is needed, and left as it was.
+#[test]
+fn one_too_few() {
+    let bytes = unicode_image("16.0");
+    let made = parse(&bytes).unwrap();
+    let words: Vec<u32> = made.ranges.iter().flat_map(|r| [r.first, r.last, r.class]).collect();
+    let n = made.ranges.len();
+    let (mut short, mut right) = (vec![7; 3 * n - 1], vec![7; 3 * n]);
+    let refused = Err(luffinarc_reader::Refusal::Room(n as u64));
+    assert_eq!(Library.read(&bytes, &mut short), refused);
+    assert!(short == vec![7; 3 * n - 1]);
+    assert!(Library.read(&bytes, &mut right).is_ok() && right == words);
+    let (mut short, mut right) = (vec![7; bytes.len() - 1], vec![7; bytes.len()]);
+    let refused = Err(luffinarc_reader::Refusal::ImageRoom(bytes.len() as u64));
+    assert_eq!(Library.write(made.version, &words, &made.profile, &mut short), refused);
+    assert!(short == vec![7; bytes.len() - 1]);
+    let written = Library.write(made.version, &words, &made.profile, &mut right);
+    assert!(written == Ok(bytes.len()) && right == bytes);
 }
 
 #[test]

@@ -1,0 +1,111 @@
+//! Times the library against the hand-written rival, both in this run: their turns alternate, and the least time of
+//! each counts. Prints a table of ratios, below 1 where the library is faster.
+
+use luffinarc::Image;
+use luffinarc_bench::rival::{self, Tables};
+use luffinarc_bench::texts;
+use std::hint::black_box;
+use std::time::Instant;
+
+const IMAGE: &str = concat!(env!("CARGO_MANIFEST_DIR"), "/../data/images/unicode-16.0.img");
+
+/// Turns of each, and calls in a turn.
+const ROUNDS: usize = 40;
+
+/// The nanoseconds of so many calls.
+fn time(calls: usize, call: &mut dyn FnMut()) -> f64 {
+    let start = Instant::now();
+    for _ in 0..calls {
+        call();
+    }
+    start.elapsed().as_nanos() as f64 / calls as f64
+}
+
+/// The least nanoseconds of a call of each; the first to go changes from round to round.
+fn race(calls: usize, ours: &mut dyn FnMut(), rival: &mut dyn FnMut()) -> (f64, f64) {
+    let (mut best_ours, mut best_rival) = (f64::MAX, f64::MAX);
+    for round in 0..ROUNDS {
+        if round % 2 == 0 {
+            best_ours = best_ours.min(time(calls, ours));
+            best_rival = best_rival.min(time(calls, rival));
+        } else {
+            best_rival = best_rival.min(time(calls, rival));
+            best_ours = best_ours.min(time(calls, ours));
+        }
+    }
+    (best_ours, best_rival)
+}
+
+/// Prints a row: nanoseconds a unit of each, and their ratio.
+fn row(name: &str, unit: &str, units: usize, (ours, rival): (f64, f64)) {
+    let (ours, rival) = (ours / units as f64, rival / units as f64);
+    println!("{name:<22} {unit:<14} {ours:>9.3} {rival:>9.3} {:>7.2}", ours / rival);
+}
+
+/// Counting and listing a text.
+fn text(image: &Image, tables: &Tables, name: &str, text: &str) {
+    let bytes = text.as_bytes();
+    let times = race(1, &mut || _ = black_box(image.count(black_box(bytes))), &mut || {
+        _ = black_box(tables.count(black_box(bytes)))
+    });
+    row(&format!("count {name}"), "ns a byte", bytes.len(), times);
+    let mut words = vec![0; 3 * bytes.len()];
+    let mut list = Vec::with_capacity(3 * bytes.len());
+    let count = image.list(bytes, &mut words).unwrap();
+    tables.list(bytes, &mut list).unwrap();
+    assert!(words[..3 * count] == list, "{name}: the lists differ");
+    let times =
+        race(1, &mut || _ = black_box(image.list(black_box(bytes), &mut words)), &mut || {
+            _ = black_box(tables.list(black_box(bytes), &mut list))
+        });
+    row(&format!("list {name}"), "ns a byte", bytes.len(), times);
+}
+
+/// Looking up every scalar value, in this order of their numbers.
+fn lookup(image: &Image, tables: &Tables, name: &str, points: &[u32]) {
+    let times = race(
+        1,
+        &mut || {
+            for &point in points {
+                let _ = black_box(image.lookup(black_box(point)));
+            }
+        },
+        &mut || {
+            for &point in points {
+                black_box(tables.flags_of(black_box(point)));
+            }
+        },
+    );
+    row(&format!("lookup {name}"), "ns a number", points.len(), times);
+}
+
+fn main() {
+    let bytes = std::fs::read(IMAGE).unwrap();
+    let image = Image::check(&bytes).unwrap();
+    let ranges = image.ranges();
+    let words: Vec<u32> = ranges.iter().flat_map(|r| [r.first, r.last, r.class.number()]).collect();
+    let tables = Tables::new(&words, &[]);
+    println!(
+        "Image: Unicode 16.0, {} ranges, checked once before. Texts: 1 MiB each.",
+        ranges.len()
+    );
+    println!(
+        "List: 3 words lent for every byte of the text, to both, and written before the clock."
+    );
+    println!(
+        "Library: as `rt staticlib` compiles it. Rival: Rust, opt-level 3. Both for plain x86-64."
+    );
+    println!("Least of {ROUNDS} rounds in which the two take turns.\n");
+    println!("{:<22} {:<14} {:>9} {:>9} {:>7}", "", "", "library", "rival", "ratio");
+    for (name, script) in texts::all() {
+        text(&image, &tables, name, &script);
+    }
+    let rising: Vec<u32> = (0..=0x10FFFF).filter(|&p| char::from_u32(p).is_some()).collect();
+    let mixed: Vec<u32> = texts::mixed().chars().map(u32::from).collect();
+    lookup(&image, &tables, "every scalar", &rising);
+    lookup(&image, &tables, "of mixed", &mixed);
+    let times = race(50, &mut || _ = black_box(Image::check(black_box(&bytes))), &mut || {
+        _ = black_box(rival::check(black_box(&bytes)))
+    });
+    row("image check", "ns a range", ranges.len(), times);
+}

@@ -1,0 +1,132 @@
+/* Calls each function from C, with null pointers for empty slices among them, and compares what comes back: calls M M2
+ *
+ * The arguments are the files of the small images of document 01. Prints a line for each check that fails, and last
+ * the counts.
+ */
+#include <stdio.h>
+#include <string.h>
+
+#include "luffinarc.h"
+
+static int passed, failed;
+
+static void check(int line, int holds)
+{
+    if (holds) {
+        passed++;
+    } else {
+        failed++;
+        printf("line %d fails\n", line);
+    }
+}
+
+#define CHECK(holds) check(__LINE__, (holds))
+
+static uint64_t answer[LUFFINARC_ANSWER];
+static uint32_t points[LUFFINARC_MAX_ENTRIES], roles[LUFFINARC_MAX_ENTRIES];
+
+/* Whether the answer is these numbers; afterwards it is none that a call gives. */
+static int gave(uint64_t a, uint64_t b, uint64_t c)
+{
+    int same = answer[0] == a && answer[1] == b && answer[2] == c && answer[3] == 0;
+    memset(answer, 0xA5, sizeof answer);
+    return same;
+}
+
+static size_t read_file(const char *name, uint8_t *bytes, size_t most)
+{
+    FILE *file = fopen(name, "rb");
+    if (file == NULL) {
+        perror(name);
+        return 0;
+    }
+    size_t len = fread(bytes, 1, most, file);
+    fclose(file);
+    return len;
+}
+
+/* Every slice may be null where it is empty. */
+static void empty_slices(const uint8_t *m, size_t m_len)
+{
+    uint8_t out[32];
+    CHECK(luffinarc_check(NULL, 0, points, roles, answer) == LUFFINARC_IMAGE_LENGTH && gave(0, 0, 0));
+    CHECK(luffinarc_read(NULL, 0, NULL, 0, points, roles, answer) == LUFFINARC_IMAGE_LENGTH && gave(0, 0, 0));
+    CHECK(luffinarc_read(m, m_len, NULL, 0, points, roles, answer) == LUFFINARC_ROOM && gave(5, 0, 0));
+    CHECK(luffinarc_write(1, NULL, 0, points, roles, 0, NULL, 0, answer) == LUFFINARC_BUFFER && gave(32, 0, 0));
+    CHECK(luffinarc_write(1, NULL, 0, points, roles, 0, out, 32, answer) == 0 && gave(32, 0, 0));
+    CHECK(luffinarc_check(out, 32, points, roles, answer) == 0 && gave(1, 0, 0));
+    CHECK(luffinarc_lookup(NULL, 0, 0x20, answer) == LUFFINARC_IMAGE_LENGTH && gave(0, 0, 0));
+    CHECK(luffinarc_pair(NULL, 0, NULL, 0, answer) == LUFFINARC_IMAGE_LENGTH && gave(0, 0, 1));
+    CHECK(luffinarc_pair(m, m_len, NULL, 0, answer) == LUFFINARC_IMAGE_LENGTH && gave(0, 0, 2));
+    CHECK(luffinarc_count(NULL, 0, NULL, 0, answer) == LUFFINARC_IMAGE_LENGTH && gave(0, 0, 0));
+    CHECK(luffinarc_count(m, m_len, NULL, 0, answer) == 0 && gave(0, 0, 0));
+    CHECK(luffinarc_list(m, m_len, NULL, 0, NULL, 0, answer) == 0 && gave(0, 0, 0));
+    CHECK(luffinarc_token(m, m_len, NULL, 0, 0, answer) == LUFFINARC_DONE && gave(0, 0, 0));
+    CHECK(luffinarc_token(m, m_len, NULL, 0, 1, answer) == LUFFINARC_SHAPE && gave(0, 0, 0));
+    CHECK(luffinarc_part(NULL, 0, 0, 0, answer) == 0 && gave(0, 0, 0));
+    CHECK(luffinarc_part(NULL, 0, 0, 1, answer) == LUFFINARC_SHAPE && gave(0, 0, 0));
+}
+
+/* The calls on images, and those on an image that was checked. */
+static void images(const uint8_t *m, size_t m_len, const uint8_t *m2, size_t m2_len)
+{
+    static const uint32_t ranges[] = {0x20, 0x20, 4, 0x2E, 0x2E, 3, 0x30, 0x39, 2, 0x41, 0x5A, 1, 0x61, 0x7A, 1};
+    uint32_t words[16];
+    uint8_t out[101];
+    words[15] = 7;
+    CHECK(luffinarc_check(m, m_len, points, roles, answer) == 0 && gave(1048576, 5, 1));
+    CHECK(points[0] == 0x2E && roles[0] == 3 && points[1] == 0 && roles[63] == 0);
+    CHECK(luffinarc_read(m, m_len, words, 16, points, roles, answer) == 0 && gave(1048576, 5, 1));
+    CHECK(memcmp(words, ranges, sizeof ranges) == 0 && words[15] == 7);
+    memset(out, 7, sizeof out);
+    CHECK(luffinarc_write(1048576, ranges, 15, points, roles, 1, out, 99, answer) == LUFFINARC_BUFFER && gave(100, 0, 0));
+    CHECK(out[0] == 7);
+    CHECK(luffinarc_write(1048576, ranges, 15, points, roles, 1, out, 101, answer) == 0 && gave(100, 0, 0));
+    CHECK(memcmp(out, m, m_len) == 0 && out[100] == 7);
+    CHECK(luffinarc_write(1, ranges, 14, points, roles, 1, out, 101, answer) == LUFFINARC_SHAPE && gave(0, 0, 0));
+    CHECK(luffinarc_lookup(m, m_len, 0x20, answer) == 0 && gave(LUFFINARC_WHITE, 3, 0));
+    CHECK(luffinarc_lookup(m, m_len, 0xD800, answer) == LUFFINARC_NOT_SCALAR && gave(0xD800, 0, 0));
+    CHECK(luffinarc_lookup_checked(m, m_len, 5, points, roles, 1, 0x7A, answer) == 0 && gave(LUFFINARC_START, 2, 0));
+    CHECK(luffinarc_pair(m, m_len, m2, m2_len, answer) == 0 && gave(0, 0, 0));
+    CHECK(luffinarc_pair(m2, m2_len, m, m_len, answer) == LUFFINARC_CHANGE && gave(0xE9, 0, 0));
+}
+
+/* The calls on tokens, with an image checked in each call and once before. */
+static void tokens(const uint8_t *m, size_t m_len)
+{
+    static const uint8_t text[] = {'a', 'b', '.', 'c', '1', ' ', '.'};
+    static const uint32_t list[] = {1, 0, 5, 3, 5, 6, 2, 6, 7};
+    uint32_t words[10];
+    memset(words, 0xFF, sizeof words);
+    CHECK(luffinarc_check(m, m_len, points, roles, answer) == 0 && gave(1048576, 5, 1));
+    CHECK(luffinarc_count(m, m_len, text, 7, answer) == 0 && gave(3, 0, 0));
+    CHECK(luffinarc_count_checked(m, m_len, 5, points, roles, 1, text, 7, answer) == 0 && gave(3, 0, 0));
+    CHECK(luffinarc_list(m, m_len, text, 7, words, 8, answer) == LUFFINARC_ROOM && gave(3, 0, 0));
+    CHECK(words[0] == UINT32_MAX);
+    CHECK(luffinarc_list(m, m_len, text, 7, words, 10, answer) == 0 && gave(3, 0, 0));
+    CHECK(memcmp(words, list, sizeof list) == 0 && words[9] == UINT32_MAX);
+    memset(words, 0xFF, sizeof words);
+    CHECK(luffinarc_list_checked(m, m_len, 5, points, roles, 1, text, 7, words, 9, answer) == 0 && gave(3, 0, 0));
+    CHECK(memcmp(words, list, sizeof list) == 0 && words[9] == UINT32_MAX);
+    CHECK(luffinarc_token(m, m_len, text, 7, 5, answer) == 0 && gave(LUFFINARC_WHITESPACE_TOKEN, 5, 6));
+    CHECK(luffinarc_token(m, m_len, text, 7, 4, answer) == LUFFINARC_CHARACTERS && gave(4, 0, 0));
+    CHECK(luffinarc_token_checked(m, m_len, 5, points, roles, 1, text, 7, 7, answer) == LUFFINARC_DONE && gave(0, 0, 0));
+    CHECK(luffinarc_part(text, 7, 2, 5, answer) == 0 && gave(2, 3, 0));
+    CHECK(luffinarc_part(text, 7, 5, 2, answer) == LUFFINARC_SHAPE && gave(0, 0, 0));
+}
+
+int main(int argc, char **argv)
+{
+    uint8_t m[200], m2[200];
+    if (argc != 3) {
+        fprintf(stderr, "usage: calls M M2\n");
+        return 2;
+    }
+    size_t m_len = read_file(argv[1], m, sizeof m), m2_len = read_file(argv[2], m2, sizeof m2);
+    CHECK(m_len == 100 && m2_len == 112);
+    empty_slices(m, m_len);
+    images(m, m_len, m2, m2_len);
+    tokens(m, m_len);
+    printf("%d passed, %d failed\n", passed, failed);
+    return failed != 0;
+}

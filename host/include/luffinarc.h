@@ -1,0 +1,193 @@
+/* Luffinarc: class images and tokens by Unicode Standard Annex #31.
+ *
+ * The functions are those of the static library target/staticlib/libexports.a, which `rt staticlib exports` makes.
+ * They are proved to answer as their definitions say, for all images, texts and numbers; they use no heap, keep no
+ * state, and may be called from several threads at once.
+ *
+ * Result. 0: no refusal. 1 to 13: the number of the refusal (enum luffinarc_refusal). luffinarc_token may also give
+ * LUFFINARC_DONE. The first refusal in number order that applies is given, save where a function says otherwise.
+ *
+ * Answer. Each function writes all four numbers of `answer`. After the result 0 they are the values that the function
+ * documents, and zeros past them. After a refusal answer[0] is what the refusal carries, or 0, and the rest is 0
+ * (luffinarc_pair alone tells at answer[2] which image it refuses).
+ *
+ * Arguments. A slice is a pointer and its number of elements. A pointer may be null where its number is 0, and only
+ * there. `points` and `roles` are arrays of LUFFINARC_MAX_ENTRIES numbers, never null, and so is `answer`, of 4. Words
+ * and answers are aligned as their type asks; images and texts may stand anywhere. What a function writes must not
+ * overlap with anything else that it is given.
+ *
+ * A refused call changes no byte or word that was lent, `answer` apart. Every call leaves what it is lent to read.
+ */
+#ifndef LUFFINARC_H
+#define LUFFINARC_H
+
+#include <stddef.h>
+#include <stdint.h>
+
+#ifdef __cplusplus
+extern "C" {
+#endif
+
+/* Limits: ranges and profile entries of an image, its bytes, and the bytes of a text. */
+#define LUFFINARC_MAX_RANGES 4096
+#define LUFFINARC_MAX_ENTRIES 64
+#define LUFFINARC_MAX_IMAGE 49696
+#define LUFFINARC_MAX_TEXT 1048576
+
+/* The words of a range (first, last, class) and of a token (kind, start byte, end byte). */
+#define LUFFINARC_RANGE_WORDS 3
+#define LUFFINARC_TOKEN_WORDS 3
+
+/* The numbers of an answer. */
+#define LUFFINARC_ANSWER 4
+
+/* luffinarc_token: the place is the text's end. */
+#define LUFFINARC_DONE 255
+
+/* The refusals, and what each carries at answer[0]. */
+enum luffinarc_refusal {
+    LUFFINARC_IMAGE_LENGTH = 1, /* nothing: image too short or too long, or not of its header's total length */
+    LUFFINARC_HEADER = 2,       /* nothing: a word of the header is wrong, or a count is above its limit */
+    LUFFINARC_RANGE = 3,        /* index of the first bad range */
+    LUFFINARC_ENTRY = 4,        /* index of the first bad profile entry */
+    LUFFINARC_TEXT_LENGTH = 5,  /* nothing: text longer than LUFFINARC_MAX_TEXT */
+    LUFFINARC_ILL_FORMED = 6,   /* byte place where no well-formed UTF-8 sequence begins, the first such */
+    LUFFINARC_CHARACTERS = 7,   /* byte place where no token begins, after the longest run of tokens */
+    LUFFINARC_ROOM = 8,         /* tokens, or ranges of an image being read, that need room */
+    LUFFINARC_NOT_SCALAR = 9,   /* the number, which is no scalar value */
+    LUFFINARC_CHANGE = 10,      /* smallest code point with a forbidden change */
+    LUFFINARC_PROFILES = 11,    /* nothing: the images have unequal profiles */
+    LUFFINARC_BUFFER = 12,      /* bytes that the image needs */
+    LUFFINARC_SHAPE = 13        /* nothing: words are no multiple of 3, a place is past the end, start is after end */
+};
+
+/* Classes of code points. */
+enum luffinarc_class {
+    LUFFINARC_UNASSIGNED = 0,
+    LUFFINARC_START = 1,
+    LUFFINARC_NONSTART = 2,
+    LUFFINARC_SYNTAX = 3,
+    LUFFINARC_WHITE = 4,
+    LUFFINARC_OTHER = 5
+};
+
+/* Kinds of tokens. */
+enum luffinarc_kind {
+    LUFFINARC_IDENTIFIER_TOKEN = 1,
+    LUFFINARC_SYNTAX_TOKEN = 2,
+    LUFFINARC_WHITESPACE_TOKEN = 3
+};
+
+/* Checks an image.
+ *
+ * 0: answer is the version, the number of ranges and the number of profile entries, m. points and roles hold the
+ * profile's code points and roles, and zeros from m on.
+ * Refusals: 1 to 4. points and roles are left as they were.
+ */
+uint32_t luffinarc_check(const uint8_t *image, size_t image_len,
+                         uint32_t *points, uint32_t *roles, uint64_t *answer);
+
+/* Reads an image: as luffinarc_check, and the ranges go to `words`, three words each, in their order.
+ *
+ * 0: the words past the ranges stay as they were.
+ * Refusals: 1 to 4, then 8 where words_len / 3, rounded down, is below the number of ranges. words, points and roles
+ * are left as they were.
+ */
+uint32_t luffinarc_read(const uint8_t *image, size_t image_len,
+                        uint32_t *words, size_t words_len,
+                        uint32_t *points, uint32_t *roles, uint64_t *answer);
+
+/* Writes the image of a version, of ranges, three words each, and of the first `used` entries of a profile. Entries
+ * past them are not looked at.
+ *
+ * 0: answer[0] is the number of bytes of the image, which stands at the front of out; out is as it was past it.
+ * Refusals, in this order: 13 where words_len is no multiple of 3, 2 for the counts, 3, 4, 12. out is left as it was.
+ */
+uint32_t luffinarc_write(uint32_t version, const uint32_t *words, size_t words_len,
+                         const uint32_t *points, const uint32_t *roles, size_t used,
+                         uint8_t *out, size_t out_len, uint64_t *answer);
+
+/* Looks up the class of a number after the profile.
+ *
+ * 0: answer is the class and the number of ranges that the search looked at, at most 13.
+ * Refusals: 1 to 4, 9.
+ */
+uint32_t luffinarc_lookup(const uint8_t *image, size_t image_len,
+                          uint32_t number, uint64_t *answer);
+
+/* Checks that the newer image differs from the older only by changes that Table 1 of the annex permits.
+ *
+ * 0: it does.
+ * Refusals: 1 to 4 of the older image, with answer[2] = 1; then 1 to 4 of the newer, with answer[2] = 2; then 11, then
+ * 10, with answer[2] = 0.
+ */
+uint32_t luffinarc_pair(const uint8_t *older, size_t older_len,
+                        const uint8_t *newer, size_t newer_len, uint64_t *answer);
+
+/* Counts the tokens of a text.
+ *
+ * 0: answer[0] is their number.
+ * Refusals: 1 to 4, 5, 6, 7.
+ */
+uint32_t luffinarc_count(const uint8_t *image, size_t image_len,
+                         const uint8_t *text, size_t text_len, uint64_t *answer);
+
+/* Writes the list of a text's tokens to `words`, three words each: kind, first byte, one past the last byte.
+ *
+ * 0: answer[0] is their number; the words past the list stay as they were.
+ * Refusals: 1 to 4, 5, 6, 7, then 8 where words_len / 3, rounded down, is below the number of tokens. words is left as
+ * it was.
+ */
+uint32_t luffinarc_list(const uint8_t *image, size_t image_len,
+                        const uint8_t *text, size_t text_len,
+                        uint32_t *words, size_t words_len, uint64_t *answer);
+
+/* Takes one token, at a byte place of a text. Nothing past the token needs to be well-formed.
+ *
+ * 0: answer is the token's kind, its first byte, which is the place, and one past its last byte.
+ * LUFFINARC_DONE: the place is the text's end; answer is zeros.
+ * Refusals: 1 to 4, 5, 13 where the place is past the text's end, 6 and 7, which carry the place.
+ */
+uint32_t luffinarc_token(const uint8_t *image, size_t image_len,
+                         const uint8_t *text, size_t text_len,
+                         size_t place, uint64_t *answer);
+
+/* Hands back a part of a text, from byte `start` to before byte `end`.
+ *
+ * 0: answer is the part's first byte and its number of bytes: it stands at text + answer[0].
+ * Refusals: 13.
+ */
+uint32_t luffinarc_part(const uint8_t *text, size_t text_len,
+                        size_t start, size_t end, uint64_t *answer);
+
+/* The calls for an image that was checked once and is not checked again.
+ *
+ * They must be given an image that luffinarc_check or luffinarc_read accepted, the same bytes still, with `ranges` and
+ * `used` the second and third number of that answer and points and roles as that call left them. With anything else
+ * they may read outside the image, and their answer means nothing. The safe Rust type `Image` sees to this.
+ *
+ * Answers and refusals are those of the function without `_checked`, 1 to 4 apart.
+ */
+uint32_t luffinarc_lookup_checked(const uint8_t *image, size_t image_len, size_t ranges,
+                                  const uint32_t *points, const uint32_t *roles, size_t used,
+                                  uint32_t number, uint64_t *answer);
+
+uint32_t luffinarc_count_checked(const uint8_t *image, size_t image_len, size_t ranges,
+                                 const uint32_t *points, const uint32_t *roles, size_t used,
+                                 const uint8_t *text, size_t text_len, uint64_t *answer);
+
+uint32_t luffinarc_list_checked(const uint8_t *image, size_t image_len, size_t ranges,
+                                const uint32_t *points, const uint32_t *roles, size_t used,
+                                const uint8_t *text, size_t text_len,
+                                uint32_t *words, size_t words_len, uint64_t *answer);
+
+uint32_t luffinarc_token_checked(const uint8_t *image, size_t image_len, size_t ranges,
+                                 const uint32_t *points, const uint32_t *roles, size_t used,
+                                 const uint8_t *text, size_t text_len,
+                                 size_t place, uint64_t *answer);
+
+#ifdef __cplusplus
+}
+#endif
+
+#endif

@@ -1,0 +1,208 @@
+//! Tokens of a text under an accepted image.
+
+use crate::calls::{self, Answer};
+use crate::ffi;
+use crate::image::{Image, Parts};
+use crate::refusal::{result, Refusal};
+use std::iter::FusedIterator;
+use std::ops::Range;
+
+/// The most bytes that a text may have.
+pub const MAX_TEXT: usize = 1_048_576;
+
+/// The words of a token in a list: kind, start byte, end byte.
+pub const TOKEN_WORDS: usize = 3;
+
+/// The kind of a token.
+#[derive(Clone, Copy, Debug, PartialEq, Eq, Hash)]
+#[non_exhaustive]
+pub enum Kind {
+    /// One Start, any number of Continue, then any number of groups of one medial and one or more Continue.
+    Identifier = 1,
+    /// One code point of class Syntax.
+    Syntax = 2,
+    /// One or more code points of class White.
+    Whitespace = 3,
+}
+
+impl Kind {
+    /// Of a number that the library gave.
+    fn given(number: u32) -> Kind {
+        match number {
+            1 => Kind::Identifier,
+            2 => Kind::Syntax,
+            3 => Kind::Whitespace,
+            _ => unreachable!("no kind has the number {number}"),
+        }
+    }
+
+    /// The kind's number.
+    pub fn number(self) -> u32 {
+        self as u32
+    }
+}
+
+/// A token: its kind and its bytes' places in the text.
+#[derive(Clone, Debug, PartialEq, Eq, Hash)]
+pub struct Token {
+    /// The kind.
+    pub kind: Kind,
+    /// The first byte, and one past the last.
+    pub range: Range<usize>,
+}
+
+/// The tokens of a text, in their order. They cover it without gaps.
+#[derive(Clone, Debug)]
+pub struct Tokens {
+    words: Vec<u32>,
+    next: usize,
+}
+
+impl Iterator for Tokens {
+    type Item = Token;
+
+    fn next(&mut self) -> Option<Token> {
+        let words = self.words.get(self.next..self.next + TOKEN_WORDS)?;
+        self.next += TOKEN_WORDS;
+        Some(Token { kind: Kind::given(words[0]), range: words[1] as usize..words[2] as usize })
+    }
+
+    fn size_hint(&self) -> (usize, Option<usize>) {
+        let left = (self.words.len() - self.next) / TOKEN_WORDS;
+        (left, Some(left))
+    }
+}
+
+impl ExactSizeIterator for Tokens {}
+
+impl FusedIterator for Tokens {}
+
+impl Image<'_> {
+    /// Counts the tokens of a text.
+    ///
+    /// # Errors
+    ///
+    /// [`Refusal::TextLength`], [`Refusal::IllFormed`] or [`Refusal::Characters`], the first that applies.
+    pub fn count<T: AsRef<[u8]> + ?Sized>(&self, text: &T) -> Result<usize, Refusal> {
+        let text = text.as_ref();
+        let mut answer = Answer::default();
+        let Parts { image, image_len, ranges, points, roles, used } = self.parts();
+        // Safety: the image was checked; the text and its length are of one slice.
+        let number = unsafe {
+            ffi::luffinarc_count_checked(
+                image,
+                image_len,
+                ranges,
+                points,
+                roles,
+                used,
+                text.as_ptr(),
+                text.len(),
+                &mut answer,
+            )
+        };
+        result(number, answer).map(|[count, ..]| count as usize)
+    }
+
+    /// Writes the list of a text's tokens to the front of `words`, [`TOKEN_WORDS`] each, and gives their number. The
+    /// other words stay as they were; after a refusal all do.
+    ///
+    /// # Errors
+    ///
+    /// Those of [`count`](Image::count), then [`Refusal::Room`] where the words are too few.
+    pub fn list<T: AsRef<[u8]> + ?Sized>(
+        &self,
+        text: &T,
+        words: &mut [u32],
+    ) -> Result<usize, Refusal> {
+        let text = text.as_ref();
+        let mut answer = Answer::default();
+        let Parts { image, image_len, ranges, points, roles, used } = self.parts();
+        // Safety: the image was checked; each pointer stands with the length of its slice.
+        let number = unsafe {
+            ffi::luffinarc_list_checked(
+                image,
+                image_len,
+                ranges,
+                points,
+                roles,
+                used,
+                text.as_ptr(),
+                text.len(),
+                words.as_mut_ptr(),
+                words.len(),
+                &mut answer,
+            )
+        };
+        result(number, answer).map(|[count, ..]| count as usize)
+    }
+
+    /// The tokens of a text.
+    ///
+    /// # Errors
+    ///
+    /// Those of [`count`](Image::count).
+    pub fn tokens<T: AsRef<[u8]> + ?Sized>(&self, text: &T) -> Result<Tokens, Refusal> {
+        let text = text.as_ref();
+        // Room for tokens of four bytes on average; a text with more is listed again with the room that it needs.
+        let mut words = vec![0; TOKEN_WORDS * (text.len().min(MAX_TEXT) / 4 + 16)];
+        let count = match self.list(text, &mut words) {
+            Err(Refusal::Room { needed }) => {
+                words = vec![0; TOKEN_WORDS * needed];
+                self.list(text, &mut words)?
+            }
+            listed => listed?,
+        };
+        words.truncate(TOKEN_WORDS * count);
+        Ok(Tokens { words, next: 0 })
+    }
+
+    /// The token at a byte place of a text; `None` if the place is the text's end. Nothing past the token needs to be
+    /// well-formed.
+    ///
+    /// # Errors
+    ///
+    /// [`Refusal::TextLength`]; [`Refusal::Shape`] for a place past the end; [`Refusal::IllFormed`] or
+    /// [`Refusal::Characters`] at the place.
+    pub fn token_at<T: AsRef<[u8]> + ?Sized>(
+        &self,
+        text: &T,
+        place: usize,
+    ) -> Result<Option<Token>, Refusal> {
+        let text = text.as_ref();
+        let mut answer = Answer::default();
+        let Parts { image, image_len, ranges, points, roles, used } = self.parts();
+        // Safety: the image was checked; the text and its length are of one slice.
+        let number = unsafe {
+            ffi::luffinarc_token_checked(
+                image,
+                image_len,
+                ranges,
+                points,
+                roles,
+                used,
+                text.as_ptr(),
+                text.len(),
+                place,
+                &mut answer,
+            )
+        };
+        if number == calls::DONE {
+            return Ok(None);
+        }
+        let [kind, start, end, _] = result(number, answer)?;
+        Ok(Some(Token { kind: Kind::given(kind as u32), range: start as usize..end as usize }))
+    }
+}
+
+/// The part of a text with these bytes, as a token's range gives them.
+///
+/// # Errors
+///
+/// [`Refusal::Shape`] where the start is after the end, or the end past the text's end.
+pub fn part(text: &[u8], range: Range<usize>) -> Result<&[u8], Refusal> {
+    let mut answer = Answer::default();
+    let number = calls::part(text, range.start, range.end, &mut answer);
+    let [start, length, ..] = result(number, answer)?;
+    Ok(&text[start as usize..][..length as usize])
+}

@@ -1,0 +1,231 @@
+//! The calls on tokens against the independent reader, on made cases and on every short text of some bytes.
+
+use luffinarc::Image;
+use luffinarc_reader::cases::*;
+use luffinarc_reader::image::{parse, Image as Made, Range};
+use luffinarc_reader::{utf8, Calls, Profile, Reader, Refusal, Token};
+use luffinarc_tests::{data, runs, say, Library};
+
+const RUNS: usize = 3000;
+
+/// A refusal of the safe types, as the reader names it.
+fn named(refusal: luffinarc::Refusal) -> Refusal {
+    match refusal {
+        luffinarc::Refusal::TextLength => Refusal::TextLength,
+        luffinarc::Refusal::IllFormed { place } => Refusal::IllFormed(place as u64),
+        luffinarc::Refusal::Characters { place } => Refusal::NoToken(place as u64),
+        luffinarc::Refusal::Room { needed } => Refusal::Room(needed as u64),
+        luffinarc::Refusal::Shape => Refusal::Argument,
+        other => panic!("not of an accepted image: {other}"),
+    }
+}
+
+#[test]
+fn counts() {
+    let (mut rng, mut tally) = (Rng::seeded(201), Tally::default());
+    for _ in 0..runs(RUNS) {
+        let case = count_case(&mut rng);
+        let result = Library.count(&case.image, &case.text);
+        assert_eq!(result, Reader.count(&case.image, &case.text), "{case:02X?}");
+        tally.add(&result);
+        let Ok(image) = Image::check(&case.image) else { continue };
+        assert_eq!(image.count(&case.text).map_err(named), result, "{case:02X?}");
+    }
+    tally.close("count", "ok,1,2,3,4,5,6,7");
+}
+
+#[test]
+fn lists() {
+    let (mut rng, mut tally) = (Rng::seeded(202), Tally::default());
+    for _ in 0..runs(RUNS) {
+        let case = list_case(&mut rng);
+        let (mut words, mut expected) = (vec![7; case.room], vec![7; case.room]);
+        let result = Library.list(&case.image, &case.text, &mut words);
+        assert_eq!(result, Reader.list(&case.image, &case.text, &mut expected), "{case:02X?}");
+        assert!(words == expected, "{case:02X?}");
+        tally.add(&result);
+        let Ok(image) = Image::check(&case.image) else { continue };
+        let mut again = vec![7; case.room];
+        assert_eq!(image.list(&case.text, &mut again).map_err(named), result, "{case:02X?}");
+        assert!(again == expected, "{case:02X?}");
+        let Ok(count) = result else { continue };
+        let tokens = image.tokens(&case.text).unwrap();
+        assert_eq!(tokens.len(), count);
+        let token =
+            |t: luffinarc::Token| [t.kind.number(), t.range.start as u32, t.range.end as u32];
+        assert!(tokens.flat_map(token).eq(words[..3 * count].iter().copied()), "{case:02X?}");
+    }
+    tally.close("list", "ok,1,2,3,4,5,6,7,8");
+}
+
+#[test]
+fn places() {
+    let (mut rng, mut tally) = (Rng::seeded(203), Tally::default());
+    for _ in 0..runs(RUNS) {
+        let case = at_case(&mut rng);
+        let result = Library.at(&case.image, &case.text, case.place);
+        assert_eq!(result, Reader.at(&case.image, &case.text, case.place), "{case:02X?}");
+        match result {
+            Ok(None) => tally.name("done"),
+            _ => tally.add(&result),
+        }
+        let Ok(image) = Image::check(&case.image) else { continue };
+        let token = |t: luffinarc::Token| Token {
+            kind: t.kind.number(),
+            start: t.range.start,
+            end: t.range.end,
+        };
+        let again = image.token_at(&case.text, case.place).map(|found| found.map(token));
+        assert_eq!(again.map_err(named), result, "{case:02X?}");
+    }
+    tally.close("at", "ok,done,1,2,3,4,5,6,7,13");
+}
+
+#[test]
+fn parts() {
+    let (mut rng, mut tally) = (Rng::seeded(204), Tally::default());
+    for _ in 0..runs(RUNS) {
+        let case = part_case(&mut rng);
+        let result = Library.part(&case.text, case.start, case.end);
+        let expected = Reader.part(&case.text, case.start, case.end);
+        assert_eq!(result, expected, "{case:02X?}");
+        // The part is the caller's own text, not a copy of it.
+        assert_eq!(result.map(<[u8]>::as_ptr), expected.map(<[u8]>::as_ptr), "{case:02X?}");
+        let again = luffinarc::part(&case.text, case.start..case.end);
+        assert_eq!(again.map_err(named), result, "{case:02X?}");
+        tally.add(&result);
+    }
+    tally.close("part", "ok,13");
+}
+
+/// Compares count, list and every place of a text, and gives the count.
+fn compare(image: &[u8], text: &[u8]) -> Result<usize, Refusal> {
+    let result = Library.count(image, text);
+    assert_eq!(result, Reader.count(image, text), "{text:02X?}");
+    let room = 3 * result.unwrap_or(2);
+    for room in [room, room.saturating_sub(1), room + 4] {
+        let (mut words, mut expected) = (vec![7; room], vec![7; room]);
+        let listed = Library.list(image, text, &mut words);
+        assert_eq!(listed, Reader.list(image, text, &mut expected), "{text:02X?}, room {room}");
+        assert!(words == expected, "{text:02X?}, room {room}");
+    }
+    result
+}
+
+/// Every text of at most so many bytes from these: a letter, a digit, a medial that is Syntax, a blank, another
+/// character, and the two bytes of one letter, alone and together.
+#[test]
+fn every_short_text() {
+    let image = data("images/m2.img");
+    let bytes = *b"a1. !\xC3\xA9";
+    let most = if runs(0) > 100_000 { 7 } else { 5 };
+    let (mut texts, mut accepted) = (0, 0);
+    for length in 0..=most {
+        for number in 0..bytes.len().pow(length) {
+            let text: Vec<u8> =
+                (0..length).map(|i| bytes[number / bytes.len().pow(i) % bytes.len()]).collect();
+            accepted += usize::from(compare(&image, &text).is_ok());
+            for place in 0..=text.len() + 1 {
+                let result = Library.at(&image, &text, place);
+                assert_eq!(result, Reader.at(&image, &text, place), "{text:02X?} at {place}");
+            }
+            texts += 1;
+        }
+    }
+    say(&format!("short texts: {texts}, accepted {accepted}"));
+}
+
+/// An image in which every scalar value has one class.
+fn whole(class: u32) -> Vec<u8> {
+    let range = |first, last| Range { first, last, class };
+    let ranges = vec![range(0, 0xD7FF), range(0xE000, 0x10FFFF)];
+    image_of(&Made { version: 1, ranges, profile: Profile::of(&[]) })
+}
+
+/// Every two bytes, with some after them, are well-formed just as far as the standard library says.
+#[test]
+fn first_ill_formed_place() {
+    let bytes = whole(3);
+    let image = Image::check(&bytes).unwrap();
+    let tails: [&[u8]; 8] =
+        [&[], &[0x80], &[0x80, 0x80], &[0xBF, 0xBF], &[0x41], &[0x80, 0x41], &[0xC2], &[0xFF]];
+    for front in 0..=0xFFFFu16 {
+        for tail in tails {
+            let text = [&front.to_be_bytes()[..], tail].concat();
+            let expected = match std::str::from_utf8(&text) {
+                Ok(text) => Ok(text.chars().count()),
+                Err(error) => Err(luffinarc::Refusal::IllFormed { place: error.valid_up_to() }),
+            };
+            assert_eq!(image.count(&text), expected, "{text:02X?}");
+        }
+    }
+}
+
+/// Every scalar value as a text of its own, under the 16.0 image.
+#[test]
+fn every_character() {
+    let bytes = data("images/unicode-16.0.img");
+    let (image, classes) = (Image::check(&bytes).unwrap(), parse(&bytes).unwrap().table());
+    for c in (0..=0x10FFFF).filter_map(char::from_u32) {
+        let text = c.to_string();
+        let kind = match classes[c as usize] {
+            1 => luffinarc::Kind::Identifier,
+            3 => luffinarc::Kind::Syntax,
+            4 => luffinarc::Kind::Whitespace,
+            _ => {
+                let refused = Err(luffinarc::Refusal::Characters { place: 0 });
+                assert_eq!(image.token_at(&text, 0), refused, "{c:?}");
+                continue;
+            }
+        };
+        let token = luffinarc::Token { kind, range: 0..text.len() };
+        assert_eq!(image.token_at(&text, 0), Ok(Some(token)), "{c:?}");
+    }
+}
+
+/// Texts about the longest, whole and spoilt at their end.
+#[test]
+fn lengths() {
+    let image = data("images/unicode-16.0.img");
+    let mut results = Tally::default();
+    for length in [0, 1, 1_048_575, 1_048_576, 1_048_577] {
+        for fill in ["a", " ", ";", "ab c; ", "zażółć ", "𞤣𞤮𞤼𞥅𞤢𞤤 "] {
+            let mut text = fill.repeat(length / fill.len() + 1).into_bytes();
+            text.truncate(length);
+            results.add(&compare(&image, &text));
+            for last in [0x80, b'1'] {
+                if let Some(byte) = text.last_mut() {
+                    *byte = last;
+                    results.add(&compare(&image, &text));
+                }
+            }
+            for place in [0, length.saturating_sub(1), length, length + 1, usize::MAX] {
+                let result = Library.at(&image, &text, place);
+                assert_eq!(result, Reader.at(&image, &text, place), "{length}, {fill} at {place}");
+            }
+        }
+    }
+    results.close("lengths", "ok,5,6,7");
+}
+
+/// Medials of every class, before and after every kind of character.
+#[test]
+fn medials() {
+    let plain = parse(&data("images/unicode-16.0.img")).unwrap();
+    let entries =
+        [(0x20, 3), (0x2D, 3), (0x31, 3), (0x41, 3), (0x5F, 1), (0x62, 4), (0xA0, 3), (0x378, 3)];
+    let image = image_of(&Made { profile: Profile::of(&entries), ..plain });
+    let points = [0x20, 0x2D, 0x2E, 0x31, 0x41, 0x5F, 0x62, 0x63, 0xA0, 0x378, 0x1E900];
+    let encode = |point: u32| char::from_u32(point).unwrap().to_string();
+    let pieces: Vec<String> = points.map(encode).to_vec();
+    for a in &pieces {
+        for b in &pieces {
+            for c in &pieces {
+                for d in &pieces {
+                    let _ = compare(&image, [&**a, b, c, d].concat().as_bytes());
+                }
+            }
+        }
+    }
+    assert_eq!(utf8::decode(pieces.concat().as_bytes()).0.len(), points.len());
+}
