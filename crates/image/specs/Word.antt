@@ -1,5 +1,5 @@
 -- Numbers of 32 bits in a list of bytes, little-endian (document 01, "The class image").
-use Prim.Native.Nat.{ℕ, _+_, _*_, _/_, _%_}
+use Prim.Native.Nat.{ℕ, _+_, _*_, _/_, _%_, _<_}
 use mathlib.Core.List.{List, [], _∷_}
 use lib.ListN.{getD}
 
@@ -13,3 +13,10 @@ wordAt s i = joinOf (getD s i 0) (getD s (i + 1) 0) (getD s (i + 2) 0) (getD s (
 -- the four bytes of a number
 unfoldable pub bytesOf : ℕ → List ℕ
 bytesOf w = w % 0x100 ∷ w / 0x100 % 0x100 ∷ w / 0x10000 % 0x100 ∷ w / 0x1000000 % 0x100 ∷ []
+
+-- every element is a byte, or a number of 32 bits, as in every slice of them
+abbrev pub AllBytes : List ℕ → Type 0
+AllBytes s = (i : ℕ) → getD s i 0 < 0x100
+
+abbrev pub AllWords : List ℕ → Type 0
+AllWords w = (i : ℕ) → getD w i 0 < 0x100000000

@@ -1,12 +1,12 @@
 -- Where an image in the lister's input ends, and what is then listed. Assumes nothing.
-use Prim.Native.Nat.{ℕ, _-_, _≤_, _<_}
+use Prim.Native.Nat.{ℕ, _-_, _*_, _≤_, _<_}
 use mathlib.Core.Path.{_≡_, refl, sym, ap, _∙_}
 use mathlib.Core.Bool.{Bool, true, false}
 use mathlib.Core.List.{List}
-use mathlib.Core.Option.{none}
+use mathlib.Core.Option.{Option, none, some}
 use native.Mathlib.Omega.{arith}
 use lib.ListN.{length, take, drop}
-use lib.Dec.{leb}
+use lib.Dec.{leb, ltb}
 use borrow.Author.Tests.{lt-ltb, le-ltb, le-leb, lt-leb, leb-true}
 use Rattle.lists.specs.First.{pickN}
 use Rattle.lists.proofs.BoolLaws.{and-left, and-right}
@@ -22,8 +22,10 @@ use Rattle.image.specs.declared.Checked.{Checked}
 use Rattle.image.proofs.ImageLaws.{says}
 use Rattle.division.specs.Scan.{Tok}
 use Rattle.division.specs.Grammar.{Kind}
-use Rattle.division.specs.Outcome.{Outcome, refused, outcomeMap}
-use Rattle.division.specs.Reading.{writtenOf, laidBy, listOf, listWords}
+use Rattle.division.specs.Outcome.{Outcome, given, refused, unless, refusedIf, outcomeMap}
+use Rattle.division.specs.Record.{recordSize}
+use Rattle.division.specs.Reading.{outcomeOf, writtenOf, laidBy, listOf, listWords}
+use Rattle.division.proofs.AnswerLaws.{roomed-given}
 use Rattle.scan.specs.declared.Counted.{Counted}
 use Rattle.scan.specs.declared.Counted.the-variants as counted
 use Rattle.scan.specs.Counted.{countedBy}
@@ -123,3 +125,27 @@ module _ (image text out : List ℕ) where
         (r ≡ countedBy (listOf image text (length out))) × (out′ ≡ listWords image text out) → Gives (writtenWithin image text (length out)) r out out′
     unfolding writtenWithin listOf listWords
     within-listed h r out′ = rw (accepted, le-ltb maxScript (length text) h) (λ p. p)
+
+-- tokens that were listed have room
+past : {T : Type 0} (a : Option Refusal) (o : Outcome T) (x : T) → unless a o ≡ given x → o ≡ given x
+past none o x e = e
+past (some r) o x e = cc
+
+written-fits : (input : List ℕ) (words : ℕ) (ts : List (Tok Character Kind)) (b : Bool) → writtenBy b input words ≡ given ts → recordSize * length ts ≤ words
+unfolding writtenWithin writtenOf
+written-fits input words ts false e = let z : _≡_ {A = ℕ} 0 1 = cc in absurd (omega arith)
+written-fits input words ts true e =
+    let image = take (totalOf input) input in
+    let text = drop (totalOf input) input in
+    let o = past (refusedIf (ltb maxScript (length text)) refusal.TextLength) (writtenOf image text words) ts (past (refusalOf image) _ ts e) in
+    omega (arith, roomed-given words (outcomeOf image text) ts o .1)
+
+listed-by : (o : Outcome (List (Tok Character Kind))) (n : ℕ) → counted.Tokens n ≡ countedBy (outcomeMap length o) → (ts : List (Tok Character Kind)) × (o ≡ given ts) × (n ≡ length ts)
+listed-by (given ts) n e = (ts, refl, cc)
+listed-by (refused r) n e = let z : _≡_ {A = ℕ} 0 1 = cc in absurd (omega arith)
+
+pub listed-fits : (input : List ℕ) (words n : ℕ) → counted.Tokens n ≡ countedBy (listedFrom input words) → recordSize * n ≤ words
+unfolding listedFrom writtenFrom
+listed-fits input words n e =
+    let (ts, o, l) = listed-by (writtenFrom input words) n e in
+    omega (arith, written-fits input words ts (comesWhole input) o)

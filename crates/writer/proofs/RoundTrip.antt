@@ -18,7 +18,7 @@ use Rattle.refusal.specs.declared.Refusal.{Refusal}
 use Rattle.image.specs.declared.Range.{Range}
 use Rattle.image.specs.declared.Profile.{Profile}
 use Rattle.image.specs.Limits.{maxRanges, maxEntries}
-use Rattle.image.specs.Word.{wordAt}
+use Rattle.image.specs.Word.{AllBytes, AllWords, wordAt}
 use Rattle.image.specs.Header.{versionOf, rangeCount, entryCount, entriesAt, imageEnd}
 use Rattle.image.specs.Ranges.{rangeAt, rangeIn, rangeWords, goodRange}
 use Rattle.image.specs.Profile.{pointAt, roleAt, pointIn, roleIn, goodEntry, firstBadEntry, profileOf}
@@ -31,11 +31,11 @@ use Rattle.writer.specs.declared.Written.the-variants as written
 use Rattle.writer.specs.Writable.{Writable}
 use Rattle.writer.specs.Back.{SameEntries, ReadBack}
 use Rattle.writer.specs.Write.{rangesIn, bytesNeeded, writeRefusal, writtenBy, writeOf, bytesBy, bytesAfter}
-use Rattle.writer.proofs.WordLaws.{Bytes, Words, word-is, wordsFrom, bytes-from, bytes-each, all-append}
+use Rattle.writer.proofs.WordLaws.{word-is, wordsFrom, bytes-from, bytes-each, all-append}
 use Rattle.writer.proofs.PartLaws.{whole, words-back, image-words, length-words, length-image}
 use Rattle.writer.proofs.WriteLaws.{decides, says}
 
-module _ (version : ℕ) (words : List ℕ) (p : Profile) (w : Writable words p) (hv : version < 0x100000000) (hw : Words words) (hp : Words (p .points)) (hr : Words (p .roles)) where
+module _ (version : ℕ) (words : List ℕ) (p : Profile) (w : Writable words p) (hv : version < 0x100000000) (hw : AllWords words) (hp : AllWords (p .points)) (hr : AllWords (p .roles)) where
   abbrev n : ℕ
   n = rangesIn words
 
@@ -230,7 +230,7 @@ module _ (words : List ℕ) (p q : Profile) (h : SameEntries p q) where
 abbrev pub wordsRead : List ℕ → List ℕ
 wordsRead s = each (λ (i : ℕ). rangeWords (rangeAt s i)) (rangeCount s)
 
-module _ (s : List ℕ) (b : Bytes s) (a : refusalOf s ≡ none) where
+module _ (s : List ℕ) (b : AllBytes s) (a : refusalOf s ≡ none) where
   h : Headed s
   h = accepted s a .header
 
@@ -298,7 +298,7 @@ range-read s i l =
     let c = each-at f 3 (three s) (rangeCount s) i 2 l (omega arith) in
     λ d. record { first = x d; last = y d; class = c d }
 
-module _ (s : List ℕ) (b : Bytes s) (a : refusalOf s ≡ none) where
+module _ (s : List ℕ) (b : AllBytes s) (a : refusalOf s ≡ none) where
   count-read : rangesIn (wordsRead s) ≡ rangeCount s
   count-read = omega (arith, length-read s)
 
@@ -332,7 +332,7 @@ module _ (s : List ℕ) (b : Bytes s) (a : refusalOf s ≡ none) where
 
 -- an image that gives back a version, words and a profile is the one that is written for them
 pub only-one :
-    (version : ℕ) (words : List ℕ) (p : Profile) (s : List ℕ) → Bytes s → ReadBack version words p s
+    (version : ℕ) (words : List ℕ) (p : Profile) (s : List ℕ) → AllBytes s → ReadBack version words p s
     → s ≡ imageOf version (rangeIn words) (rangesIn words) p
 only-one version words p s b k =
     let q = k .same-entries in
@@ -347,7 +347,7 @@ only-one version words p s b k =
 
 -- two accepted images with the same version, ranges and profile are the same
 pub same-image :
-    (s t : List ℕ) → Bytes s → Bytes t → refusalOf s ≡ none → refusalOf t ≡ none → versionOf s ≡ versionOf t → rangeCount s ≡ rangeCount t
+    (s t : List ℕ) → AllBytes s → AllBytes t → refusalOf s ≡ none → refusalOf t ≡ none → versionOf s ≡ versionOf t → rangeCount s ≡ rangeCount t
     → ((i : ℕ) → i < rangeCount s → rangeAt s i ≡ rangeAt t i) → SameEntries (profileOf s) (profileOf t) → s ≡ t
 same-image s t b c a d v n r p =
     sym (only s b a)
@@ -357,7 +357,7 @@ same-image s t b c a d v n r p =
 
 -- where the writer answers with a length, the buffer's first bytes, of that length, read back as what was written
 pub written-back :
-    (version : ℕ) (words : List ℕ) (p : Profile) (out : List ℕ) (len : ℕ) → version < 0x100000000 → Words words → Words (p .points) → Words (p .roles)
+    (version : ℕ) (words : List ℕ) (p : Profile) (out : List ℕ) (len : ℕ) → version < 0x100000000 → AllWords words → AllWords (p .points) → AllWords (p .roles)
     → writeOf words p (length out) ≡ written.Image len → ReadBack version words p (take len (bytesAfter version words p out))
 written-back version words p out len hv hw hp hr e =
     let k = says version words p out (written.Image len) (written.Image len) (sym e) refl .1 in
@@ -384,7 +384,7 @@ read-gives version words p s buffer k l =
 
 -- writing what was read from an accepted image gives its bytes again
 pub write-again :
-    (s : List ℕ) → Bytes s → refusalOf s ≡ none → (out : List ℕ) → length s ≤ length out
+    (s : List ℕ) → AllBytes s → refusalOf s ≡ none → (out : List ℕ) → length s ≤ length out
     → (writeOf (wordsRead s) (profileOf s) (length out) ≡ written.Image (length s)) × (bytesAfter (versionOf s) (wordsRead s) (profileOf s) out ≡ laid out 0 s)
 unfolding writeOf bytesAfter profileOf
 write-again s b a out l =

@@ -10,7 +10,7 @@ use lib.Seq.{drop-cons, drop-drop, take-add, getD-drop, getD-append-add}
 use Rattle.lists.specs.Each.{eachFrom}
 use Rattle.lists.proofs.EachLaws.{each-next, each-end}
 use Rattle.utf8.proofs.TableLaws.{four-bytes}
-use Rattle.image.specs.Word.{wordAt, bytesOf, joinOf}
+use Rattle.image.specs.Word.{AllBytes, wordAt, bytesOf, joinOf}
 use Rattle.image.specs.Image.{bytesOfAll}
 
 pub length-four : (w : ℕ) → length (bytesOf w) ≡ 4
@@ -44,13 +44,6 @@ module _ (f : ℕ → List ℕ) (n i : ℕ) where
   pub each-all-end : n ≤ i → bytesOfAll (eachFrom f (n - i) i) ≡ []
   unfolding bytesOfAll
   each-all-end h = ap bytesOfAll (each-end f n i h)
-
--- every element is a byte, or a number of 32 bits, as in every slice of them
-abbrev pub Bytes : List ℕ → Type 0
-Bytes s = (i : ℕ) → getD s i 0 < 0x100
-
-abbrev pub Words : List ℕ → Type 0
-Words w = (i : ℕ) → getD w i 0 < 0x100000000
 
 regroup :
     (w a b c d q r t : ℕ) → a + 0x100 * q ≡ w → b + 0x100 * r ≡ q → c + 0x100 * t ≡ r → d ≡ t → joinOf a b c d ≡ w
@@ -109,7 +102,7 @@ abbrev pub wordsFrom : List ℕ → ℕ → ℕ → List ℕ
 wordsFrom s zero i = []
 wordsFrom s (suc k) i = wordAt s i ∷ wordsFrom s k (i + 4)
 
-module _ (s : List ℕ) (b : Bytes s) where
+module _ (s : List ℕ) (b : AllBytes s) where
   bytes-four : (i : ℕ) → i + 4 ≤ length s → bytesOf (wordAt s i) ≡ take 4 (drop i s)
   unfolding wordAt
   bytes-four i h =
