@@ -3,6 +3,7 @@
 
 mod lent;
 pub mod library;
+mod program;
 
 pub use library::Library;
 

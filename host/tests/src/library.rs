@@ -1,6 +1,7 @@
 //! The library's calls, with the independent reader's types.
 
 use crate::lent::Lent;
+use crate::program;
 use luffinarc::calls::{self, Answer, Entries};
 use luffinarc_reader::{Calls, Checked, PairRefusal, Profile, Read, Refusal, Token};
 
@@ -178,7 +179,7 @@ impl Calls for Library {
         Ok(&text[first as usize..][..length as usize])
     }
 
-    fn lister(&self, _input: &[u8]) -> Option<String> {
-        None
+    fn lister(&self, input: &[u8]) -> Option<String> {
+        Some(program::lister(input))
     }
 }

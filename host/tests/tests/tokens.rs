@@ -98,6 +98,22 @@ fn parts() {
     tally.close("part", "ok,13");
 }
 
+#[test]
+fn listers() {
+    let (mut rng, mut tally) = (Rng::seeded(205), Tally::default());
+    for _ in 0..runs(RUNS) / 6 {
+        let case = lister_case(&mut rng);
+        let output = Library.lister(&case.input).unwrap();
+        assert_eq!(output, luffinarc_reader::lister(&case.input), "{case:02X?}");
+        let mut words = output.split_ascii_whitespace();
+        match words.next().unwrap() {
+            "refused" => tally.name(words.next().unwrap()),
+            first => tally.name(first),
+        }
+    }
+    tally.close("lister", "tokens,1,2,3,4,5,6,7");
+}
+
 /// Compares count, list and every place of a text, and gives the count.
 fn compare(image: &[u8], text: &[u8]) -> Result<usize, Refusal> {
     let result = Library.count(image, text);
