@@ -4,13 +4,21 @@
 use luffinarc::Image;
 use luffinarc_bench::rival::{self, Tables};
 use luffinarc_bench::texts;
-use std::hint::black_box;
 use std::time::Instant;
 
 const IMAGE: &str = concat!(env!("CARGO_MANIFEST_DIR"), "/../data/images/unicode-16.0.img");
 
-/// Turns of each, and calls in a turn.
+/// The least number of rounds of a row, and the seconds that it takes at least.
 const ROUNDS: usize = 40;
+const SECONDS: f64 = 1.5;
+
+/// The value, of which the compiler knows nothing.
+#[inline(always)]
+fn black_box<T>(value: T) -> T {
+    // Safety: no instruction is added.
+    unsafe { std::arch::asm!("/* {} */", in(reg) &value, options(nostack, preserves_flags)) };
+    value
+}
 
 /// The nanoseconds of so many calls.
 fn time(calls: usize, call: &mut dyn FnMut()) -> f64 {
@@ -24,7 +32,9 @@ fn time(calls: usize, call: &mut dyn FnMut()) -> f64 {
 /// The least nanoseconds of a call of each; the first to go changes from round to round.
 fn race(calls: usize, ours: &mut dyn FnMut(), rival: &mut dyn FnMut()) -> (f64, f64) {
     let (mut best_ours, mut best_rival) = (f64::MAX, f64::MAX);
-    for round in 0..ROUNDS {
+    let (start, mut round) = (Instant::now(), 0);
+    while round < ROUNDS || start.elapsed().as_secs_f64() < SECONDS {
+        round += 1;
         if round % 2 == 0 {
             best_ours = best_ours.min(time(calls, ours));
             best_rival = best_rival.min(time(calls, rival));
@@ -95,7 +105,9 @@ fn main() {
     println!(
         "Library: as `rt staticlib` compiles it. Rival: Rust, opt-level 3. Both for plain x86-64."
     );
-    println!("Least of {ROUNDS} rounds in which the two take turns.\n");
+    println!(
+        "They take turns, {ROUNDS} rounds or more in {SECONDS} s a row; the least time counts.\n"
+    );
     println!("{:<22} {:<14} {:>9} {:>9} {:>7}", "", "", "library", "rival", "ratio");
     for (name, script) in texts::all() {
         text(&image, &tables, name, &script);
