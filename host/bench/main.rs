@@ -1,6 +1,9 @@
 //! Times the library against the hand-written rival, both in this run: their turns alternate, and the least time of
 //! each counts. Prints a table of ratios, below 1 where the library is faster.
 
+mod icu;
+
+use icu::Icu;
 use luffinarc::Image;
 use luffinarc_bench::rival::{self, Tables};
 use luffinarc_bench::texts;
@@ -20,13 +23,31 @@ fn black_box<T>(value: T) -> T {
     value
 }
 
-/// The nanoseconds of so many calls.
+/// Seconds and nanoseconds.
+#[repr(C)]
+struct Timespec(i64, i64);
+
+extern "C" {
+    fn clock_gettime(clock: i32, time: *mut Timespec) -> i32;
+}
+
+/// The nanoseconds that this thread has run, as Linux counts them.
+fn now() -> f64 {
+    const THREAD_TIME: i32 = 3;
+    let mut time = Timespec(0, 0);
+    // Safety: the clock is Linux's, and the place for its time is there.
+    let status = unsafe { clock_gettime(THREAD_TIME, &mut time) };
+    assert_eq!(status, 0, "the clock is there");
+    time.0 as f64 * 1e9 + time.1 as f64
+}
+
+/// The nanoseconds of a call, of so many.
 fn time(calls: usize, call: &mut dyn FnMut()) -> f64 {
-    let start = Instant::now();
+    let start = now();
     for _ in 0..calls {
         call();
     }
-    start.elapsed().as_nanos() as f64 / calls as f64
+    (now() - start) / calls as f64
 }
 
 /// The least nanoseconds of a call of each; the first to go changes from round to round.
@@ -71,6 +92,25 @@ fn text(image: &Image, tables: &Tables, name: &str, text: &str) {
     row(&format!("list {name}"), "ns a byte", bytes.len(), times);
 }
 
+/// Counting and listing a text, against ICU.
+fn text_of_icu(image: &Image, icu: &Icu, name: &str, text: &str) {
+    let bytes = text.as_bytes();
+    let mut words = vec![0; 3 * bytes.len()];
+    let mut list = words.clone();
+    let count = image.list(bytes, &mut words).unwrap();
+    assert_eq!(icu.list(bytes, &mut list), count as i64, "{name}");
+    assert!(words == list, "{name}: the lists differ");
+    let times = race(1, &mut || _ = black_box(image.count(black_box(bytes))), &mut || {
+        black_box(icu.count(black_box(bytes)));
+    });
+    row(&format!("count {name}"), "ns a byte", bytes.len(), times);
+    let times =
+        race(1, &mut || _ = black_box(image.list(black_box(bytes), &mut words)), &mut || {
+            black_box(icu.list(black_box(bytes), &mut list));
+        });
+    row(&format!("list {name}"), "ns a byte", bytes.len(), times);
+}
+
 /// Looking up every scalar value, in this order of their numbers.
 fn lookup(image: &Image, tables: &Tables, name: &str, points: &[u32]) {
     let times = race(
@@ -106,7 +146,7 @@ fn main() {
         "Library: as `rt staticlib` compiles it. Rival: Rust, opt-level 3. Both for plain x86-64."
     );
     println!(
-        "They take turns, {ROUNDS} rounds or more in {SECONDS} s a row; the least time counts.\n"
+        "They take turns, {ROUNDS} rounds or more in {SECONDS} s a row; the least processor time counts.\n"
     );
     println!("{:<22} {:<14} {:>9} {:>9} {:>7}", "", "", "library", "rival", "ratio");
     for (name, script) in texts::all() {
@@ -120,4 +160,13 @@ fn main() {
         _ = black_box(rival::check(black_box(&bytes)))
     });
     row("image check", "ns a range", ranges.len(), times);
+    match Icu::load() {
+        None => println!("\nICU is not there to compile against: left out."),
+        Some(icu) => {
+            println!("\n{:<22} {:<14} {:>9} {:>9} {:>7}", "", "", "library", "ICU", "ratio");
+            for (name, script) in texts::all() {
+                text_of_icu(&image, &icu, name, &script);
+            }
+        }
+    }
 }

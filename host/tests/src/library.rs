@@ -69,7 +69,7 @@ impl Calls for Library {
     }
 
     fn read(&self, image: &[u8], words: &mut [u32]) -> Result<Read, Refusal> {
-        let (image, mut lent) = (Lent::new(image, 0xAA), Lent::new(words, 0xAAAA_AAAA));
+        let (image, mut lent) = (Lent::new(image, 0xAA), Lent::new(words, 0xAA));
         let (mut points, mut roles, mut answer) = (OLD_POINTS, OLD_ROLES, OLD);
         let number =
             calls::read(image.slice(), lent.slice_mut(), &mut points, &mut roles, &mut answer);
@@ -87,7 +87,7 @@ impl Calls for Library {
         profile: &Profile,
         out: &mut [u8],
     ) -> Result<usize, Refusal> {
-        let (words, mut lent) = (Lent::new(words, 0xAAAA_AAAA), Lent::new(out, 0xAA));
+        let (words, mut lent) = (Lent::new(words, 0xAA), Lent::new(out, 0xAA));
         let (points, roles, used) = (profile.points, profile.roles, profile.used as usize);
         let mut answer = OLD;
         let number = calls::write(
@@ -148,7 +148,7 @@ impl Calls for Library {
 
     fn list(&self, image: &[u8], text: &[u8], words: &mut [u32]) -> Result<usize, Refusal> {
         let (image, text) = (Lent::new(image, 0xAA), Lent::new(text, 0xAA));
-        let mut lent = Lent::new(words, 0xAAAA_AAAA);
+        let mut lent = Lent::new(words, 0xAA);
         let mut answer = OLD;
         let number = calls::list(image.slice(), text.slice(), lent.slice_mut(), &mut answer);
         image.same();
