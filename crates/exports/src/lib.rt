@@ -14,7 +14,7 @@ ghost use Rattle.character.specs.Opened.{Opened};
 ghost use Rattle.division.specs.Reading.{countOf, listOf, listWords};
 ghost use Rattle.scan.specs.Counted.{countedBy};
 ghost use Rattle.token.specs.Taken.{takenOf};
-ghost use Rattle.part.specs.Part.{refusalOf, bytesOf};
+ghost use Rattle.part.specs.Part.{partRefusal, partBytes};
 ghost use Rattle.exports.specs.Reply.{Tells, refusesOf};
 ghost use Rattle.exports.specs.ImageReply.{TellsChecked, foundReply, writtenReply, pairReply};
 ghost use Rattle.exports.specs.TokenReply.{countedReply, takenReply, partReply, toldPart};
@@ -365,8 +365,8 @@ pub extern "C" fn luffinarc_part(
     end: usize,
     answer: &mut [u64; 4],
 ) -> u32
-    ensures { λ n. ⌜ Tells (partReply (refusalOf (now (text .entry)) start end) start end) n (now (answer .exit)) ⌝ }
-    ensures { λ _. ⌜ toldPart (now (text .entry)) (now (answer .exit)) ≡ bytesOf (now (text .entry)) start end ⌝ }
+    ensures { λ n. ⌜ Tells (partReply (partRefusal (now (text .entry)) start end) start end) n (now (answer .exit)) ⌝ }
+    ensures { λ _. ⌜ toldPart (now (text .entry)) (now (answer .exit)) ≡ partBytes (now (text .entry)) start end ⌝ }
 {
     let refused = part::check(text, start, end);
     if refused != 0 {

@@ -38,7 +38,7 @@ use denote.Triple.Table.{entered, cited}
 use denote.Triple.Walked.{says, Stays, stay-none, stay-none-slice, walkOf, goes-none, goes-none-slice, Walks, ends-at, walked, walk-meets}
 use denote.Triple.Clauses.{ensured, lasts}
 use denote.Exit.{yes}
-use Rattle.part.specs.Part.{numberOf, bytesOf}
+use Rattle.part.specs.Part.{partNumber, partBytes}
 use Rattle.part.specs.declared.Part.{Part}
 use Rattle.part.proofs.Part as T
 use Rattle.part.proofs.Part.Laws as T′
@@ -104,13 +104,13 @@ module _ {M : Type 1} (𝓤 : URA M) (H : Heap 𝓤) (A : Atoms 𝓤) (W : Given
       move ! (2 ∷ 0 ∷ []) $ use2 W (raw (Check 𝓤 H A mem run .pre to)) (qed W ((‵ (flft κ q) ⊛ ‵ ftrue) ∷ ‵ (owns (ShrSlice (named 0) κ u8 ∷ usize ∷ usize ∷ []) a vals) ∷ []) ∵ join ! $ frame ! $ done !) $ frame ! $ done !
 
   -- of each callee's `ensured`, the clause alone
-  check-said : (r : ℕ) → ent 𝓤 (ensured 𝓤 H A check.ended (check.clauses 𝓤 H A mem run) (κ, tt) a tt r) (fact 𝓤 (r ≡ numberOf (now s) m n))
-  check-said r = exE 𝓤 _ (λ ws. snd∗ 𝓤 (sem 𝓤 H A (lasts check.ended (κ, tt) a ws)) (fact 𝓤 (r ≡ numberOf (now s) m n)))
+  check-said : (r : ℕ) → ent 𝓤 (ensured 𝓤 H A check.ended (check.clauses 𝓤 H A mem run) (κ, tt) a tt r) (fact 𝓤 (r ≡ partNumber (now s) m n))
+  check-said r = exE 𝓤 _ (λ ws. snd∗ 𝓤 (sem 𝓤 H A (lasts check.ended (κ, tt) a ws)) (fact 𝓤 (r ≡ partNumber (now s) m n)))
 
-  bytes-said : (y : RefT (List ℕ)) → ent 𝓤 (ensured 𝓤 H A bytes.ended (bytes.clauses 𝓤 H A mem run) (κ, tt) a tt y) (fact 𝓤 (now y ≡ bytesOf (now s) m n))
-  bytes-said y = exE 𝓤 _ (λ ws. snd∗ 𝓤 (sem 𝓤 H A (lasts bytes.ended (κ, tt) a ws)) (fact 𝓤 (now y ≡ bytesOf (now s) m n)))
+  bytes-said : (y : RefT (List ℕ)) → ent 𝓤 (ensured 𝓤 H A bytes.ended (bytes.clauses 𝓤 H A mem run) (κ, tt) a tt y) (fact 𝓤 (now y ≡ partBytes (now s) m n))
+  bytes-said y = exE 𝓤 _ (λ ws. snd∗ 𝓤 (sem 𝓤 H A (lasts bytes.ended (κ, tt) a ws)) (fact 𝓤 (now y ≡ partBytes (now s) m n)))
 
-  exits : (r : ℕ) (y : RefT (List ℕ)) → r < 2 ^ 32 → r ≡ numberOf (now s) m n → now y ≡ bytesOf (now s) m n → ent 𝓤 (⋆ 𝓤 H A (‵ (Own y) ∷ (‵ (flft κ q) ⊛ ‵ ftrue) ∷ ‵ (Own s) ∷ [])) (Post (T′.lowered (made r y)))
+  exits : (r : ℕ) (y : RefT (List ℕ)) → r < 2 ^ 32 → r ≡ partNumber (now s) m n → now y ≡ partBytes (now s) m n → ent 𝓤 (⋆ 𝓤 H A (‵ (Own y) ∷ (‵ (flft κ q) ⊛ ‵ ftrue) ∷ ‵ (Own s) ∷ [])) (Post (T′.lowered (made r y)))
   exits r y fits e e′ =
       qed W (‵ (Own y) ∷ (‵ (flft κ q) ⊛ ‵ ftrue) ∷ ‵ (Own s) ∷ []) ∵
       suffices ! _ (ends-at 𝓤 H A f.ended stayed (f.clauses 𝓤 H A mem run) W (((κ, tt), (q, tt), tt, a, vals), tt) (T′.lowered (made r y)) (made r y) (tt, (tt, (tt, tt))) (tt, (tt, (tt, tt)))) $ says ! (e, e′) $
@@ -130,14 +130,14 @@ module _ {M : Type 1} (𝓤 : URA M) (H : Heap 𝓤) (A : Atoms 𝓤) (W : Given
         move ! (13 ∷ []) $ fsplit ! $ move ! (1 ∷ []) $ drop ! $ move ! (13 ∷ 0 ∷ []) $ use2 W (raw (Check 𝓤 H A mem run .pre to) ⊛ ‵ (Own s)) again $ split ! $
         calls-at ! fm (Check 𝓤 H A mem run) known-check to (and-then ! (load ! (from ! (stop !)) (look ! 10 refl)) (and-then ! (load ! (from ! (stop !)) (look ! 8 refl)) (and-then ! (load ! (from ! (stop !)) (look ! 6 refl)) (no-more !)))) (λ w.
         use1 W (later (some (λ (r : ℕ). ((‵ (flft κ q) ⊛ ‵ ftrue) ⊛ ‵ (u32 .own r (w ∷ []))) ⊛ raw (ensured 𝓤 H A check.ended (check.clauses 𝓤 H A mem run) (κ, tt) a tt r)))) (id⊢ 𝓤 _) $ await ! tt $ pick ! (λ r.
-        split ! $ move ! (1 ∷ []) $ use1 W (raw (fact 𝓤 (r ≡ numberOf (now s) m n))) (check-said r) $ heard ! (r ≡ numberOf (now s) m n) (λ e. split ! $ move ! (1 ∷ []) $
+        split ! $ move ! (1 ∷ []) $ use1 W (raw (fact 𝓤 (r ≡ partNumber (now s) m n))) (check-said r) $ heard ! (r ≡ partNumber (now s) m n) (λ e. split ! $ move ! (1 ∷ []) $
         -- [the number's facts; the token; what s owns; _5; …; _4; …; _3; …; _2; …; _1; …; room for _0; …]
         peeks ! u32 (Is u32) (shows 𝓤 H A u32) r (w ∷ []) (λ is.
         land ! (from ! (stop !)) (init ! 5 refl (uint-lawful 𝓤 H A W w32 .typed r _ is .0)) $ rewrite ! 5 (λ (u : Val). ‵ (fat fullShare (tyInt w32) l₄ 0 u)) (ap only (is .0)) refl $ drop ! $
         use2 W (raw (Bytes 𝓤 H A mem run .pre to) ⊛ ‵ (Own s)) again $ split ! $
         calls-at ! fm (Bytes 𝓤 H A mem run) known-bytes to (and-then ! (load ! (from ! (stop !)) (look ! 10 refl)) (and-then ! (load ! (from ! (stop !)) (look ! 8 refl)) (and-then ! (load ! (from ! (stop !)) (look ! 6 refl)) (no-more !)))) (λ w′.
         use1 W (later (some (λ (y : RefT (List ℕ)). ((‵ (flft κ q) ⊛ ‵ ftrue) ⊛ ‵ (ShrSlice (named 0) κ u8 .own y (w′ ∷ []))) ⊛ raw (ensured 𝓤 H A bytes.ended (bytes.clauses 𝓤 H A mem run) (κ, tt) a tt y)))) (id⊢ 𝓤 _) $ await ! tt $ pick ! (λ y.
-        split ! $ move ! (1 ∷ []) $ use1 W (raw (fact 𝓤 (now y ≡ bytesOf (now s) m n))) (bytes-said y) $ heard ! (now y ≡ bytesOf (now s) m n) (λ e′. split ! $ move ! (1 ∷ []) $
+        split ! $ move ! (1 ∷ []) $ use1 W (raw (fact 𝓤 (now y ≡ partBytes (now s) m n))) (bytes-said y) $ heard ! (now y ≡ partBytes (now s) m n) (λ e′. split ! $ move ! (1 ∷ []) $
         -- [what y owns; the token; what s owns; _5; …; _4; …; _3; …; _2; …; _1; …; room for _0; …]
         peeks ! (ShrSlice (named 0) κ u8) (Is (ShrSlice (named 0) κ u8)) (shows 𝓤 H A (ShrSlice (named 0) κ u8)) y (w′ ∷ []) (λ is′.
         land ! (from ! (stop !)) (init ! 3 refl (shr-slice-lawful 𝓤 H A W erased κ u8 .typed y _ is′ .0)) $ rewrite ! 3 (λ (u : Val). ‵ (fat fullShare (sliceTy (tyRef erased imm (tyInt w8))) l₅ 0 u)) (ap only (shr-slice-tells (named 0) κ u8 y _ is′)) refl $
