@@ -9,8 +9,8 @@ use luffinarc_reader::{Calls, Checked, PairRefusal, Profile, Read, Refusal, Toke
 const OLD: Answer = [0xDEAD_BEEF_0BAD_CAFE; 4];
 
 /// What stands in a profile's arrays before a call.
-const OLD_POINTS: Entries = [0x0BAD_0BAD; 64];
-const OLD_ROLES: Entries = [0x0BAD_CAFE; 64];
+const OLD_POINTS: Entries = [0x0BAD_0BAD; luffinarc::MAX_ENTRIES];
+const OLD_ROLES: Entries = [0x0BAD_CAFE; luffinarc::MAX_ENTRIES];
 
 /// The refusal with this number; what it does not carry is zero.
 fn refusal(number: u32, carried: u64) -> Refusal {
