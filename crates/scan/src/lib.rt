@@ -8,7 +8,7 @@ ghost use Rattle.character.specs.Read.{TableOf};
 ghost use Rattle.scan.specs.Traits.{continueIn, kindFor, goesOn, turnOf, afterOf};
 ghost use Rattle.scan.specs.Rest.{continuesAt, endFrom};
 ghost use Rattle.scan.specs.Counted.{stopRefusal, countThrough};
-ghost use Rattle.scan.specs.Words.{tokenWords};
+ghost use Rattle.scan.specs.Words.{tokenWords, startBy};
 ghost use Rattle.scan.specs.First.{firstOf};
 ghost use Rattle.lists.specs.Laid.{laid};
 ghost use Rattle.utf8.specs.Text.{textOf};
@@ -283,23 +283,29 @@ pub fn count_tokens<'a>(
     Counted::Tokens(count)
 }
 
-// The words of a token at the front of what is left of the buffer, and how many they are; none for the kind 0.
-fn put_token(out: &mut [u32], kind: u32, start: usize, end: usize) -> usize
+// The words of a token at the front of a part of the buffer.
+fn put_token(out: &mut [u32], kind: u32, start: usize, end: usize)
     requires { ⌜ (start ≤ maxText) × (end ≤ maxText) ⌝ }
-    requires { ⌜ length (tokenWords kind start end) ≤ length (now out) ⌝ }
-    ensures { λ r. ⌜ r ≡ length (tokenWords kind start end) ⌝ }
-    ensures { λ r. ⌜ now (out .exit) ≡ laid (now (out .entry)) 0 (tokenWords kind start end) ⌝ }
+    requires { ⌜ (kind ≡ 0 → ⊥) × (3 ≤ length (now out)) ⌝ }
+    ensures { λ _. ⌜ now (out .exit) ≡ laid (now (out .entry)) 0 (tokenWords kind start end) ⌝ }
 {
-    if kind == 0 {
-        return 0;
-    }
     out[0] = kind;
     out[1] = start as u32;
     out[2] = end as u32;
-    RECORD_WORDS
 }
 
-// The words of all tokens up to where no token begins or the text is ill-formed.
+// Where the token began that is under way after a turn at a place: there, or where it began before.
+fn pick_start(turn: usize, start: usize, at: usize) -> usize
+    ensures { λ r. ⌜ r ≡ startBy turn start at ⌝ }
+{
+    if turn == 0 {
+        return start;
+    }
+    at
+}
+
+// The words of all tokens up to where no token begins or the text is ill-formed. After each character the record of the token that
+// it is in ends there: the loop has no test for where tokens end.
 pub fn write_tokens<'a>(
     image: &'a [u8],
     n: usize,
@@ -325,10 +331,19 @@ pub fn write_tokens<'a>(
         let c = character::read(image, n, points, roles, used, table, memo, text, at);
         let len = c.len;
         if len == 0 {
-            break;
+            return;
         }
         memo = c.memo;
         let next = at + len;
+        let turn = find_turn(kind, c.traits);
+        if turn < 2 {
+            kind = kind_after(c.traits);
+            start = pick_start(turn, start, at);
+            w += RECORD_WORDS * turn;
+            put_token(&mut out[w - RECORD_WORDS..], kind, start, next);
+            at = next;
+            continue;
+        }
         if goes_on(
             kind,
             c.traits,
@@ -341,18 +356,19 @@ pub fn write_tokens<'a>(
             text,
             next,
         ) {
+            put_token(&mut out[w - RECORD_WORDS..], kind, start, next);
             at = next;
             continue;
         }
-        w += put_token(&mut out[w..], kind, start, at);
         kind = kind_begun(c.traits);
         if kind == 0 {
             return;
         }
+        w += RECORD_WORDS;
+        put_token(&mut out[w - RECORD_WORDS..], kind, at, next);
         start = at;
         at = next;
     }
-    put_token(&mut out[w..], kind, start, at);
 }
 
 // Where the token of this kind that is under way at a place ends.
