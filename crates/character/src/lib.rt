@@ -3,7 +3,8 @@ ghost use mathlib.Core.Path.{_≡_};
 ghost use mathlib.Core.List.{List};
 ghost use Prim.Native.Nat.{ℕ, _+_, _%_, _<_};
 ghost use lib.ListN.{length};
-ghost use lib.Dec.{eqb};
+ghost use mathlib.Core.Bool.{_&&_};
+ghost use lib.Dec.{eqb, leb};
 ghost use Rattle.character.specs.Traits.{medialPart};
 ghost use Rattle.character.specs.Opened.{Opened};
 ghost use Rattle.character.specs.Read.{MemoOf, MemoAt, TableOf, ReadAs};
@@ -13,13 +14,13 @@ use image::MAX_ENTRIES;
 pub struct Memo {
     pub first: u32,
     pub last: u32,
-    pub traits: u8,
+    pub traits: u32,
 }
 
 // The character at a place: its length in bytes, its traits, and the memo for the next one. Length 0: ill-formed.
 pub struct Character {
     pub len: usize,
-    pub traits: u8,
+    pub traits: u32,
     pub memo: Memo,
 }
 
@@ -35,13 +36,13 @@ pub fn no_memo() -> Memo
 }
 
 // The traits of a code point with a role and a class after it.
-fn join_traits(role: u32, class: u32) -> u8
+fn join_traits(role: u32, class: u32) -> u32
     ensures { λ r. ⌜ r ≡ class % 8 + medialPart (eqb role 3) ⌝ }
 {
     if role == 3 {
-        return (class % 8) as u8 + 8;
+        return class % 8 + 8;
     }
-    (class % 8) as u8
+    class % 8
 }
 
 // The code points around `x` that have the traits of `x`, by a search in the image.
@@ -65,6 +66,16 @@ fn search<'a>(
     }
 }
 
+// Whether `x` is in the memo.
+fn is_known(memo: Memo, x: u32) -> bool
+    ensures { λ r. ⌜ r ≡ (leb (memo .first) x && leb x (memo .last)) ⌝ }
+{
+    if x < memo.first {
+        return false;
+    }
+    x <= memo.last
+}
+
 // The memo, if `x` is in it; else a search.
 fn recall<'a>(
     image: &'a [u8],
@@ -79,13 +90,10 @@ fn recall<'a>(
     requires { ⌜ MemoOf (now image) memo ⌝ }
     ensures { λ r. ⌜ MemoAt (now (image .entry)) x r ⌝ }
 {
-    if x < memo.first {
-        return search(image, n, points, roles, used, x);
+    if is_known(memo, x) {
+        return memo;
     }
-    if memo.last < x {
-        return search(image, n, points, roles, used, x);
-    }
-    memo
+    search(image, n, points, roles, used, x)
 }
 
 // The traits of the ASCII code points.
@@ -104,47 +112,13 @@ pub fn fill_table<'a>(
     let mut i = 0;
     while i < 128 {
         memo = recall(image, n, points, roles, used, memo, i as u32);
-        table[i] = memo.traits;
+        table[i] = memo.traits as u8;
         i += 1;
     }
     table
 }
 
-// The character of `text` at a place before its end, by decoding it.
-pub fn read_decoded<'a>(
-    image: &'a [u8],
-    n: usize,
-    points: &'a [u32; MAX_ENTRIES],
-    roles: &'a [u32; MAX_ENTRIES],
-    used: usize,
-    memo: Memo,
-    text: &'a [u8],
-    at: usize,
-) -> Character
-    requires { ⌜ Opened (now image) n (now points) (now roles) used ⌝ }
-    requires { ⌜ MemoOf (now image) memo ⌝ }
-    requires { ⌜ at < length (now text) ⌝ }
-    ensures { λ r. ⌜ ReadAs (now (image .entry)) (now (text .entry)) at r ⌝ }
-{
-    let part = &text[at..];
-    let len = utf8::measure(part);
-    if len == 0 {
-        return Character {
-            len: 0,
-            traits: 0,
-            memo,
-        };
-    }
-    let code = utf8::code_point(part, len);
-    let m = recall(image, n, points, roles, used, memo, code);
-    Character {
-        len,
-        traits: m.traits,
-        memo: m,
-    }
-}
-
-// The character of `text` at a place before its end: ASCII by the table.
+// The character of `text` at a place before its end: ASCII by the table, another by decoding it.
 pub fn read<'a>(
     image: &'a [u8],
     n: usize,
@@ -166,9 +140,15 @@ pub fn read<'a>(
     if b < 0x80 {
         return Character {
             len: 1,
-            traits: table[b as usize],
+            traits: table[b as usize] as u32,
             memo,
         };
     }
-    read_decoded(image, n, points, roles, used, memo, text, at)
+    let packed = utf8::decode_packed(text, at);
+    let m = recall(image, n, points, roles, used, memo, (packed / 8) as u32);
+    Character {
+        len: packed % 8,
+        traits: m.traits,
+        memo: m,
+    }
 }

@@ -43,3 +43,23 @@ goesBy (some whitespace) a m follows = isWhite a
 
 unfoldable pub goesOn : ℕ → ℕ → Bool → Bool
 goesOn k t follows = goesBy (kindNamed k) (classIn t) (medialIn t) follows
+
+abbrev pub pickN : Bool → ℕ → ℕ → ℕ
+pickN true a b = a
+pickN false a b = b
+
+-- a token begins, 1, or what the kind 0 says takes a closer look, 2
+abbrev pub begunBy : ℕ → ℕ
+begunBy zero = 2
+begunBy (suc k) = 1
+
+-- what is known without a look at what follows: the token goes on, 0, or another begins, 1; else 2
+unfoldable pub turnOf : ℕ → ℕ → ℕ
+turnOf k t = pickN (goesOn k t false) 0 (pickN (goesOn k t true) 2 (begunBy (kindFor t)))
+
+-- the kind of the token that a character is in, where that is known so
+abbrev pub afterBy : Class → ℕ
+afterBy a = pickN (isContinue a) 1 (numberBy (kindOfClass a))
+
+unfoldable pub afterOf : ℕ → ℕ
+afterOf t = afterBy (classIn t)

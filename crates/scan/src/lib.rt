@@ -4,23 +4,94 @@ ghost use mathlib.Core.Bool.{false};
 ghost use Prim.Native.Nat.{_+_, _*_, _≤_, _<_};
 ghost use lib.ListN.{length, drop};
 ghost use Rattle.character.specs.Opened.{Opened};
-ghost use Rattle.character.specs.Read.{MemoOf, TableOf};
-ghost use Rattle.scan.specs.Traits.{continueIn, kindFor, goesOn};
+ghost use Rattle.character.specs.Read.{TableOf};
+ghost use Rattle.scan.specs.Traits.{continueIn, kindFor, goesOn, turnOf, afterOf};
 ghost use Rattle.scan.specs.Rest.{continuesAt, endFrom};
 ghost use Rattle.scan.specs.Counted.{stopRefusal, countThrough};
-ghost use Rattle.scan.specs.Words.{tokenWords};
+ghost use Rattle.scan.specs.Words.{tokenWords, startBy};
 ghost use Rattle.scan.specs.First.{firstOf};
 ghost use Rattle.lists.specs.Laid.{laid};
 ghost use Rattle.utf8.specs.Text.{textOf};
 ghost use Rattle.division.specs.Record.{recordSize, listedWords};
 ghost use Rattle.division.specs.Reading.{maxText, readingOf};
-use character::Memo;
 use image::MAX_ENTRIES;
 use refusal::Refusal;
 use utf8::Text;
 
 // The words of a token's record.
 pub const RECORD_WORDS: usize = 3;
+
+// What a character does to the token under way, by its kind and the character's traits: the token goes on (0), a token begins (1),
+// or it takes a closer look (2).
+const TURNS: [usize; 64] = [
+    2,
+    1,
+    2,
+    1,
+    1,
+    2,
+    2,
+    2,
+    2,
+    1,
+    2,
+    1,
+    1,
+    2,
+    2,
+    2,
+    2,
+    0,
+    0,
+    1,
+    1,
+    2,
+    2,
+    2,
+    2,
+    0,
+    0,
+    2,
+    2,
+    2,
+    2,
+    2,
+    2,
+    1,
+    2,
+    1,
+    1,
+    2,
+    2,
+    2,
+    2,
+    1,
+    2,
+    1,
+    1,
+    2,
+    2,
+    2,
+    2,
+    1,
+    2,
+    1,
+    0,
+    2,
+    2,
+    2,
+    2,
+    1,
+    2,
+    1,
+    0,
+    2,
+    2,
+    2,
+];
+
+// The kind of the token that a character of these traits is in, where it takes no closer look.
+const KINDS: [u32; 16] = [0, 1, 1, 2, 3, 0, 0, 0, 0, 1, 1, 2, 3, 0, 0, 0];
 
 // How many tokens, or why not.
 pub enum Counted {
@@ -41,7 +112,7 @@ pub enum First {
 }
 
 // Whether a character is Continue.
-fn is_continue(traits: u8) -> bool
+fn is_continue(traits: u32) -> bool
     ensures { λ r. ⌜ r ≡ continueIn traits ⌝ }
 {
     let class = traits % 8;
@@ -52,7 +123,7 @@ fn is_continue(traits: u8) -> bool
 }
 
 // The kind of token that a character begins, or 0.
-fn kind_begun(traits: u8) -> u32
+fn kind_begun(traits: u32) -> u32
     ensures { λ r. ⌜ r ≡ kindFor traits ⌝ }
 {
     let class = traits % 8;
@@ -68,6 +139,22 @@ fn kind_begun(traits: u8) -> u32
     0
 }
 
+// What a character does to the token under way: 0, it goes on; 1, another begins; 2, it takes a closer look.
+fn find_turn(kind: u32, traits: u32) -> usize
+    requires { ⌜ (kind < 4) × (traits < 16) ⌝ }
+    ensures { λ r. ⌜ r ≡ turnOf kind traits ⌝ }
+{
+    TURNS[(kind * 16 + traits) as usize]
+}
+
+// The kind of the token that a character is in, where it takes no closer look.
+fn kind_after(traits: u32) -> u32
+    requires { ⌜ traits < 16 ⌝ }
+    ensures { λ r. ⌜ r ≡ afterOf traits ⌝ }
+{
+    KINDS[traits as usize]
+}
+
 // Whether a Continue stands at a place.
 fn continues_at<'a>(
     image: &'a [u8],
@@ -75,18 +162,19 @@ fn continues_at<'a>(
     points: &'a [u32; MAX_ENTRIES],
     roles: &'a [u32; MAX_ENTRIES],
     used: usize,
-    memo: Memo,
+    table: &'a [u8; 128],
     text: &'a [u8],
     at: usize,
 ) -> bool
     requires { ⌜ Opened (now image) n (now points) (now roles) used ⌝ }
-    requires { ⌜ MemoOf (now image) memo ⌝ }
+    requires { ⌜ TableOf (now image) (now table) ⌝ }
     ensures { λ r. ⌜ r ≡ continuesAt (now (image .entry)) (now (text .entry)) at ⌝ }
 {
     if text.len() <= at {
         return false;
     }
-    let c = character::read_decoded(image, n, points, roles, used, memo, text, at);
+    let memo = character::no_memo();
+    let c = character::read(image, n, points, roles, used, table, memo, text, at);
     if c.len == 0 {
         return false;
     }
@@ -96,18 +184,18 @@ fn continues_at<'a>(
 // Whether a token of this kind goes on with a character of these traits, before the place `next`.
 fn goes_on<'a>(
     kind: u32,
-    traits: u8,
+    traits: u32,
     image: &'a [u8],
     n: usize,
     points: &'a [u32; MAX_ENTRIES],
     roles: &'a [u32; MAX_ENTRIES],
     used: usize,
-    memo: Memo,
+    table: &'a [u8; 128],
     text: &'a [u8],
     next: usize,
 ) -> bool
     requires { ⌜ Opened (now image) n (now points) (now roles) used ⌝ }
-    requires { ⌜ MemoOf (now image) memo ⌝ }
+    requires { ⌜ TableOf (now image) (now table) ⌝ }
     ensures { λ r. ⌜ r ≡ goesOn kind traits (continuesAt (now (image .entry)) (now (text .entry)) next) ⌝ }
 {
     if kind == 1 {
@@ -117,7 +205,7 @@ fn goes_on<'a>(
         if traits < 8 {
             return false;
         }
-        return continues_at(image, n, points, roles, used, memo, text, next);
+        return continues_at(image, n, points, roles, used, table, text, next);
     }
     if kind == 3 {
         return traits % 8 == 4;
@@ -163,6 +251,13 @@ pub fn count_tokens<'a>(
         }
         memo = c.memo;
         let next = at + len;
+        let turn = find_turn(kind, c.traits);
+        if turn < 2 {
+            count += turn;
+            kind = kind_after(c.traits);
+            at = next;
+            continue;
+        }
         if goes_on(
             kind,
             c.traits,
@@ -171,7 +266,7 @@ pub fn count_tokens<'a>(
             points,
             roles,
             used,
-            memo,
+            table,
             text,
             next,
         ) {
@@ -188,23 +283,29 @@ pub fn count_tokens<'a>(
     Counted::Tokens(count)
 }
 
-// The words of a token at the front of what is left of the buffer, and how many they are; none for the kind 0.
-fn put_token(out: &mut [u32], kind: u32, start: usize, end: usize) -> usize
+// The words of a token at the front of a part of the buffer.
+fn put_token(out: &mut [u32], kind: u32, start: usize, end: usize)
     requires { ⌜ (start ≤ maxText) × (end ≤ maxText) ⌝ }
-    requires { ⌜ length (tokenWords kind start end) ≤ length (now out) ⌝ }
-    ensures { λ r. ⌜ r ≡ length (tokenWords kind start end) ⌝ }
-    ensures { λ r. ⌜ now (out .exit) ≡ laid (now (out .entry)) 0 (tokenWords kind start end) ⌝ }
+    requires { ⌜ (kind ≡ 0 → ⊥) × (3 ≤ length (now out)) ⌝ }
+    ensures { λ _. ⌜ now (out .exit) ≡ laid (now (out .entry)) 0 (tokenWords kind start end) ⌝ }
 {
-    if kind == 0 {
-        return 0;
-    }
     out[0] = kind;
     out[1] = start as u32;
     out[2] = end as u32;
-    RECORD_WORDS
 }
 
-// The words of all tokens up to where no token begins or the text is ill-formed.
+// Where the token began that is under way after a turn at a place: there, or where it began before.
+fn pick_start(turn: usize, start: usize, at: usize) -> usize
+    ensures { λ r. ⌜ r ≡ startBy turn start at ⌝ }
+{
+    if turn == 0 {
+        return start;
+    }
+    at
+}
+
+// The words of all tokens up to where no token begins or the text is ill-formed. After each character the record of the token that
+// it is in ends there: the loop has no test for where tokens end.
 pub fn write_tokens<'a>(
     image: &'a [u8],
     n: usize,
@@ -230,10 +331,19 @@ pub fn write_tokens<'a>(
         let c = character::read(image, n, points, roles, used, table, memo, text, at);
         let len = c.len;
         if len == 0 {
-            break;
+            return;
         }
         memo = c.memo;
         let next = at + len;
+        let turn = find_turn(kind, c.traits);
+        if turn < 2 {
+            kind = kind_after(c.traits);
+            start = pick_start(turn, start, at);
+            w += RECORD_WORDS * turn;
+            put_token(&mut out[w - RECORD_WORDS..], kind, start, next);
+            at = next;
+            continue;
+        }
         if goes_on(
             kind,
             c.traits,
@@ -242,22 +352,23 @@ pub fn write_tokens<'a>(
             points,
             roles,
             used,
-            memo,
+            table,
             text,
             next,
         ) {
+            put_token(&mut out[w - RECORD_WORDS..], kind, start, next);
             at = next;
             continue;
         }
-        w += put_token(&mut out[w..], kind, start, at);
         kind = kind_begun(c.traits);
         if kind == 0 {
             return;
         }
+        w += RECORD_WORDS;
+        put_token(&mut out[w - RECORD_WORDS..], kind, at, next);
         start = at;
         at = next;
     }
-    put_token(&mut out[w..], kind, start, at);
 }
 
 // Where the token of this kind that is under way at a place ends.
@@ -294,7 +405,7 @@ fn find_end<'a>(
             points,
             roles,
             used,
-            memo,
+            table,
             text,
             next,
         ) {
