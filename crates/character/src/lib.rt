@@ -118,7 +118,32 @@ pub fn fill_table<'a>(
     table
 }
 
-// The character of `text` at a place before its end: ASCII by the table, another by decoding it.
+// The character of `text` at a place before its end, by decoding it.
+pub fn read_decoded<'a>(
+    image: &'a [u8],
+    n: usize,
+    points: &'a [u32; MAX_ENTRIES],
+    roles: &'a [u32; MAX_ENTRIES],
+    used: usize,
+    memo: Memo,
+    text: &'a [u8],
+    at: usize,
+) -> Character
+    requires { ⌜ Opened (now image) n (now points) (now roles) used ⌝ }
+    requires { ⌜ MemoOf (now image) memo ⌝ }
+    requires { ⌜ at < length (now text) ⌝ }
+    ensures { λ r. ⌜ ReadAs (now (image .entry)) (now (text .entry)) at r ⌝ }
+{
+    let packed = utf8::decode_packed(text, at);
+    let m = recall(image, n, points, roles, used, memo, (packed / 8) as u32);
+    Character {
+        len: packed % 8,
+        traits: m.traits,
+        memo: m,
+    }
+}
+
+// The character of `text` at a place before its end: ASCII by the table.
 pub fn read<'a>(
     image: &'a [u8],
     n: usize,
@@ -144,11 +169,5 @@ pub fn read<'a>(
             memo,
         };
     }
-    let packed = utf8::decode_packed(text, at);
-    let m = recall(image, n, points, roles, used, memo, (packed / 8) as u32);
-    Character {
-        len: packed % 8,
-        traits: m.traits,
-        memo: m,
-    }
+    read_decoded(image, n, points, roles, used, memo, text, at)
 }

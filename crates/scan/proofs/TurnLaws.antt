@@ -13,33 +13,26 @@ use Rattle.image.specs.Check.{refusalOf}
 use Rattle.lookup.proofs.LookupLaws.{class-of-known}
 use Rattle.division.specs.Grammar.{Kind, identifier, syntax, whitespace}
 use Rattle.division.specs.Kinds.{isContinue, isWhite, kindOfClass}
-use Rattle.scan.specs.Traits.{kindNamed, numberBy, classIn, medialIn, kindFor, goesBy, goesOn, pickN, begunBy, turnOf, afterBy, afterOf}
-
--- the tables of the code
-abbrev pub turns : List ℕ
-turns = 2 ∷ 1 ∷ 2 ∷ 1 ∷ 1 ∷ 2 ∷ 2 ∷ 2 ∷ 2 ∷ 1 ∷ 2 ∷ 1 ∷ 1 ∷ 2 ∷ 2 ∷ 2 ∷ 2 ∷ 0 ∷ 0 ∷ 1 ∷ 1 ∷ 2 ∷ 2 ∷ 2 ∷ 2 ∷ 0 ∷ 0 ∷ 2 ∷ 2 ∷ 2 ∷ 2 ∷ 2 ∷ 2 ∷ 1 ∷ 2 ∷ 1 ∷ 1 ∷ 2 ∷ 2 ∷ 2 ∷ 2 ∷ 1 ∷ 2 ∷ 1 ∷ 1 ∷ 2 ∷ 2 ∷ 2 ∷ 2 ∷ 1 ∷ 2 ∷ 1 ∷ 0 ∷ 2 ∷ 2 ∷ 2 ∷ 2 ∷ 1 ∷ 2 ∷ 1 ∷ 0 ∷ 2 ∷ 2 ∷ 2 ∷ []
-
-abbrev pub kinds : List ℕ
-kinds = 0 ∷ 1 ∷ 1 ∷ 2 ∷ 3 ∷ 0 ∷ 0 ∷ 0 ∷ 0 ∷ 1 ∷ 1 ∷ 2 ∷ 3 ∷ 0 ∷ 0 ∷ 0 ∷ []
+use Rattle.scan.specs.Traits.{kindNamed, numberBy, classIn, medialIn, kindFor, goesBy, goesOn, pickN, begunBy, turnOf, afterBy, afterOf, turnTable, kindTable}
 
 abbrev turnAt : ℕ → ℕ
 turnAt i = turnOf (i / 16) (i % 16)
 
-turns-hold : turns ≡ column 64 turnAt 64
+turns-hold : turnTable ≡ column 64 turnAt 64
 unfolding column each eachFrom turnOf goesOn kindFor
 turns-hold = refl
 
-kinds-hold : kinds ≡ column 16 afterOf 16
+kinds-hold : kindTable ≡ column 16 afterOf 16
 unfolding column each eachFrom afterOf
 kinds-hold = refl
 
-pub turn-at : (k t : ℕ) → k < 4 → t < 16 → getD turns (k * 16 + t) 0 ≡ turnOf k t
+pub turn-at : (k t : ℕ) → k < 4 → t < 16 → getD turnTable (k * 16 + t) 0 ≡ turnOf k t
 turn-at k t h l =
     let q : (k * 16 + t) / 16 ≡ k = omega arith in
     let r : (k * 16 + t) % 16 ≡ t = omega arith in
     ap (λ (xs : List ℕ). getD xs (k * 16 + t) 0) turns-hold ∙ column-at 64 turnAt 64 (k * 16 + t) (omega arith) ∙ (λ i. turnOf (q i) (r i))
 
-pub kind-at : (t : ℕ) → t < 16 → getD kinds t 0 ≡ afterOf t
+pub kind-at : (t : ℕ) → t < 16 → getD kindTable t 0 ≡ afterOf t
 kind-at t l = ap (λ (xs : List ℕ). getD xs t 0) kinds-hold ∙ column-at 16 afterOf 16 t l
 
 -- the kinds are below 4

@@ -5,7 +5,7 @@ ghost use Prim.Native.Nat.{_+_, _*_, _≤_, _<_};
 ghost use lib.ListN.{length, drop};
 ghost use Rattle.character.specs.Opened.{Opened};
 ghost use Rattle.character.specs.Read.{TableOf};
-ghost use Rattle.scan.specs.Traits.{continueIn, kindFor, goesOn, turnOf, afterOf};
+ghost use Rattle.scan.specs.Traits.{continueIn, kindFor, goesOn, turnOf, afterOf, turnTable, kindTable};
 ghost use Rattle.scan.specs.Rest.{continuesAt, endFrom};
 ghost use Rattle.scan.specs.Counted.{stopRefusal, countThrough};
 ghost use Rattle.scan.specs.Words.{tokenWords, startBy};
@@ -140,19 +140,21 @@ fn kind_begun(traits: u32) -> u32
 }
 
 // What a character does to the token under way: 0, it goes on; 1, another begins; 2, it takes a closer look.
-fn find_turn(kind: u32, traits: u32) -> usize
+fn find_turn(turns: &[usize; 64], kind: u32, traits: u32) -> usize
+    requires { ⌜ now turns ≡ turnTable ⌝ }
     requires { ⌜ (kind < 4) × (traits < 16) ⌝ }
     ensures { λ r. ⌜ r ≡ turnOf kind traits ⌝ }
 {
-    TURNS[(kind * 16 + traits) as usize]
+    turns[(kind * 16 + traits) as usize]
 }
 
 // The kind of the token that a character is in, where it takes no closer look.
-fn kind_after(traits: u32) -> u32
+fn kind_after(kinds: &[u32; 16], traits: u32) -> u32
+    requires { ⌜ now kinds ≡ kindTable ⌝ }
     requires { ⌜ traits < 16 ⌝ }
     ensures { λ r. ⌜ r ≡ afterOf traits ⌝ }
 {
-    KINDS[traits as usize]
+    kinds[traits as usize]
 }
 
 // Whether a Continue stands at a place.
@@ -162,19 +164,17 @@ fn continues_at<'a>(
     points: &'a [u32; MAX_ENTRIES],
     roles: &'a [u32; MAX_ENTRIES],
     used: usize,
-    table: &'a [u8; 128],
     text: &'a [u8],
     at: usize,
 ) -> bool
     requires { ⌜ Opened (now image) n (now points) (now roles) used ⌝ }
-    requires { ⌜ TableOf (now image) (now table) ⌝ }
     ensures { λ r. ⌜ r ≡ continuesAt (now (image .entry)) (now (text .entry)) at ⌝ }
 {
     if text.len() <= at {
         return false;
     }
     let memo = character::no_memo();
-    let c = character::read(image, n, points, roles, used, table, memo, text, at);
+    let c = character::read_decoded(image, n, points, roles, used, memo, text, at);
     if c.len == 0 {
         return false;
     }
@@ -190,12 +190,10 @@ fn goes_on<'a>(
     points: &'a [u32; MAX_ENTRIES],
     roles: &'a [u32; MAX_ENTRIES],
     used: usize,
-    table: &'a [u8; 128],
     text: &'a [u8],
     next: usize,
 ) -> bool
     requires { ⌜ Opened (now image) n (now points) (now roles) used ⌝ }
-    requires { ⌜ TableOf (now image) (now table) ⌝ }
     ensures { λ r. ⌜ r ≡ goesOn kind traits (continuesAt (now (image .entry)) (now (text .entry)) next) ⌝ }
 {
     if kind == 1 {
@@ -205,7 +203,7 @@ fn goes_on<'a>(
         if traits < 8 {
             return false;
         }
-        return continues_at(image, n, points, roles, used, table, text, next);
+        return continues_at(image, n, points, roles, used, text, next);
     }
     if kind == 3 {
         return traits % 8 == 4;
@@ -239,6 +237,8 @@ pub fn count_tokens<'a>(
     requires { ⌜ TableOf (now image) (now table) ⌝ }
     ensures { λ r. ⌜ r ≡ countThrough (now (image .entry)) (now (text .entry)) ⌝ }
 {
+    let turns = TURNS;
+    let kinds = KINDS;
     let mut memo = character::no_memo();
     let mut kind = 0;
     let mut count: usize = 0;
@@ -251,25 +251,14 @@ pub fn count_tokens<'a>(
         }
         memo = c.memo;
         let next = at + len;
-        let turn = find_turn(kind, c.traits);
+        let turn = find_turn(&turns, kind, c.traits);
         if turn < 2 {
             count += turn;
-            kind = kind_after(c.traits);
+            kind = kind_after(&kinds, c.traits);
             at = next;
             continue;
         }
-        if goes_on(
-            kind,
-            c.traits,
-            image,
-            n,
-            points,
-            roles,
-            used,
-            table,
-            text,
-            next,
-        ) {
+        if goes_on(kind, c.traits, image, n, points, roles, used, text, next) {
             at = next;
             continue;
         }
@@ -322,6 +311,8 @@ pub fn write_tokens<'a>(
     requires { ⌜ recordSize * length (readingOf (now image) (now text) .tokens) ≤ length (now out) ⌝ }
     ensures { λ _. ⌜ now (out .exit) ≡ laid (now (out .entry)) 0 (listedWords (readingOf (now (image .entry)) (now (text .entry)) .tokens)) ⌝ }
 {
+    let turns = TURNS;
+    let kinds = KINDS;
     let mut memo = character::no_memo();
     let mut kind = 0;
     let mut start = 0;
@@ -335,27 +326,16 @@ pub fn write_tokens<'a>(
         }
         memo = c.memo;
         let next = at + len;
-        let turn = find_turn(kind, c.traits);
+        let turn = find_turn(&turns, kind, c.traits);
         if turn < 2 {
-            kind = kind_after(c.traits);
+            kind = kind_after(&kinds, c.traits);
             start = pick_start(turn, start, at);
             w += RECORD_WORDS * turn;
             put_token(&mut out[w - RECORD_WORDS..], kind, start, next);
             at = next;
             continue;
         }
-        if goes_on(
-            kind,
-            c.traits,
-            image,
-            n,
-            points,
-            roles,
-            used,
-            table,
-            text,
-            next,
-        ) {
+        if goes_on(kind, c.traits, image, n, points, roles, used, text, next) {
             put_token(&mut out[w - RECORD_WORDS..], kind, start, next);
             at = next;
             continue;
@@ -397,18 +377,7 @@ fn find_end<'a>(
         }
         memo = c.memo;
         let next = at + len;
-        if goes_on(
-            kind,
-            c.traits,
-            image,
-            n,
-            points,
-            roles,
-            used,
-            table,
-            text,
-            next,
-        ) {
+        if goes_on(kind, c.traits, image, n, points, roles, used, text, next) {
             at = next;
             continue;
         }

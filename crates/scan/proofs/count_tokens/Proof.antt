@@ -1,7 +1,7 @@
 -- `scan::count_tokens` meets its contract. The loop's invariant: what was counted and the reading of the rest are the whole.
 -- Assumes nothing.
 use Prim.Native.Nat.{ℕ, _-_, _<_}
-use mathlib.Core.Path.{_≡_, sym, ap, _∙_}
+use mathlib.Core.Path.{_≡_, refl, sym, ap, _∙_}
 use native.Mathlib.Omega.{arith}
 use borrow.Author.Needs.{needs}
 use lib.ListN.{length}
@@ -15,10 +15,10 @@ use Rattle.scan.proofs.count_tokens.Statement.{statement}
 use Rattle.scan.proofs.count_tokens.Tie as tie
 
 abbrev Inv-loop : tie.InvT-loop
-Inv-loop image n points roles used table text memo₀ kind₀ count₀ at₀ memo kind count at = Counting image text kind count at × (kind < 4) × MemoOf image memo
+Inv-loop image n points roles used table text turns kinds memo₀ kind₀ count₀ at₀ memo kind count at = Counting image text kind count at × (kind < 4) × MemoOf image memo
 
 abbrev μ-loop : tie.MeasureT-loop
-μ-loop image n points roles used table text memo₀ kind₀ count₀ at₀ memo kind count at = length text - at
+μ-loop image n points roles used table text turns kinds memo₀ kind₀ count₀ at₀ memo kind count at = length text - at
 
 -- the character that was read stands at the place, and its traits are below 16
 turned :
@@ -45,30 +45,30 @@ add-next : tie.Need-add-next Inv-loop μ-loop
 add-next c = let t = turned c in omega arith
 
 find-turn-requires : tie.Need-find-turn-requires Inv-loop μ-loop
-find-turn-requires c κs = (c .before .before .before .before .loop .inv .1, small c)
+find-turn-requires c κs = (refl, (c .before .before .before .before .before .loop .inv .1, small (c .before)))
 
 add-count : tie.Need-add-count Inv-loop μ-loop
-add-count c = let t = turned (c .before .before) in omega (arith, c .if2 .taken, c .before .before .before .before .before .before .loop .inv .0 .few, c .before .before .before .before .before .before .before .before .before .before)
+add-count c = let t = turned (c .before .before .before) in omega (arith, c .if2 .taken, c .before .before .before .before .before .before .before .loop .inv .0 .few, c .before .before .before .before .before .before .before .before .before .before .before)
 
 kind-after-requires : tie.Need-kind-after-requires Inv-loop μ-loop
-kind-after-requires c κs = small (c .before .before)
+kind-after-requires c κs = (refl, small (c .before .before .before .before))
 
 loop-less : tie.Need-loop-less Inv-loop μ-loop
-loop-less c = let t = turned (c .before .before .before) in omega arith
+loop-less c = let t = turned (c .before .before .before .before .before) in omega arith
 
 loop-again : tie.Need-loop-again Inv-loop μ-loop
 loop-again c =
-    (counts-turn _ _ (c .before .before .before .before .before .before .before .before .before .before .before .pre .0 .accepted) _ _ _ _ _ (c .before .before .before .before .before .before .before .loop .inv .0) (turned (c .before .before .before)) _ (c .before .before .find-turn .ensures) (c .before .if2 .taken) _ (c .kind-after .ensures), omega (arith, c .kind-after .ensures, after-less (c .before .before .before .before .before .read .result .traits)), c .before .before .before .before .before .read .ensures .memo)
+    (counts-turn _ _ (c .before .before .before .before .before .before .before .before .before .before .before .before .before .pre .0 .accepted) _ _ _ _ _ (c .before .before .before .before .before .before .before .before .before .loop .inv .0) (turned (c .before .before .before .before .before)) _ (c .before .before .before .find-turn .ensures) (c .before .before .if2 .taken) _ (c .kind-after .ensures), omega (arith, c .kind-after .ensures, after-less (c .before .before .before .before .before .before .before .read .result .traits)), c .before .before .before .before .before .before .before .read .ensures .memo)
 
 goes-on-requires : tie.Need-goes-on-requires Inv-loop μ-loop
 goes-on-requires c κs = search needs
 
 loop-less-2 : tie.Need-loop-less-2 Inv-loop μ-loop
-loop-less-2 c = let t = turned (c .before .before .before .before) in omega arith
+loop-less-2 c = let t = turned (c .before .before .before .before .before) in omega arith
 
 loop-again-2 : tie.Need-loop-again-2 Inv-loop μ-loop
 loop-again-2 c =
-    (counts-more _ _ (c .before .before .before .before .before .before .before .before .before .before .before .before .pre .0 .accepted) _ _ _ _ _ (c .before .before .before .before .before .before .before .before .loop .inv .0) (turned (c .before .before .before .before)) (sym (c .before .goes-on .ensures) ∙ c .if3 .taken), c .before .before .before .before .before .before .before .before .loop .inv .1, c .before .before .before .before .before .before .read .ensures .memo)
+    (counts-more _ _ (c .before .before .before .before .before .before .before .before .before .before .before .before .before .pre .0 .accepted) _ _ _ _ _ (c .before .before .before .before .before .before .before .before .before .loop .inv .0) (turned (c .before .before .before .before .before)) (sym (c .before .goes-on .ensures) ∙ c .if3 .taken), c .before .before .before .before .before .before .before .before .before .loop .inv .1, c .before .before .before .before .before .before .before .read .ensures .memo)
 
 kind-begun-requires : tie.Need-kind-begun-requires Inv-loop μ-loop
 kind-begun-requires c κs = search needs
@@ -79,17 +79,17 @@ refuse-at-requires c κs = search needs
 returns-2 : tie.Need-returns-2 Inv-loop μ-loop
 returns-2 c =
     ap Refused (c .refuse-at .ensures)
-    ∙ counts-stop _ _ (c .before .before .before .before .before .before .before .before .before .before .before .before .before .before .before .pre .0 .accepted) _ _ _ _ _ (c .before .before .before .before .before .before .before .before .before .before .before .loop .inv .0) (turned (c .before .before .before .before .before .before .before)) (sym (c .before .before .before .before .goes-on .ensures) ∙ c .before .before .before .if3 .left) (sym (c .before .before .kind-begun .ensures) ∙ c .before .if4 .taken)
+    ∙ counts-stop _ _ (c .before .before .before .before .before .before .before .before .before .before .before .before .before .before .before .before .pre .0 .accepted) _ _ _ _ _ (c .before .before .before .before .before .before .before .before .before .before .before .before .loop .inv .0) (turned (c .before .before .before .before .before .before .before .before)) (sym (c .before .before .before .before .goes-on .ensures) ∙ c .before .before .before .if3 .left) (sym (c .before .before .kind-begun .ensures) ∙ c .before .if4 .taken)
 
 add-count-2 : tie.Need-add-count-2 Inv-loop μ-loop
-add-count-2 c = let t = turned (c .before .before .before .before .before .before) in omega (arith, c .before .before .before .before .before .before .before .before .before .before .loop .inv .0 .few, c .before .before .before .before .before .before .before .before .before .before .before .before .before .before)
+add-count-2 c = let t = turned (c .before .before .before .before .before .before .before) in omega (arith, c .before .before .before .before .before .before .before .before .before .before .before .loop .inv .0 .few, c .before .before .before .before .before .before .before .before .before .before .before .before .before .before .before)
 
 loop-less-3 : tie.Need-loop-less-3 Inv-loop μ-loop
-loop-less-3 c = let t = turned (c .before .before .before .before .before .before) in omega arith
+loop-less-3 c = let t = turned (c .before .before .before .before .before .before .before) in omega arith
 
 loop-again-3 : tie.Need-loop-again-3 Inv-loop μ-loop
 loop-again-3 c =
-    (counts-begin _ _ (c .before .before .before .before .before .before .before .before .before .before .before .before .before .before .pre .0 .accepted) _ _ _ _ _ (c .before .before .before .before .before .before .before .before .before .before .loop .inv .0) (turned (c .before .before .before .before .before .before)) (sym (c .before .before .before .goes-on .ensures) ∙ c .before .before .if3 .left) _ (c .before .kind-begun .ensures) (c .if4 .left), omega (arith, c .before .kind-begun .ensures, kind-less (c .before .before .before .before .before .before .before .before .read .result .traits)), c .before .before .before .before .before .before .before .before .read .ensures .memo)
+    (counts-begin _ _ (c .before .before .before .before .before .before .before .before .before .before .before .before .before .before .before .pre .0 .accepted) _ _ _ _ _ (c .before .before .before .before .before .before .before .before .before .before .before .loop .inv .0) (turned (c .before .before .before .before .before .before .before)) (sym (c .before .before .before .goes-on .ensures) ∙ c .before .before .if3 .left) _ (c .before .kind-begun .ensures) (c .if4 .left), omega (arith, c .before .kind-begun .ensures, kind-less (c .before .before .before .before .before .before .before .before .before .read .result .traits)), c .before .before .before .before .before .before .before .before .before .read .ensures .memo)
 
 returns-3 : tie.Need-returns-3 Inv-loop μ-loop
 returns-3 c = counts-end _ _ _ _ _ (c .before .loop .inv .0) (c .loop-test .left)
