@@ -135,7 +135,15 @@ pub fn read_decoded<'a>(
     ensures { λ r. ⌜ ReadAs (now (image .entry)) (now (text .entry)) at r ⌝ }
 {
     let packed = utf8::decode_packed(text, at);
-    let m = recall(image, n, points, roles, used, memo, (packed / 8) as u32);
+    let code = (packed / 8) as u32;
+    if is_known(memo, code) {
+        return Character {
+            len: packed % 8,
+            traits: memo.traits,
+            memo,
+        };
+    }
+    let m = search(image, n, points, roles, used, code);
     Character {
         len: packed % 8,
         traits: m.traits,

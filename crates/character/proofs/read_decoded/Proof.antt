@@ -1,7 +1,11 @@
 -- `character::read_decoded` meets its contract: the sequence there, its traits by the memo or a search. Assumes nothing.
-use mathlib.Core.Path.{sym}
+use Prim.Native.Nat.{_/_}
+use mathlib.Core.Path.{sym, _∙_}
 use native.Mathlib.Omega.{arith}
+use lib.Dec.{leb}
 use lib.ListN.{drop, length-drop}
+use borrow.Author.Tests.{leb-true}
+use Rattle.lists.proofs.BoolLaws.{and-left, and-right}
 use Rattle.utf8.proofs.TextLaws.{Unpacked, unpacked}
 use borrow.Author.Needs.{needs}
 use Rattle.character.proofs.read_decoded.Statement.{statement}
@@ -17,18 +21,35 @@ told c =
 decode-packed-requires : tie.Need-decode-packed-requires
 decode-packed-requires c κs = search needs
 
-cast-recall : tie.Need-cast-recall
-cast-recall c = omega (arith, told c .small)
+cast-code : tie.Need-cast-code
+cast-code c = omega (arith, told c .small)
 
-recall-requires : tie.Need-recall-requires
-recall-requires c κs = search needs
+is-known-requires : tie.Need-is-known-requires
+is-known-requires c κs = search needs
 
 returns : tie.Need-returns
 returns c =
-    let t = told (c .before) in
-    let m = c .recall .ensures in
+    let t = told (c .before .before) in
+    let e = sym (c .before .is-known .ensures) ∙ c .if1 .taken in
+    let m = c .before .before .before .before .before .args .memo in
+    let x = c .before .before .decode-packed .result / 8 in
+    let all = c .before .before .before .before .before .pre .1 .0 in
+    record {
+      memo = all;
+      none = t .none;
+      some = λ z. (_, t .some z, sym (all _ (leb-true _ _ (and-left (leb (m .first) x) (leb x (m .last)) e)) (leb-true _ _ (and-right (leb (m .first) x) (leb x (m .last)) e))));
+    }
+
+search-requires : tie.Need-search-requires
+search-requires c κs = search needs
+
+returns-2 : tie.Need-returns-2
+returns-2 c =
+    let t = told (c .before .before .before) in
+    let m = c .search .ensures in
     record { memo = m .all; none = t .none; some = λ z. (_, t .some z, sym (m .all _ (m .from) (m .to))) }
 
 pub read-decoded-spec : {M : Type 1} → statement M
 read-decoded-spec =
-    tie.close (tie.spec decode-packed-requires cast-recall recall-requires returns)
+    tie.close
+    (tie.spec decode-packed-requires cast-code is-known-requires returns search-requires returns-2)
