@@ -1,6 +1,6 @@
 -- What an opened image gives the inner calls, and that a memo and a table hold the traits of their code points.
 -- Assumes nothing.
-use Prim.Native.Nat.{ℕ, _+_, _*_, _%_, _≤_, _<_}
+use Prim.Native.Nat.{ℕ, _+_, _*_, _%_, _≤_, _<_, _/_}
 use mathlib.Core.Path.{_≡_, refl, sym, ap, _∙_}
 use mathlib.Core.Bool.{Bool, true, false}
 use mathlib.Core.List.{List, [], _∷_}
@@ -26,7 +26,9 @@ use Rattle.utf8.specs.Head.{stepOf}
 use Rattle.utf8.proofs.LeadLaws.{ascii}
 use Rattle.character.specs.Traits.{medialPart, traitsOf}
 use Rattle.character.specs.Opened.{Opened}
-use Rattle.character.specs.Read.{MemoOf, MemoAt, Filled}
+use Rattle.utf8.proofs.TextLaws.{Unpacked}
+use Rattle.character.specs.Read.{MemoOf, MemoAt, Filled, Settled, ReadAs}
+use Rattle.character.specs.declared.Character.{Character}
 use Rattle.character.specs.declared.Memo.{Memo}
 
 module _ {s ps rs : List ℕ} {n m : ℕ} (o : Opened s n ps rs m) where
@@ -101,3 +103,14 @@ ascii-at text at h b =
     let l = length-drop at text in
     let z : getD (drop at text) 0 0 ≡ getD text at 0 = getD-drop at text 0 0 ∙ ap (λ (k : ℕ). getD text k 0) (let q : at + 0 ≡ at = omega arith in q) in
     sym (ascii (drop at text) (omega arith) (omega arith)) ∙ ap (λ (x : ℕ). Scalar x 1) z
+
+-- a sequence that was unpacked and settled is the character there
+pub read-settled : (s text : List ℕ) (at d : ℕ) (r : Character) → Unpacked (drop at text) d → Settled s d r → ReadAs s text at r
+read-settled s text at d r u t =
+    record {
+      memo = t .memo;
+      none = λ z. u .none (sym (t .len) ∙ z);
+      some = λ z.
+          let e = t .len in
+          (d / 8, u .some (omega arith) ∙ ap (Scalar (d / 8)) (sym (t .len)), t .traits);
+    }

@@ -1,5 +1,5 @@
 -- The traits of characters without a search for each: a memo, a table for ASCII, and what reading a character gives.
-use Prim.Native.Nat.{ℕ, _≤_, _<_}
+use Prim.Native.Nat.{ℕ, _/_, _%_, _≤_, _<_}
 use mathlib.Core.Path.{_≡_}
 use mathlib.Core.List.{List}
 use lib.ListN.{length, getD, drop}
@@ -27,6 +27,12 @@ pub record Filled (s t : List ℕ) (k : ℕ) : Type 0 where
 -- the table holds the traits of ASCII
 abbrev pub TableOf : List ℕ → List ℕ → Type 0
 TableOf s t = Filled s t 128
+
+-- the character of a packed sequence, 8 times its code point and its length: the length, and the code point's traits
+pub record Settled (s : List ℕ) (packed : ℕ) (r : Character) : Type 0 where
+  pub memo : MemoOf s (r .memo)
+  pub len : r .len ≡ packed % 8
+  pub traits : r .traits ≡ traitsOf s (packed / 8)
 
 -- the character of `text` at a place, under the image s: its length and traits; length 0 where the text is ill-formed
 pub record ReadAs (s text : List ℕ) (at : ℕ) (r : Character) : Type 0 where

@@ -1,13 +1,13 @@
 // The characters of a text with their classes: a table for ASCII, and a memo of the last stretch of code points.
 ghost use mathlib.Core.Path.{_≡_};
 ghost use mathlib.Core.List.{List};
-ghost use Prim.Native.Nat.{ℕ, _+_, _%_, _<_};
+ghost use Prim.Native.Nat.{ℕ, _+_, _/_, _%_, _<_};
 ghost use lib.ListN.{length};
 ghost use mathlib.Core.Bool.{_&&_};
 ghost use lib.Dec.{eqb, leb};
 ghost use Rattle.character.specs.Traits.{medialPart};
 ghost use Rattle.character.specs.Opened.{Opened};
-ghost use Rattle.character.specs.Read.{MemoOf, MemoAt, TableOf, ReadAs};
+ghost use Rattle.character.specs.Read.{MemoOf, MemoAt, TableOf, Settled, ReadAs};
 use image::MAX_ENTRIES;
 
 // Code points from `first` to `last` that have the same traits: the class after the profile, and 8 more for a medial.
@@ -118,6 +118,37 @@ pub fn fill_table<'a>(
     table
 }
 
+// The character of a packed sequence: 8 times its code point, and its length.
+fn settle<'a>(
+    image: &'a [u8],
+    n: usize,
+    points: &'a [u32; MAX_ENTRIES],
+    roles: &'a [u32; MAX_ENTRIES],
+    used: usize,
+    memo: Memo,
+    packed: usize,
+) -> Character
+    requires { ⌜ Opened (now image) n (now points) (now roles) used ⌝ }
+    requires { ⌜ MemoOf (now image) memo ⌝ }
+    requires { ⌜ packed / 8 < 0x110000 ⌝ }
+    ensures { λ r. ⌜ Settled (now (image .entry)) packed r ⌝ }
+{
+    let code = (packed / 8) as u32;
+    if is_known(memo, code) {
+        return Character {
+            len: packed % 8,
+            traits: memo.traits,
+            memo,
+        };
+    }
+    let m = search(image, n, points, roles, used, code);
+    Character {
+        len: packed % 8,
+        traits: m.traits,
+        memo: m,
+    }
+}
+
 // The character of `text` at a place before its end, by decoding it.
 pub fn read_decoded<'a>(
     image: &'a [u8],
@@ -135,20 +166,7 @@ pub fn read_decoded<'a>(
     ensures { λ r. ⌜ ReadAs (now (image .entry)) (now (text .entry)) at r ⌝ }
 {
     let packed = utf8::decode_packed(text, at);
-    let code = (packed / 8) as u32;
-    if is_known(memo, code) {
-        return Character {
-            len: packed % 8,
-            traits: memo.traits,
-            memo,
-        };
-    }
-    let m = search(image, n, points, roles, used, code);
-    Character {
-        len: packed % 8,
-        traits: m.traits,
-        memo: m,
-    }
+    settle(image, n, points, roles, used, memo, packed)
 }
 
 // The character of `text` at a place before its end: ASCII by the table.
@@ -177,5 +195,6 @@ pub fn read<'a>(
             memo,
         };
     }
-    read_decoded(image, n, points, roles, used, memo, text, at)
+    let packed = utf8::decode_packed(text, at);
+    settle(image, n, points, roles, used, memo, packed)
 }

@@ -1,7 +1,8 @@
--- `character::read` meets its contract: a byte below 80 by the table, another sequence by decoding it. Assumes nothing.
+-- `character::read` meets its contract: a byte below 80 by the table, another sequence unpacked and settled. Assumes nothing.
 use native.Mathlib.Omega.{arith}
-use lib.ListN.{getD}
-use Rattle.character.proofs.CharacterLaws.{opened-traits, ascii-at}
+use lib.ListN.{drop, getD, length-drop}
+use Rattle.utf8.proofs.TextLaws.{Unpacked, unpacked}
+use Rattle.character.proofs.CharacterLaws.{opened-traits, ascii-at, read-settled}
 use borrow.Author.Needs.{needs}
 use Rattle.character.proofs.read.Statement.{statement}
 use Rattle.character.proofs.read.Tie as tie
@@ -9,14 +10,26 @@ use Rattle.character.proofs.read.Tie as tie
 shared-slice-read-b : tie.Need-shared-slice-read-b
 shared-slice-read-b c = search needs
 
-cast-t14 : tie.Need-cast-t14
-cast-t14 c = search needs
+cast-t15 : tie.Need-cast-t15
+cast-t15 c = search needs
 
-element-copy-out-t17 : tie.Need-element-copy-out-t17
-element-copy-out-t17 c = search needs
+element-copy-out-t18 : tie.Need-element-copy-out-t18
+element-copy-out-t18 c = search needs
 
-cast-t18 : tie.Need-cast-t18
-cast-t18 c = omega (arith, c .before .before .before .before .before .pre .1 .0 .each _ (c .before .if1 .taken), opened-traits (c .before .before .before .before .before .pre .0) (getD (c .before .before .before .before .before .args .text .now) (c .before .before .before .before .before .args .at) 0))
+cast-t19 : tie.Need-cast-t19
+cast-t19 c =
+    omega (
+      arith,
+      c .before .before .before .before .before .pre .1 .0 .each _ (c .before .if1 .taken),
+      opened-traits (c .before .before .before .before .before .pre .0) (getD (c .before .before .before .before .before .args .text .now) (c .before .before .before .before .before .args .at) 0),
+    )
+
+-- what the packed sequence tells
+told : (c : tie.After-decode-packed) → Unpacked (drop (c .before .before .before .before .before .args .at) (c .before .before .before .before .before .args .text .now)) (c .decode-packed .result)
+told c =
+    let at = c .before .before .before .before .before .args .at in
+    let text = c .before .before .before .before .before .args .text .now in
+    unpacked (drop at text) _ (c .decode-packed .ensures) (let l = length-drop at text in omega (arith, c .before .before .before .before .before .pre .1 .1 .1))
 
 returns : tie.Need-returns
 returns c =
@@ -26,20 +39,24 @@ returns c =
       some = λ l. (_, ascii-at _ _ (c .before .before .before .before .before .pre .1 .1 .1) (c .before .if1 .taken), c .before .before .before .before .before .pre .1 .0 .each _ (c .before .if1 .taken));
     }
 
-read-decoded-requires : tie.Need-read-decoded-requires
-read-decoded-requires c κs = search needs
+decode-packed-requires : tie.Need-decode-packed-requires
+decode-packed-requires c κs = search needs
+
+settle-requires : tie.Need-settle-requires
+settle-requires c κs = (c .before .before .before .before .before .pre .0, (c .before .before .before .before .before .pre .1 .1 .0, omega (arith, told c .small)))
 
 returns-2 : tie.Need-returns-2
-returns-2 c = search needs
+returns-2 c = read-settled _ _ _ _ _ (told (c .before)) (c .settle .ensures)
 
 pub read-spec : {M : Type 1} → statement M
 read-spec =
     tie.close
     (tie.spec
     shared-slice-read-b
-    cast-t14
-    element-copy-out-t17
-    cast-t18
+    cast-t15
+    element-copy-out-t18
+    cast-t19
     returns
-    read-decoded-requires
+    decode-packed-requires
+    settle-requires
     returns-2)
