@@ -169,7 +169,7 @@ fn measure_by(s: &[u8], lead: Lead) -> usize
 }
 
 // The length of the sequence at the head of `s`; 0 where none begins.
-pub fn measure(s: &[u8]) -> usize
+fn measure(s: &[u8]) -> usize
     ensures { λ r. ⌜ r ≡ stepLength (stepOf (now (s .entry))) ⌝ }
 {
     if s.len() == 0 {
@@ -180,7 +180,7 @@ pub fn measure(s: &[u8]) -> usize
 }
 
 // The code point of the sequence at the head of `s`, whose length is `len`.
-pub fn code_point(s: &[u8], len: usize) -> u32
+fn code_point(s: &[u8], len: usize) -> u32
     requires { ⌜ (0 < len) × (len ≡ stepLength (stepOf (now s))) ⌝ }
     ensures { λ r. ⌜ Step.Scalar r len ≡ stepOf (now (s .entry)) ⌝ }
 {
@@ -232,7 +232,7 @@ pub fn check_text(s: &[u8]) -> Text
             at += 1;
             continue;
         }
-        let len = measure(&s[at..]);
+        let len = decode_packed(s, at) % 8;
         if len == 0 {
             return Text::IllFormed(at);
         }

@@ -1,15 +1,12 @@
 -- `utf8::check_text` meets its contract: what is said of the rest of the text, moved by the place reached, is said of the whole.
 -- Assumes nothing.
-use Prim.Native.Nat.{_≤_, _-_}
-use mathlib.Core.Path.{_≡_, sym, ap, _∙_}
+use Prim.Native.Nat.{ℕ, _≤_, _-_, _%_}
+use mathlib.Core.Path.{_≡_, sym, _∙_}
 use native.Mathlib.Omega.{arith}
 use borrow.Author.Needs.{needs}
 use lib.ListN.{length, drop, length-drop}
-use Rattle.lists.proofs.LaidLaws.{rest}
-use Rattle.utf8.specs.Head.{stepOf}
-use Rattle.utf8.specs.Lead.{stepLength}
 use Rattle.utf8.specs.Text.{textOf}
-use Rattle.utf8.proofs.TextLaws.{shift, shift-zero, Turn, turn, found-step, none-measured, ascii-turn, ill-here, end-here}
+use Rattle.utf8.proofs.TextLaws.{shift, shift-zero, Turn, turn, Unpacked, unpacked, ascii-turn, ill-here, end-here}
 use Rattle.utf8.proofs.check_text.Statement.{statement}
 use Rattle.utf8.proofs.check_text.Tie as tie
 
@@ -19,18 +16,20 @@ Inv-loop s at₀ at = (at ≤ length s) × (shift at (textOf (drop at s)) ≡ te
 abbrev μ-loop : tie.MeasureT-loop
 μ-loop s at₀ at = length s - at
 
--- the length that was measured at the place reached
+-- what the packed sequence at the place reached tells
 stands :
-    (c : tie.After-measure Inv-loop μ-loop)
-    → c .measure .result ≡ stepLength (stepOf (drop (c .before .before .before .before .before .loop .at) (c .before .before .before .before .before .before .before .args .s .now)))
-stands c = c .measure .ensures ∙ ap (λ l. stepLength (stepOf l)) (rest (c .before .before .before .before .before .before .before .args .s .now) (c .before .before .before .before .before .loop .at))
+    (c : tie.After-decode-packed Inv-loop μ-loop)
+    → Unpacked (drop (c .before .before .before .before .loop .at) (c .before .before .before .before .before .before .args .s .now)) (c .decode-packed .result)
+stands c =
+    let s = c .before .before .before .before .before .before .args .s .now in
+    let at = c .before .before .before .before .loop .at in
+    unpacked (drop at s) _ (c .decode-packed .ensures) (let l = length-drop at s in omega (arith, c .before .before .before .loop-test .taken))
 
-moves : (c : tie.Else2 Inv-loop μ-loop) → Turn (c .before .before .before .before .before .before .before .before .args .s .now) (c .before .before .before .before .before .before .loop .at) (c .before .measure .result)
+moves : (c : tie.Else2 Inv-loop μ-loop) → Turn (c .before .before .before .before .before .before .before .args .s .now) (c .before .before .before .before .before .loop .at) (c .before .decode-packed .result % 8)
 moves c =
-    let s = c .before .before .before .before .before .before .before .before .args .s .now in
-    let at = c .before .before .before .before .before .before .loop .at in
-    let e = found-step (drop at s) (c .before .measure .result) (stands (c .before)) (c .if2 .left) in
-    turn s at (e .0) _ (c .before .before .before .before .before .before .loop .inv .0) (e .1)
+    let s = c .before .before .before .before .before .before .before .args .s .now in
+    let at = c .before .before .before .before .before .loop .at in
+    turn s at _ _ (c .before .before .before .before .before .loop .inv .0) (stands (c .before) .some (omega (arith, c .if2 .left)))
 
 loop-holds : tie.Need-loop-holds Inv-loop μ-loop
 loop-holds c = (omega arith, shift-zero _)
@@ -49,24 +48,11 @@ loop-again c =
     let t = ascii-turn _ _ (c .before .before .loop-test .taken) (c .if1 .taken) in
     (t .within, sym (t .same) ∙ c .before .before .before .loop .inv .1)
 
-sub-measure : tie.Need-sub-measure Inv-loop μ-loop
-sub-measure c = search needs
-
-part-measure-start : tie.Need-part-measure-start Inv-loop μ-loop
-part-measure-start c = search needs
-
-part-measure-end : tie.Need-part-measure-end Inv-loop μ-loop
-part-measure-end c = search needs
-
-measure-requires : tie.Need-measure-requires Inv-loop μ-loop
-measure-requires c κs = search needs
+decode-packed-requires : tie.Need-decode-packed-requires Inv-loop μ-loop
+decode-packed-requires c κs = search needs
 
 returns : tie.Need-returns Inv-loop μ-loop
-returns c =
-    let s = c .before .before .before .before .before .before .before .before .args .s .now in
-    let at = c .before .before .before .before .before .before .loop .at in
-    let l = length-drop at s in
-    sym (ill-here s at (sym (none-measured (drop at s) (omega (arith, c .before .before .before .before .before .loop-test .taken)) (sym (c .if2 .taken) ∙ stands (c .before))))) ∙ c .before .before .before .before .before .before .loop .inv .1
+returns c = sym (ill-here _ _ (stands (c .before) .none (c .if2 .taken))) ∙ c .before .before .before .before .before .loop .inv .1
 
 add-at-2 : tie.Need-add-at-2 Inv-loop μ-loop
 add-at-2 c = let t = moves c in omega arith
@@ -75,7 +61,7 @@ loop-less-2 : tie.Need-loop-less-2 Inv-loop μ-loop
 loop-less-2 c = let t = moves c in omega arith
 
 loop-again-2 : tie.Need-loop-again-2 Inv-loop μ-loop
-loop-again-2 c = let t = moves c in (t .within, sym (t .same) ∙ c .before .before .before .before .before .before .loop .inv .1)
+loop-again-2 c = let t = moves c in (t .within, sym (t .same) ∙ c .before .before .before .before .before .loop .inv .1)
 
 returns-2 : tie.Need-returns-2 Inv-loop μ-loop
 returns-2 c = sym (end-here (c .before .before .before .args .s .now) (c .before .loop .at) (omega arith)) ∙ c .before .loop .inv .1
@@ -91,10 +77,7 @@ check-text-spec =
     add-at
     loop-less
     loop-again
-    sub-measure
-    part-measure-start
-    part-measure-end
-    measure-requires
+    decode-packed-requires
     returns
     add-at-2
     loop-less-2
