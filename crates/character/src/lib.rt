@@ -13,13 +13,13 @@ use image::MAX_ENTRIES;
 pub struct Memo {
     pub first: u32,
     pub last: u32,
-    pub traits: u8,
+    pub traits: u32,
 }
 
 // The character at a place: its length in bytes, its traits, and the memo for the next one. Length 0: ill-formed.
 pub struct Character {
     pub len: usize,
-    pub traits: u8,
+    pub traits: u32,
     pub memo: Memo,
 }
 
@@ -35,13 +35,13 @@ pub fn no_memo() -> Memo
 }
 
 // The traits of a code point with a role and a class after it.
-fn join_traits(role: u32, class: u32) -> u8
+fn join_traits(role: u32, class: u32) -> u32
     ensures { λ r. ⌜ r ≡ class % 8 + medialPart (eqb role 3) ⌝ }
 {
     if role == 3 {
-        return (class % 8) as u8 + 8;
+        return class % 8 + 8;
     }
-    (class % 8) as u8
+    class % 8
 }
 
 // The code points around `x` that have the traits of `x`, by a search in the image.
@@ -95,11 +95,11 @@ pub fn fill_table<'a>(
     points: &'a [u32; MAX_ENTRIES],
     roles: &'a [u32; MAX_ENTRIES],
     used: usize,
-) -> [u8; 128]
+) -> [u32; 128]
     requires { ⌜ Opened (now image) n (now points) (now roles) used ⌝ }
     ensures { λ r. ⌜ TableOf (now (image .entry)) r ⌝ }
 {
-    let mut table = [0u8; 128];
+    let mut table = [0u32; 128];
     let mut memo = no_memo();
     let mut i = 0;
     while i < 128 {
@@ -151,7 +151,7 @@ pub fn read<'a>(
     points: &'a [u32; MAX_ENTRIES],
     roles: &'a [u32; MAX_ENTRIES],
     used: usize,
-    table: &'a [u8; 128],
+    table: &'a [u32; 128],
     memo: Memo,
     text: &'a [u8],
     at: usize,

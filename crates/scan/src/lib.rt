@@ -41,7 +41,7 @@ pub enum First {
 }
 
 // Whether a character is Continue.
-fn is_continue(traits: u8) -> bool
+fn is_continue(traits: u32) -> bool
     ensures { λ r. ⌜ r ≡ continueIn traits ⌝ }
 {
     let class = traits % 8;
@@ -52,7 +52,7 @@ fn is_continue(traits: u8) -> bool
 }
 
 // The kind of token that a character begins, or 0.
-fn kind_begun(traits: u8) -> u32
+fn kind_begun(traits: u32) -> u32
     ensures { λ r. ⌜ r ≡ kindFor traits ⌝ }
 {
     let class = traits % 8;
@@ -96,7 +96,7 @@ fn continues_at<'a>(
 // Whether a token of this kind goes on with a character of these traits, before the place `next`.
 fn goes_on<'a>(
     kind: u32,
-    traits: u8,
+    traits: u32,
     image: &'a [u8],
     n: usize,
     points: &'a [u32; MAX_ENTRIES],
@@ -144,7 +144,7 @@ pub fn count_tokens<'a>(
     points: &'a [u32; MAX_ENTRIES],
     roles: &'a [u32; MAX_ENTRIES],
     used: usize,
-    table: &'a [u8; 128],
+    table: &'a [u32; 128],
     text: &'a [u8],
 ) -> Counted
     requires { ⌜ Opened (now image) n (now points) (now roles) used ⌝ }
@@ -211,7 +211,7 @@ pub fn write_tokens<'a>(
     points: &'a [u32; MAX_ENTRIES],
     roles: &'a [u32; MAX_ENTRIES],
     used: usize,
-    table: &'a [u8; 128],
+    table: &'a [u32; 128],
     text: &'a [u8],
     out: &mut [u32],
 )
@@ -267,7 +267,7 @@ fn find_end<'a>(
     points: &'a [u32; MAX_ENTRIES],
     roles: &'a [u32; MAX_ENTRIES],
     used: usize,
-    table: &'a [u8; 128],
+    table: &'a [u32; 128],
     text: &'a [u8],
     kind: u32,
     from: usize,
@@ -313,7 +313,7 @@ pub fn first_token<'a>(
     points: &'a [u32; MAX_ENTRIES],
     roles: &'a [u32; MAX_ENTRIES],
     used: usize,
-    table: &'a [u8; 128],
+    table: &'a [u32; 128],
     text: &'a [u8],
 ) -> First
     requires { ⌜ Opened (now image) n (now points) (now roles) used ⌝ }

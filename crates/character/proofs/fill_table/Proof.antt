@@ -29,6 +29,9 @@ cast-recall c = omega arith
 recall-requires : tie.Need-recall-requires Inv-loop μ-loop
 recall-requires c κs = (c .before .before .before .before .pre, c .before .loop .inv .2)
 
+mul-table : tie.Need-mul-table Inv-loop μ-loop
+mul-table c = omega arith
+
 array-write-table : tie.Need-array-write-table Inv-loop μ-loop
 array-write-table c = c .before .loop-test .taken
 
@@ -61,6 +64,7 @@ fill-table-spec =
     loop-holds
     cast-recall
     recall-requires
+    mul-table
     array-write-table
     add-i
     loop-less

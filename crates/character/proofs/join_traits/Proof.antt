@@ -6,20 +6,14 @@ use borrow.Author.Needs.{needs}
 use Rattle.character.proofs.join_traits.Statement.{statement}
 use Rattle.character.proofs.join_traits.Tie as tie
 
-cast-result : tie.Need-cast-result
-cast-result c = search needs
-
 add-result : tie.Need-add-result
 add-result c = search needs
 
 returns : tie.Need-returns
 returns c = simp (eq-eqb _ _ (c .if1 .taken))
 
-cast-result-2 : tie.Need-cast-result-2
-cast-result-2 c = search needs
-
 returns-2 : tie.Need-returns-2
 returns-2 c = simp (ne-eqb _ _ (c .if1 .left), add-zero)
 
 pub join-traits-spec : {M : Type 1} → statement M
-join-traits-spec = tie.close (tie.spec cast-result add-result returns cast-result-2 returns-2)
+join-traits-spec = tie.close (tie.spec add-result returns returns-2)

@@ -11,8 +11,11 @@ shared-slice-read-b c = search needs
 cast-t14 : tie.Need-cast-t14
 cast-t14 c = search needs
 
-element-copy-out-t17 : tie.Need-element-copy-out-t17
-element-copy-out-t17 c = search needs
+mul-t15 : tie.Need-mul-t15
+mul-t15 c = search needs
+
+element-copy-out-t18 : tie.Need-element-copy-out-t18
+element-copy-out-t18 c = search needs
 
 returns : tie.Need-returns
 returns c =
@@ -34,7 +37,8 @@ read-spec =
     (tie.spec
     shared-slice-read-b
     cast-t14
-    element-copy-out-t17
+    mul-t15
+    element-copy-out-t18
     returns
     read-decoded-requires
     returns-2)
