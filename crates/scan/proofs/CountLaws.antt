@@ -1,5 +1,5 @@
 -- Counting in one pass: what was counted and what the rest gives are the whole, character by character. Assumes nothing.
-use Prim.Native.Nat.{ℕ, zero, suc, _+_, _≤_, _<_}
+use Prim.Native.Nat.{ℕ, _+_, _≤_}
 use mathlib.Core.Path.{_≡_, refl, sym, ap, _∙_}
 use mathlib.Core.Bool.{true, false}
 use mathlib.Core.List.{List, [], _∷_}
@@ -15,16 +15,16 @@ use Rattle.utf8.specs.Head.{stepOf}
 use Rattle.utf8.specs.Text.{Character, decode, widthOf, textBy, textOf}
 use Rattle.utf8.proofs.TextLaws.{shift, shift-zero, ill-here, end-here, covers}
 use Rattle.image.specs.Check.{refusalOf}
-use Rattle.division.specs.Scan.{Tok, Reading, grown, opened, stopped}
+use Rattle.division.specs.Scan.{Tok, Reading}
 use Rattle.division.specs.Grammar.{Kind}
-use Rattle.division.specs.Outcome.{Outcome, given, refused, unless, outcomeMap}
+use Rattle.division.specs.Outcome.{Outcome, refused, unless, outcomeMap}
 use Rattle.division.specs.Record.{tokensWidth}
 use Rattle.division.specs.Reading.{readingOf, formRefusalBy, judged}
 use Rattle.scan.specs.declared.Counted.the-variants.{Refused, Tokens}
 use Rattle.scan.specs.Traits.{kindFor, goesOn}
 use Rattle.scan.specs.Rest.{restOf, continuesAt}
 use Rattle.scan.specs.Counted.{countedBy, readThrough, countThrough, stopRefusal}
-use Rattle.scan.proofs.RestLaws.{charactersAt, Turn, reading-run, rest-begins, rest-none, at-end, rest-more, rest-stop, Begins, rest-begin}
+use Rattle.scan.proofs.RestLaws.{charactersAt, Turn, reading-run, rest-begins, rest-none, at-end, rest-more, rest-stop, rest-begin}
 
 -- the bytes of a token's rest and of the tokens after it
 abbrev pub spanOf : Reading Character Kind → ℕ

@@ -1,10 +1,10 @@
 -- Writing tokens in one pass: with the words of the rest laid after those written, the buffer is the whole list's. Assumes nothing.
-use Prim.Native.Nat.{ℕ, zero, suc, _+_, _-_, _*_, _≤_, _<_}
+use Prim.Native.Nat.{ℕ, zero, suc, _+_, _-_, _*_, _≤_}
 use mathlib.Core.Path.{_≡_, refl, sym, ap, _∙_}
 use mathlib.Core.Bool.{true, false}
-use mathlib.Core.List.{List, [], _∷_, _++_, append-assoc, append-nil}
+use mathlib.Core.List.{List, [], _∷_, _++_, append-nil}
 use mathlib.Core.Option.{none}
-use native.Mathlib.Nat.{add-assoc, add-zero, zero-add}
+use native.Mathlib.Nat.{add-assoc, add-zero}
 use native.Mathlib.Omega.{arith}
 use lib.ListN.{length, take, drop, set, length-append, length-take, length-drop}
 use borrow.Rule.Slice.PartMut.{putMid}
@@ -21,7 +21,7 @@ use Rattle.division.proofs.RecordLaws.{length-listed}
 use Rattle.scan.specs.Traits.{kindFor, goesOn}
 use Rattle.scan.specs.Rest.{restOf, continuesAt}
 use Rattle.scan.specs.Words.{tokenWords, wordsFrom}
-use Rattle.scan.proofs.RestLaws.{NoCharacter, Turn, reading-run, rest-begins, rest-none, rest-more, rest-stop, Begins, rest-begin}
+use Rattle.scan.proofs.RestLaws.{NoCharacter, Turn, reading-run, rest-begins, rest-none, rest-more, rest-stop, rest-begin}
 
 -- the words from a place on, for each turn of the reading
 module _ (kind start at : ℕ) where

@@ -1,7 +1,7 @@
 -- The rules of tokens on numbers: a kind or 0 for none, and the traits of a character (document 01, "Tokens").
 -- `proofs/TraitLaws.antt` joins them to the rules of `division`.
 use Prim.Native.Nat.{ℕ, zero, suc, _%_}
-use mathlib.Core.Bool.{Bool, true, false, _&&_, _||_}
+use mathlib.Core.Bool.{Bool, false, _&&_, _||_}
 use mathlib.Core.Option.{Option, none, some}
 use lib.Dec.{leb}
 use Rattle.image.specs.Class.{Class, classNamed}

@@ -1,7 +1,7 @@
 -- `scan::count_tokens` meets its contract. The loop's invariant: what was counted and the reading of the rest are the whole.
 -- Assumes nothing.
-use Prim.Native.Nat.{ℕ, _-_}
-use mathlib.Core.Path.{_≡_, sym, ap, _∙_}
+use Prim.Native.Nat.{_-_}
+use mathlib.Core.Path.{sym, ap, _∙_}
 use native.Mathlib.Omega.{arith}
 use borrow.Author.Needs.{needs}
 use lib.ListN.{length}
@@ -11,13 +11,6 @@ use Rattle.scan.proofs.RestLaws.{Turn, turn}
 use Rattle.scan.proofs.CountLaws.{Counting, counting-begins, counts-more, counts-begin, counts-stop, counts-ill, counts-end}
 use Rattle.scan.proofs.count_tokens.Statement.{statement}
 use Rattle.scan.proofs.count_tokens.Tie as tie
-use Rattle.scan.proofs.count_tokens.Reads as reads
-use Rattle.scan.proofs.count_tokens.Lts as lts
-use Rattle.character.proofs.no_memo.Reads as no-memo-reads
-use Rattle.character.proofs.read.Reads as read-reads
-use Rattle.scan.proofs.goes_on.Reads as goes-on-reads
-use Rattle.scan.proofs.kind_begun.Reads as kind-begun-reads
-use Rattle.scan.proofs.refuse_at.Reads as refuse-at-reads
 
 abbrev Inv-loop : tie.InvT-loop
 Inv-loop image n points roles used table text memo₀ kind₀ count₀ at₀ memo kind count at = Counting image text kind count at × MemoOf image memo
@@ -25,7 +18,6 @@ Inv-loop image n points roles used table text memo₀ kind₀ count₀ at₀ mem
 abbrev μ-loop : tie.MeasureT-loop
 μ-loop image n points roles used table text memo₀ kind₀ count₀ at₀ memo kind count at = length text - at
 
--- src/lib.rt:150:9
 -- the character that was read stands at the place
 turned :
     (c : tie.After-memo Inv-loop μ-loop)
@@ -35,62 +27,48 @@ turned c = turn _ _ _ _ (c .before .before .before .loop-test .taken) (c .before
 no-memo-requires : tie.Need-no-memo-requires Inv-loop μ-loop
 no-memo-requires c κs = search needs
 
--- src/lib.rt:154:5
 loop-holds : tie.Need-loop-holds Inv-loop μ-loop
 loop-holds c = (counting-begins _ _, c .no-memo .ensures _)
 
--- src/lib.rt:155:13
 read-requires : tie.Need-read-requires Inv-loop μ-loop
 read-requires c κs = (c .before .before .before .before .before .pre .0, (c .before .before .before .before .before .pre .1, (c .before .loop .inv .1, c .loop-test .taken)))
 
--- src/lib.rt:158:13
 returns : tie.Need-returns Inv-loop μ-loop
 returns c = counts-ill _ _ _ _ _ (c .before .before .before .loop .inv .0) (c .before .read .ensures .none (c .if1 .taken))
 
--- src/lib.rt:161:20
 add-next : tie.Need-add-next Inv-loop μ-loop
 add-next c = let t = turned c in omega arith
 
--- src/lib.rt:162:12
 goes-on-requires : tie.Need-goes-on-requires Inv-loop μ-loop
 goes-on-requires c κs = search needs
 
--- src/lib.rt:154:5
 loop-less : tie.Need-loop-less Inv-loop μ-loop
 loop-less c = let t = turned (c .before .before) in omega arith
 
--- src/lib.rt:154:5
 loop-again : tie.Need-loop-again Inv-loop μ-loop
 loop-again c = (counts-more _ _ (c .before .before .before .before .before .before .before .before .before .before .pre .0 .accepted) _ _ _ _ _ (c .before .before .before .before .before .before .loop .inv .0) (turned (c .before .before)) (sym (c .before .goes-on .ensures) ∙ c .if2 .taken), c .before .before .before .before .read .ensures .memo)
 
--- src/lib.rt:178:9
 kind-begun-requires : tie.Need-kind-begun-requires Inv-loop μ-loop
 kind-begun-requires c κs = search needs
 
--- src/lib.rt:180:37
 refuse-at-requires : tie.Need-refuse-at-requires Inv-loop μ-loop
 refuse-at-requires c κs = search needs
 
--- src/lib.rt:180:13
 returns-2 : tie.Need-returns-2 Inv-loop μ-loop
 returns-2 c =
     ap Refused (c .refuse-at .ensures)
     ∙ counts-stop _ _ (c .before .before .before .before .before .before .before .before .before .before .before .before .before .pre .0 .accepted) _ _ _ _ _ (c .before .before .before .before .before .before .before .before .before .loop .inv .0) (turned (c .before .before .before .before .before)) (sym (c .before .before .before .before .goes-on .ensures) ∙ c .before .before .before .if2 .left) (sym (c .before .before .kind-begun .ensures) ∙ c .before .if3 .taken)
 
--- src/lib.rt:182:9
 add-count : tie.Need-add-count Inv-loop μ-loop
 add-count c = let t = turned (c .before .before .before .before) in omega (arith, c .before .before .before .before .before .before .before .before .loop .inv .0 .few, c .before .before .before .before .before .before .before .before .before .before .before .before)
 
--- src/lib.rt:154:5
 loop-less-2 : tie.Need-loop-less-2 Inv-loop μ-loop
 loop-less-2 c = let t = turned (c .before .before .before .before) in omega arith
 
--- src/lib.rt:154:5
 loop-again-2 : tie.Need-loop-again-2 Inv-loop μ-loop
 loop-again-2 c =
     (counts-begin _ _ (c .before .before .before .before .before .before .before .before .before .before .before .before .pre .0 .accepted) _ _ _ _ _ (c .before .before .before .before .before .before .before .before .loop .inv .0) (turned (c .before .before .before .before)) (sym (c .before .before .before .goes-on .ensures) ∙ c .before .before .if2 .left) _ (c .before .kind-begun .ensures) (c .if3 .left), c .before .before .before .before .before .before .read .ensures .memo)
 
--- src/lib.rt:137:1
 returns-3 : tie.Need-returns-3 Inv-loop μ-loop
 returns-3 c = counts-end _ _ _ _ _ (c .before .loop .inv .0) (c .loop-test .left)
 

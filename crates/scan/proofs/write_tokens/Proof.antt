@@ -1,6 +1,6 @@
 -- `scan::write_tokens` meets its contract. The loop's invariant: with the words of the rest laid after those written, the buffer is the whole list's.
 -- Assumes nothing.
-use Prim.Native.Nat.{ℕ, _+_, _-_}
+use Prim.Native.Nat.{_+_, _-_}
 use mathlib.Core.Bool.{false}
 use mathlib.Core.Path.{_≡_, sym, ap, _∙_}
 use mathlib.Core.Logic.{⊎-elim}
