@@ -89,7 +89,7 @@ pub fn check(image: &[u8]) -> Option<usize> {
     for entry in image[entries..].chunks_exact(8) {
         let (point, role) = (word(entry, 0), word(entry, 4));
         let scalar = char::from_u32(point).is_some();
-        if !scalar || !(1..=4).contains(&role) || point_before.is_some_and(|p| p >= point) {
+        if !scalar || !(1..=4).contains(&role) || point_before.map_or(false, |p| p >= point) {
             return None;
         }
         point_before = Some(point);

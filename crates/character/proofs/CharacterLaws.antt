@@ -2,7 +2,7 @@
 -- Assumes nothing.
 use Prim.Native.Nat.{ℕ, _+_, _*_, _%_, _≤_, _<_}
 use mathlib.Core.Path.{_≡_, refl, sym, ap, _∙_}
-use mathlib.Core.Bool.{Bool}
+use mathlib.Core.Bool.{Bool, true, false}
 use mathlib.Core.List.{List, [], _∷_}
 use mathlib.Core.Option.{none}
 use native.Mathlib.Omega.{arith}
@@ -44,6 +44,14 @@ module _ {s ps rs : List ℕ} {n m : ℕ} (o : Opened s n ps rs m) where
   pub opened-used : m ≤ 64
   unfolding profileOf
   opened-used = let a = accepted s (o .accepted) in let h = a .header .few-entries in let u = o .used in omega arith
+
+  pub opened-traits : (x : ℕ) → traitsOf s x ≤ 13
+  unfolding traitsOf
+  opened-traits x = go (medialOf s x)
+    where
+      go : (m : Bool) → classOf s x + medialPart m ≤ 13
+      go true = omega (arith, class-of-known s x (o .accepted))
+      go false = omega (arith, class-of-known s x (o .accepted))
 
   module _ (x : ℕ) (t : Stretch) (r : Reach) (a : StretchOf (rangeAt s) n x t) (b : ReachOf (profileBy ps rs m) x t r) where
     role-at : (y : ℕ) → r .first ≤ y → y ≤ r .last → roleOf (profileOf s) y ≡ r .role

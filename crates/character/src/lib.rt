@@ -3,7 +3,8 @@ ghost use mathlib.Core.Path.{_≡_};
 ghost use mathlib.Core.List.{List};
 ghost use Prim.Native.Nat.{ℕ, _+_, _%_, _<_};
 ghost use lib.ListN.{length};
-ghost use lib.Dec.{eqb};
+ghost use mathlib.Core.Bool.{_&&_};
+ghost use lib.Dec.{eqb, leb};
 ghost use Rattle.character.specs.Traits.{medialPart};
 ghost use Rattle.character.specs.Opened.{Opened};
 ghost use Rattle.character.specs.Read.{MemoOf, MemoAt, TableOf, ReadAs};
@@ -65,6 +66,16 @@ fn search<'a>(
     }
 }
 
+// Whether `x` is in the memo.
+fn is_known(memo: Memo, x: u32) -> bool
+    ensures { λ r. ⌜ r ≡ (leb (memo .first) x && leb x (memo .last)) ⌝ }
+{
+    if x < memo.first {
+        return false;
+    }
+    x <= memo.last
+}
+
 // The memo, if `x` is in it; else a search.
 fn recall<'a>(
     image: &'a [u8],
@@ -79,13 +90,10 @@ fn recall<'a>(
     requires { ⌜ MemoOf (now image) memo ⌝ }
     ensures { λ r. ⌜ MemoAt (now (image .entry)) x r ⌝ }
 {
-    if x < memo.first {
-        return search(image, n, points, roles, used, x);
+    if is_known(memo, x) {
+        return memo;
     }
-    if memo.last < x {
-        return search(image, n, points, roles, used, x);
-    }
-    memo
+    search(image, n, points, roles, used, x)
 }
 
 // The traits of the ASCII code points.
@@ -95,16 +103,16 @@ pub fn fill_table<'a>(
     points: &'a [u32; MAX_ENTRIES],
     roles: &'a [u32; MAX_ENTRIES],
     used: usize,
-) -> [u32; 128]
+) -> [u8; 128]
     requires { ⌜ Opened (now image) n (now points) (now roles) used ⌝ }
     ensures { λ r. ⌜ TableOf (now (image .entry)) r ⌝ }
 {
-    let mut table = [0u32; 128];
+    let mut table = [0u8; 128];
     let mut memo = no_memo();
     let mut i = 0;
     while i < 128 {
         memo = recall(image, n, points, roles, used, memo, i as u32);
-        table[i] = memo.traits;
+        table[i] = memo.traits as u8;
         i += 1;
     }
     table
@@ -126,19 +134,18 @@ pub fn read_decoded<'a>(
     requires { ⌜ at < length (now text) ⌝ }
     ensures { λ r. ⌜ ReadAs (now (image .entry)) (now (text .entry)) at r ⌝ }
 {
-    let part = &text[at..];
-    let len = utf8::measure(part);
-    if len == 0 {
+    let packed = utf8::decode_packed(text, at);
+    let code = (packed / 8) as u32;
+    if is_known(memo, code) {
         return Character {
-            len: 0,
-            traits: 0,
+            len: packed % 8,
+            traits: memo.traits,
             memo,
         };
     }
-    let code = utf8::code_point(part, len);
-    let m = recall(image, n, points, roles, used, memo, code);
+    let m = search(image, n, points, roles, used, code);
     Character {
-        len,
+        len: packed % 8,
         traits: m.traits,
         memo: m,
     }
@@ -151,7 +158,7 @@ pub fn read<'a>(
     points: &'a [u32; MAX_ENTRIES],
     roles: &'a [u32; MAX_ENTRIES],
     used: usize,
-    table: &'a [u32; 128],
+    table: &'a [u8; 128],
     memo: Memo,
     text: &'a [u8],
     at: usize,
@@ -166,7 +173,7 @@ pub fn read<'a>(
     if b < 0x80 {
         return Character {
             len: 1,
-            traits: table[b as usize],
+            traits: table[b as usize] as u32,
             memo,
         };
     }

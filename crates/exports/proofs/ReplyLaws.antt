@@ -1,9 +1,10 @@
--- A reply of equal answers is the same; a refusal carries at most one number. Assumes nothing.
-use Prim.Native.Nat.{ℕ}
+-- A reply of equal answers is the same, and a result tells whether the answer is a refusal. Assumes nothing.
+use Prim.Native.Nat.{ℕ, _≤_}
 use mathlib.Core.Path.{_≡_, refl, subst, sym, ap}
 use mathlib.Core.List.{List, [], _∷_}
+use native.Mathlib.Omega.{arith}
 use lib.ListN.{getD}
-use Rattle.refusal.specs.Refusal.{carriedBy}
+use Rattle.refusal.specs.Refusal.{numberOf, carriedBy}
 use Rattle.refusal.specs.declared.Refusal.{Refusal}
 use Rattle.refusal.specs.declared.Refusal.the-variants.{
   Length,
@@ -24,26 +25,31 @@ use Rattle.image.specs.declared.Answer.{Answer}
 use Rattle.image.specs.declared.Answer.the-variants as answer
 use Rattle.image.specs.declared.Checked.{Checked}
 use Rattle.exports.specs.Reply.{Reply, Tells, refuses}
+use Rattle.exports.specs.TokenReply.{done}
 use Rattle.exports.specs.ImageReply.{checkedBy, arrayBy, TellsChecked}
 
 pub told : {T : Type 0} (reply : T → Reply) {x y : T} {n : ℕ} {a : List ℕ} → x ≡ y → Tells (reply y) n a → Tells (reply x) n a
 told reply {n = n} {a} e h = subst (λ z. Tells (reply z) n a) (sym e) h
 
--- a refusal carries at most one number
-pub one-carried : (r : Refusal) → 0 ≡ getD (carriedBy r) 1 0
-one-carried Length = refl
-one-carried Header = refl
-one-carried (Range i) = refl
-one-carried (Entry i) = refl
-one-carried TextLength = refl
-one-carried (IllFormed p) = refl
-one-carried (Characters p) = refl
-one-carried (Room n) = refl
-one-carried (NotScalar x) = refl
-one-carried (Change x) = refl
-one-carried Profiles = refl
-one-carried (Buffer n) = refl
-one-carried Shape = refl
+-- a refusal carries at most one number, and has a number of 1 to 13
+pub known : (r : Refusal) → (0 ≡ getD (carriedBy r) 1 0) × (1 ≤ numberOf r) × (numberOf r ≤ 13)
+known Length = (refl, omega arith, omega arith)
+known Header = (refl, omega arith, omega arith)
+known (Range i) = (refl, omega arith, omega arith)
+known (Entry i) = (refl, omega arith, omega arith)
+known TextLength = (refl, omega arith, omega arith)
+known (IllFormed p) = (refl, omega arith, omega arith)
+known (Characters p) = (refl, omega arith, omega arith)
+known (Room n) = (refl, omega arith, omega arith)
+known (NotScalar x) = (refl, omega arith, omega arith)
+known (Change x) = (refl, omega arith, omega arith)
+known Profiles = (refl, omega arith, omega arith)
+known (Buffer n) = (refl, omega arith, omega arith)
+known Shape = (refl, omega arith, omega arith)
+
+-- so the result tells a refusal from the other answers
+pub apart : (r : Refusal) → (numberOf r ≡ 0 → ⊥) × (numberOf r ≡ done → ⊥)
+apart r = (λ e. omega (arith, known r), λ e. omega (arith, known r))
 
 -- what a check or a read gave, told
 module _ (k : Checked) {ps rs a : List ℕ} where

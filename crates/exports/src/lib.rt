@@ -1,21 +1,22 @@
 // The functions of the static library, for callers in C and Rust: numbers, slices and arrays of a fixed length only.
 // The result is 0 where the call gives no refusal, else the refusal's number. The values of the answer, or what the
-// refusal carries, go into `answer`, with zeros past them.
+// refusal carries, go into `answer`, with zeros past them. A function whose name ends in `_checked` is given an image
+// that was checked, with what its check gave: number of ranges, profile, number of profile entries.
 ghost use mathlib.Core.Path.{_≡_};
 ghost use mathlib.Core.List.{[], _∷_};
 ghost use lib.ListN.{length, getD};
 ghost use Rattle.image.specs.Profile.{profileBy};
 ghost use Rattle.image.specs.Check.{checkOf, readOf, wordsAfter};
-ghost use Rattle.character.specs.Opened.{Opened};
-ghost use Rattle.pair.specs.Pair.{pairOf};
-ghost use Rattle.lookup.specs.Lookup.{lookupOf};
 ghost use Rattle.writer.specs.Write.{writeOf, bytesAfter};
-ghost use Rattle.exports.specs.Reply.{Tells, refusesOf};
-ghost use Rattle.exports.specs.ImageReply.{TellsChecked, foundReply, writtenReply, pairReply};
+ghost use Rattle.lookup.specs.Lookup.{lookupOf};
+ghost use Rattle.pair.specs.Pair.{pairOf};
+ghost use Rattle.character.specs.Opened.{Opened};
 ghost use Rattle.division.specs.Reading.{countOf, listOf, listWords};
+ghost use Rattle.scan.specs.Counted.{countedBy};
 ghost use Rattle.token.specs.Taken.{takenOf};
 ghost use Rattle.part.specs.Part.{partRefusal, partBytes};
-ghost use Rattle.scan.specs.Counted.{countedBy};
+ghost use Rattle.exports.specs.Reply.{Tells, refusesOf};
+ghost use Rattle.exports.specs.ImageReply.{TellsChecked, foundReply, writtenReply, pairReply};
 ghost use Rattle.exports.specs.TokenReply.{countedReply, takenReply, partReply, toldPart};
 use image::Answer;
 use image::Checked;
@@ -187,7 +188,7 @@ fn look_up<'a>(
     Found::Refused(Refusal::NotScalar(x as usize))
 }
 
-// As `luffinarc_lookup`, in an image that was checked: n, points, roles and used are what its check gave.
+// As `luffinarc_lookup`, in an image that was checked.
 #[no_mangle]
 pub extern "C" fn luffinarc_lookup_checked<'a>(
     image: &'a [u8],

@@ -1,10 +1,10 @@
 -- Counting in one pass: what was counted and what the rest gives are the whole, character by character. Assumes nothing.
-use Prim.Native.Nat.{ℕ, _+_, _≤_}
-use mathlib.Core.Path.{_≡_, refl, sym, ap, _∙_}
+use Prim.Native.Nat.{ℕ, zero, suc, _+_, _≤_, _<_}
+use mathlib.Core.Path.{_≡_, refl, sym, ap, subst, _∙_}
 use mathlib.Core.Bool.{true, false}
 use mathlib.Core.List.{List, [], _∷_}
 use mathlib.Core.Option.{none}
-use native.Mathlib.Nat.{zero-add}
+use native.Mathlib.Nat.{zero-add, add-zero}
 use native.Mathlib.Omega.{arith}
 use lib.ListN.{length, drop}
 use Rattle.refusal.specs.declared.Refusal.the-variants as refusal
@@ -15,16 +15,17 @@ use Rattle.utf8.specs.Head.{stepOf}
 use Rattle.utf8.specs.Text.{Character, decode, widthOf, textBy, textOf}
 use Rattle.utf8.proofs.TextLaws.{shift, shift-zero, ill-here, end-here, covers}
 use Rattle.image.specs.Check.{refusalOf}
-use Rattle.division.specs.Scan.{Tok, Reading}
+use Rattle.division.specs.Scan.{Tok, Reading, grown, opened, stopped}
 use Rattle.division.specs.Grammar.{Kind}
-use Rattle.division.specs.Outcome.{Outcome, refused, unless, outcomeMap}
+use Rattle.division.specs.Outcome.{Outcome, given, refused, unless, outcomeMap}
 use Rattle.division.specs.Record.{tokensWidth}
 use Rattle.division.specs.Reading.{readingOf, formRefusalBy, judged}
 use Rattle.scan.specs.declared.Counted.the-variants.{Refused, Tokens}
-use Rattle.scan.specs.Traits.{kindFor, goesOn}
+use Rattle.scan.specs.Traits.{kindFor, goesOn, turnOf, afterOf}
 use Rattle.scan.specs.Rest.{restOf, continuesAt}
 use Rattle.scan.specs.Counted.{countedBy, readThrough, countThrough, stopRefusal}
-use Rattle.scan.proofs.RestLaws.{charactersAt, Turn, reading-run, rest-begins, rest-none, at-end, rest-more, rest-stop, rest-begin}
+use Rattle.scan.proofs.TurnLaws.{turn-goes, turn-begins}
+use Rattle.scan.proofs.RestLaws.{charactersAt, Turn, reading-run, rest-begins, rest-none, at-end, rest-more, rest-stop, Begins, rest-begin}
 
 -- the bytes of a token's rest and of the tokens after it
 abbrev pub spanOf : Reading Character Kind → ℕ
@@ -80,6 +81,16 @@ module _ (s text : List ℕ) where
           left = rw r at (i .left);
           span = omega arith;
         }
+
+    -- the same, where the turn is known without a closer look
+    pub counts-turn : (r : ℕ) → r ≡ turnOf kind traits → r < 2 → (k : ℕ) → k ≡ afterOf traits → Counting s text k (count + r) (at + len)
+    counts-turn zero e h k q =
+        let g = turn-goes kind traits (sym e) (continuesAt s text (at + len)) in
+        subst (λ (j : ℕ). Counting s text j (count + 0) (at + len)) (sym (q ∙ g .after)) (subst (λ (n : ℕ). Counting s text kind n (at + len)) (sym (add-zero count)) (counts-more (g .on)))
+    counts-turn (suc zero) e h k q =
+        let g = turn-begins kind traits (sym e) (continuesAt s text (at + len)) in
+        counts-begin (g .ended) k (q ∙ g .after) (λ z. g .some-kind (sym (q ∙ g .after) ∙ z))
+    counts-turn (suc (suc r)) e h k q = absurd (omega arith)
 
     -- no token begins: 6 if the rest has an ill-formed place, else 7
     stop-by : (f : Text) (ts : List (Tok Character Kind)) (c : Character) (l : List Character) → tokensWidth ts ≡ at →

@@ -1,5 +1,5 @@
 -- The end of a token under way, and the first token of a text. Assumes nothing.
-use Prim.Native.Nat.{ℕ, _+_}
+use Prim.Native.Nat.{ℕ, _+_, _≤_, _<_}
 use mathlib.Core.Path.{_≡_, refl, sym, ap, _∙_}
 use mathlib.Core.Bool.{true, false}
 use mathlib.Core.List.{List, [], _∷_}
@@ -9,14 +9,18 @@ use native.Mathlib.Omega.{arith}
 use lib.ListN.{length, drop}
 use Rattle.utf8.specs.declared.Step.the-variants as step
 use Rattle.utf8.specs.Head.{stepOf}
-use Rattle.utf8.specs.Text.{widthOf}
+use Rattle.utf8.specs.Text.{Character, widthOf}
 use Rattle.image.specs.Check.{refusalOf}
-use Rattle.division.specs.Reading.{tokensOf}
+use Rattle.division.specs.Scan.{Reading}
+use Rattle.division.specs.Grammar.{Kind}
+use Rattle.division.specs.Kinds.{kindNumber}
+use Rattle.division.specs.Reading.{readingOf, tokensOf}
+use Rattle.scan.specs.declared.First.{First}
 use Rattle.scan.specs.declared.First.the-variants.{Nothing, IllFormed, NoToken, Token}
 use Rattle.scan.specs.Traits.{kindFor, goesOn}
 use Rattle.scan.specs.Rest.{restOf, continuesAt, endFrom}
 use Rattle.scan.specs.First.{firstIn, firstBy, firstOf}
-use Rattle.scan.proofs.RestLaws.{NoCharacter, Turn, rest-begins, rest-none, rest-more, rest-ends, rest-stop, rest-begin}
+use Rattle.scan.proofs.RestLaws.{NoCharacter, Turn, rest-begins, rest-none, rest-more, rest-ends, rest-stop, Begins, rest-begin}
 
 module _ (s text : List ℕ) where
   pub end-none : (kind at : ℕ) → NoCharacter text at → endFrom s text kind at ≡ at

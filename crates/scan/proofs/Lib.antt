@@ -1,4 +1,5 @@
 pub mod TraitLaws
+pub mod TurnLaws
 pub mod RestLaws
 pub mod CountLaws
 pub mod WriteLaws

@@ -1,11 +1,11 @@
 -- The reading of a text from a place on, one character at a time. Assumes nothing.
-use Prim.Native.Nat.{ℕ, _+_, _≤_, _<_}
+use Prim.Native.Nat.{ℕ, zero, suc, _+_, _≤_, _<_}
 use mathlib.Core.Path.{_≡_, refl, sym, ap, _∙_}
-use mathlib.Core.Bool.{true, false}
+use mathlib.Core.Bool.{Bool, true, false}
 use mathlib.Core.List.{List, [], _∷_}
 use mathlib.Core.Option.{Option, none, some}
 use native.Mathlib.Omega.{arith}
-use lib.ListN.{length, drop, drop-of-length-le}
+use lib.ListN.{length, drop, length-drop, drop-of-length-le}
 use lib.Seq.{drop-drop}
 use Rattle.utf8.specs.declared.Step.the-variants as step
 use Rattle.utf8.specs.Head.{stepOf}
@@ -15,10 +15,10 @@ use Rattle.image.specs.Check.{refusalOf}
 use Rattle.character.specs.Traits.{traitsOf}
 use Rattle.character.specs.Read.{ReadAs}
 use Rattle.character.specs.declared.Character.{Character as Read}
-use Rattle.division.specs.Scan.{goes, grown, opened, stopped, walk}
+use Rattle.division.specs.Scan.{Reading, goes, grown, opened, stopped, walk}
 use Rattle.division.specs.Grammar.{Kind}
 use Rattle.division.specs.Kinds.{kindNumber}
-use Rattle.division.specs.Reading.{rulesOf, readingOf}
+use Rattle.division.specs.Reading.{meaningOf, rulesOf, readingOf}
 use Rattle.division.proofs.ScanLaws.{walk-nil, walk-more, walk-stop, walk-open, run-none, run-ends}
 use Rattle.scan.specs.Traits.{kindNamed, numberBy, continueIn, kindFor, goesOn}
 use Rattle.scan.specs.Rest.{restOf, continuesAt}

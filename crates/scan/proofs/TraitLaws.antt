@@ -1,6 +1,6 @@
 -- The rules on numbers are the rules of the reader, for every character under an accepted image. Assumes nothing.
 use Prim.Native.Nat.{ℕ, zero, suc, _+_, _%_, _≤_, _<_}
-use mathlib.Core.Path.{_≡_, refl, ap, _∙_}
+use mathlib.Core.Path.{_≡_, refl, sym, ap, _∙_}
 use mathlib.Core.Bool.{Bool, true, false}
 use mathlib.Core.List.{List, [], _∷_}
 use mathlib.Core.Option.{Option, none, some}
@@ -12,9 +12,9 @@ use Rattle.image.specs.Check.{refusalOf, classOf, medialOf}
 use Rattle.image.specs.Class.{classNamed}
 use Rattle.lookup.proofs.LookupLaws.{class-of-known}
 use Rattle.character.specs.Traits.{medialPart, traitsOf}
-use Rattle.division.specs.Scan.{goes}
+use Rattle.division.specs.Scan.{Rules, goes}
 use Rattle.division.specs.Grammar.{Kind, identifier, syntax, whitespace}
-use Rattle.division.specs.Kinds.{isContinue, isWhite, kindOfClass, continues, continuesFirst}
+use Rattle.division.specs.Kinds.{isContinue, isWhite, kindOfClass, kindNumber, continues, continuesFirst}
 use Rattle.division.specs.Reading.{meaningOf, rulesOf}
 use Rattle.scan.specs.Traits.{kindNamed, numberBy, classIn, medialIn, continueIn, kindFor, goesBy, goesOn}
 

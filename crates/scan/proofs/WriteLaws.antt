@@ -1,12 +1,13 @@
 -- Writing tokens in one pass: with the words of the rest laid after those written, the buffer is the whole list's. Assumes nothing.
-use Prim.Native.Nat.{ℕ, zero, suc, _+_, _-_, _*_, _≤_}
-use mathlib.Core.Path.{_≡_, refl, sym, ap, _∙_}
-use mathlib.Core.Bool.{true, false}
-use mathlib.Core.List.{List, [], _∷_, _++_, append-nil}
+use Prim.Native.Nat.{ℕ, zero, suc, _+_, _-_, _*_, _≤_, _<_}
+use mathlib.Core.Path.{_≡_, refl, sym, ap, subst, _∙_}
+use mathlib.Core.Bool.{Bool, true, false}
+use mathlib.Core.List.{List, [], _∷_, _++_, append-assoc, append-nil}
 use mathlib.Core.Option.{none}
-use native.Mathlib.Nat.{add-assoc, add-zero}
+use native.Mathlib.Nat.{add-assoc, add-zero, zero-add}
 use native.Mathlib.Omega.{arith}
 use lib.ListN.{length, take, drop, set, length-append, length-take, length-drop}
+use lib.Seq.{take-at, drop-at}
 use borrow.Rule.Slice.PartMut.{putMid}
 use Rattle.lists.specs.Laid.{laid}
 use Rattle.lists.proofs.LaidLaws.{laid-none, laid-step, length-laid, lent}
@@ -18,10 +19,11 @@ use Rattle.division.specs.Kinds.{kindNumber}
 use Rattle.division.specs.Record.{recordsFrom, wordsOf, listedWords}
 use Rattle.division.specs.Reading.{readingOf}
 use Rattle.division.proofs.RecordLaws.{length-listed}
-use Rattle.scan.specs.Traits.{kindFor, goesOn}
+use Rattle.scan.specs.Traits.{kindFor, goesOn, turnOf, afterOf}
 use Rattle.scan.specs.Rest.{restOf, continuesAt}
-use Rattle.scan.specs.Words.{tokenWords, wordsFrom}
-use Rattle.scan.proofs.RestLaws.{NoCharacter, Turn, reading-run, rest-begins, rest-none, rest-more, rest-stop, rest-begin}
+use Rattle.scan.specs.Words.{tokenWords, wordsFrom, startBy}
+use Rattle.scan.proofs.TurnLaws.{turn-goes, turn-begins}
+use Rattle.scan.proofs.RestLaws.{NoCharacter, Turn, reading-run, rest-begins, rest-none, rest-more, rest-ends, rest-stop, Begins, rest-begin}
 
 -- the words from a place on, for each turn of the reading
 module _ (kind start at : ℕ) where
@@ -63,14 +65,10 @@ pub record Put (out out′ : List ℕ) (w kind start end : ℕ) : Type 0 where
   pub fits : w + length (tokenWords kind start end) ≤ length out
   pub same : out′ ≡ laid out w (tokenWords kind start end)
 
-module _ {out : List ℕ} {w kind start end : ℕ} (h : Room out w kind start end) where
-  -- the lent rest of the buffer has room for them
-  pub part-fits : length (tokenWords kind start end) ≤ length (take (length out - w) (drop w out))
-  part-fits = simp (length-take, length-drop) (omega arith)
-
-  -- a call that was lent it wrote them at its front
-  pub put-lent : (ys : List ℕ) → ys ≡ laid (take (length out - w) (drop w out)) 0 (tokenWords kind start end) → Put out (putMid w (length out - w) out ys) w kind start end
-  put-lent ys e = record { fits = h .fits; same = lent out (tokenWords kind start end) w (h .fits) ys e }
+-- a call that was lent it wrote the token's words at its front
+pub put-lent : {out : List ℕ} {w kind start end : ℕ} → Room out w kind start end → (ys : List ℕ)
+    → ys ≡ laid (take (length out - w) (drop w out)) 0 (tokenWords kind start end) → Put out (putMid w (length out - w) out ys) w kind start end
+put-lent {out} {w} {kind} {start} {end} h ys e = record { fits = h .fits; same = lent out (tokenWords kind start end) w (h .fits) ys e }
 
 -- a token's three words at a buffer's front
 pub three-words : (out : List ℕ) (k a b : ℕ) → 3 ≤ length out → set (set (set out 0 k) 1 a) 2 b ≡ laid out 0 (k ∷ a ∷ b ∷ [])
@@ -83,15 +81,25 @@ pub words-some : (kind start end : ℕ) → (kind ≡ 0 → ⊥) → tokenWords 
 words-some zero start end h = absurd (h refl)
 words-some (suc k) start end h = refl
 
-module _ (out : List ℕ) (kind start end : ℕ) where
-  abbrev Written : ℕ → List ℕ → Type 0
-  Written n out′ = (n ≡ length (tokenWords kind start end)) × (out′ ≡ laid out 0 (tokenWords kind start end))
+pub written-some : (out : List ℕ) (kind start end : ℕ) → (kind ≡ 0 → ⊥) → 3 ≤ length out → set (set (set out 0 kind) 1 start) 2 end ≡ laid out 0 (tokenWords kind start end)
+written-some out kind start end h l = three-words out kind start end l ∙ ap (laid out 0) (sym (words-some kind start end h))
 
-  pub written-none : kind ≡ 0 → Written 0 out
-  written-none e = rw e (refl, sym (laid-none out 0))
+-- values laid where as many others were laid before
+module _ (out xs ys : List ℕ) (at : ℕ) (fits : at + length xs ≤ length out) (same : length xs ≡ length ys) where
+  laid-again : laid (laid out at xs) at ys ≡ laid out at ys
+  laid-again =
+      let d = drop (at + length xs) out in
+      let x : List ℕ = laid out at xs in
+      let t : take at x ≡ take at out = ap (take at) (append-assoc (take at out) xs d) ∙ take-at (take at out) (xs ++ d) at (simp length-take (omega arith)) in
+      let l : length (take at out ++ xs) ≡ at + length xs = simp (length-append, length-take) (omega arith) in
+      let u : drop (at + length ys) x ≡ drop (at + length ys) out =
+      ap (λ (n : ℕ). drop (at + n) x) (sym same) ∙ drop-at (take at out ++ xs) d (at + length xs) l ∙ ap (λ (n : ℕ). drop (at + n) out) same in
+      (λ i. (t i ++ ys) ++ u i)
 
-  pub written-some : (kind ≡ 0 → ⊥) → 3 ≤ length out → Written 3 (set (set (set out 0 kind) 1 start) 2 end)
-  written-some h l = rw (words-some kind start end h) (refl, three-words out kind start end l)
+  laid-over : (more : List ℕ) → laid (laid out at xs) at (ys ++ more) ≡ laid out at (ys ++ more)
+  laid-over more =
+      let n = length-laid out xs at fits in
+      laid-step (laid out at xs) ys at (omega arith) more ∙ ap (λ (z : List ℕ). laid z (at + length ys) more) laid-again ∙ sym (laid-step out ys at (omega arith) more)
 
 pub writing-begins : (s text out : List ℕ) → 3 * length (readingOf s text .tokens) ≤ length out → Writing s text out out 0 0 0 0
 unfolding wordsFrom
@@ -161,3 +169,117 @@ module _ (s text out₀ out : List ℕ) where
       -- and no other begins
       pub writes-stop : kindFor traits ≡ 0 → Put out out′ w kind start at → out′ ≡ laid out₀ 0 (listedWords (readingOf s text .tokens))
       writes-stop z p = written kind start at w i out′ (ap (wordsFrom kind start at) (rest-stop s text accepted at len traits t kind e z) ∙ words-stop kind start at _) p
+
+-- the words of the token under way are the last before word w, and end at the place `at`
+pub record Listed (s text out₀ out : List ℕ) (kind start at w : ℕ) : Type 0 where
+  pub before : ℕ
+  pub writing : Writing s text out₀ out kind start at before
+  pub placed : w ≡ before + length (tokenWords kind start at)
+  pub same : out ≡ laid out before (tokenWords kind start at)
+
+-- .. and are yet to be written there
+pub record Pending (s text out₀ out : List ℕ) (kind start at w : ℕ) : Type 0 where
+  pub before : ℕ
+  pub writing : Writing s text out₀ out kind start at before
+  pub placed : w ≡ before + 3
+  pub some-kind : kind ≡ 0 → ⊥
+
+pub listed-begins : (s text out : List ℕ) → 3 * length (readingOf s text .tokens) ≤ length out → Listed s text out out 0 0 0 0
+listed-begins s text out h = record { before = 0; writing = writing-begins s text out h; placed = refl; same = sym (laid-none out 0) }
+
+no-kind : (kind traits : ℕ) (follows : Bool) → goesOn kind traits follows ≡ true → kind ≡ 0 → ⊥
+unfolding goesOn
+no-kind zero traits follows e z = let q : _≡_ {A = ℕ} 0 1 = cc in absurd (omega arith)
+no-kind (suc kind) traits follows e z = absurd (omega arith)
+
+module _ (s text out₀ out : List ℕ) where
+  module _ (kind start at w : ℕ) (p : Pending s text out₀ out kind start at w) where
+    pub pending-fits : (3 ≤ w) × (w ≤ length out)
+    unfolding wordsFrom
+    pending-fits =
+        let l = p .placed in
+        let h = rw (words-some kind start (at + widthOf (restOf s text kind at .run)) (p .some-kind), length-append) at (p .writing .room) in
+        (omega arith, omega arith)
+
+    pub pending-room : Room out (w - 3) kind start at
+    pending-room =
+        let f = pending-fits in
+        let l = ap length (words-some kind start at (p .some-kind)) in
+        record { fits = omega arith }
+
+    -- the part of the buffer that is lent has room for a record
+    pub pending-part : 3 ≤ length (take (length out - (w - 3)) (drop (w - 3) out))
+    pending-part = let f = pending-fits in simp (length-take, length-drop) (omega arith)
+
+    -- the token's words are written
+    pub listed-put : (out′ : List ℕ) → Put out out′ (w - 3) kind start at → Listed s text out₀ out′ kind start at w
+    unfolding wordsFrom
+    listed-put out′ q =
+        let v = p .before in
+        let f = pending-fits in
+        let z : w - 3 ≡ v = omega (arith, p .placed) in
+        let ws = tokenWords kind start at in
+        let end = at + widthOf (restOf s text kind at .run) in
+        let l = ap length (words-some kind start at (p .some-kind)) in
+        let m : length ws ≡ length (tokenWords kind start end) = l ∙ sym (ap length (words-some kind start end (p .some-kind))) in
+        let e : out′ ≡ laid out v ws = q .same ∙ ap (λ (n : ℕ). laid out n ws) z in
+        let fits : v + length ws ≤ length out = omega (arith, p .placed) in
+        let n : length out′ ≡ length out = ap length e ∙ length-laid out ws v fits in
+        record {
+          before = v;
+          writing =
+              record {
+                within = p .writing .within;
+                began = p .writing .began;
+                long = n ∙ p .writing .long;
+                room = omega (arith, p .writing .room);
+                same = ap (λ (o : List ℕ). laid o v (wordsFrom kind start at (restOf s text kind at))) e ∙ laid-over out ws (tokenWords kind start end) v fits m _ ∙ p .writing .same;
+              };
+          placed = p .placed ∙ ap (λ (k : ℕ). v + k) (sym l);
+          same = e ∙ sym (laid-again out ws ws v fits refl) ∙ ap (λ (o : List ℕ). laid o v ws) (sym e);
+        }
+
+  module _ (kind start at w : ℕ) (i : Listed s text out₀ out kind start at w) where
+    done : restOf s text kind at .run ≡ [] → Put out out (i .before) kind start at
+    done e = record { fits = ended-fits s text out₀ out kind start at (i .before) (i .writing) e .fits; same = i .same }
+
+    pub listed-none : NoCharacter text at → out ≡ laid out₀ 0 (listedWords (readingOf s text .tokens))
+    listed-none e = writes-none s text out₀ out kind start at (i .before) (i .writing) out e (done (ap (λ r. r .run) (rest-none s text kind at e)))
+
+    module _ (accepted : refusalOf s ≡ none) (len traits : ℕ) (t : Turn s text at len traits) where
+      pub pending-more : goesOn kind traits (continuesAt s text (at + len)) ≡ true → Pending s text out₀ out kind start (at + len) w
+      pending-more e =
+          let h = no-kind kind traits (continuesAt s text (at + len)) e in
+          record {
+            before = i .before;
+            writing = writes-more s text out₀ out accepted kind start at len traits (i .before) (i .writing) t e;
+            placed = i .placed ∙ ap (λ (ws : List ℕ). i .before + length ws) (words-some kind start at h);
+            some-kind = h;
+          }
+
+      module _ (e : goesOn kind traits (continuesAt s text (at + len)) ≡ false) where
+        ended : Put out out (i .before) kind start at
+        ended = done (rest-ends s text accepted at len traits t kind e)
+
+        pub listed-stop : kindFor traits ≡ 0 → out ≡ laid out₀ 0 (listedWords (readingOf s text .tokens))
+        listed-stop z = writes-stop s text out₀ out accepted kind start at len traits (i .before) (i .writing) t e out z ended
+
+        pub pending-begin : (k : ℕ) → k ≡ kindFor traits → (k ≡ 0 → ⊥) → Pending s text out₀ out k at (at + len) (w + 3)
+        pending-begin k q h =
+            record {
+              before = w;
+              writing = subst (λ (v : ℕ). Writing s text out₀ out k at (at + len) v) (sym (i .placed)) (writes-begin s text out₀ out accepted kind start at len traits (i .before) (i .writing) t e out k q h ended _ refl);
+              placed = refl;
+              some-kind = h;
+            }
+
+      -- the same, where the turn is known without a closer look
+      pub pending-turn : (r : ℕ) → r ≡ turnOf kind traits → r < 2 → (k : ℕ) → k ≡ afterOf traits → (b : ℕ) → b ≡ startBy r start at → Pending s text out₀ out k b (at + len) (w + 3 * r)
+      pending-turn zero e h k q b o =
+          let g = turn-goes kind traits (sym e) (continuesAt s text (at + len)) in
+          let z : w + 3 * 0 ≡ w = omega arith in
+          subst (λ (j : ℕ). Pending s text out₀ out j b (at + len) (w + 3 * 0)) (sym (q ∙ g .after)) (subst (λ (j : ℕ). Pending s text out₀ out kind j (at + len) (w + 3 * 0)) (sym o) (subst (λ (n : ℕ). Pending s text out₀ out kind start (at + len) n) (sym z) (pending-more (g .on))))
+      pending-turn (suc zero) e h k q b o =
+          let g = turn-begins kind traits (sym e) (continuesAt s text (at + len)) in
+          subst (λ (j : ℕ). Pending s text out₀ out k j (at + len) (w + 3)) (sym o) (pending-begin (g .ended) k (q ∙ g .after) (λ z. g .some-kind (sym (q ∙ g .after) ∙ z)))
+      pending-turn (suc (suc r)) e h k q b o = absurd (omega arith)

@@ -1,7 +1,8 @@
 -- The rules of tokens on numbers: a kind or 0 for none, and the traits of a character (document 01, "Tokens").
 -- `proofs/TraitLaws.antt` joins them to the rules of `division`.
 use Prim.Native.Nat.{ℕ, zero, suc, _%_}
-use mathlib.Core.Bool.{Bool, false, _&&_, _||_}
+use mathlib.Core.Bool.{Bool, true, false, _&&_, _||_}
+use mathlib.Core.List.{List, [], _∷_}
 use mathlib.Core.Option.{Option, none, some}
 use lib.Dec.{leb}
 use Rattle.image.specs.Class.{Class, classNamed}
@@ -43,3 +44,30 @@ goesBy (some whitespace) a m follows = isWhite a
 
 unfoldable pub goesOn : ℕ → ℕ → Bool → Bool
 goesOn k t follows = goesBy (kindNamed k) (classIn t) (medialIn t) follows
+
+abbrev pub pickN : Bool → ℕ → ℕ → ℕ
+pickN true a b = a
+pickN false a b = b
+
+-- a token begins, 1, or what the kind 0 says takes a closer look, 2
+abbrev pub begunBy : ℕ → ℕ
+begunBy zero = 2
+begunBy (suc k) = 1
+
+-- what is known without a look at what follows: the token goes on, 0, or another begins, 1; else 2
+unfoldable pub turnOf : ℕ → ℕ → ℕ
+turnOf k t = pickN (goesOn k t false) 0 (pickN (goesOn k t true) 2 (begunBy (kindFor t)))
+
+-- the kind of the token that a character is in, where that is known so
+abbrev pub afterBy : Class → ℕ
+afterBy a = pickN (isContinue a) 1 (numberBy (kindOfClass a))
+
+unfoldable pub afterOf : ℕ → ℕ
+afterOf t = afterBy (classIn t)
+
+-- the code's tables of these: `proofs/TurnLaws.antt` shows what they hold
+abbrev pub turnTable : List ℕ
+turnTable = 2 ∷ 1 ∷ 2 ∷ 1 ∷ 1 ∷ 2 ∷ 2 ∷ 2 ∷ 2 ∷ 1 ∷ 2 ∷ 1 ∷ 1 ∷ 2 ∷ 2 ∷ 2 ∷ 2 ∷ 0 ∷ 0 ∷ 1 ∷ 1 ∷ 2 ∷ 2 ∷ 2 ∷ 2 ∷ 0 ∷ 0 ∷ 2 ∷ 2 ∷ 2 ∷ 2 ∷ 2 ∷ 2 ∷ 1 ∷ 2 ∷ 1 ∷ 1 ∷ 2 ∷ 2 ∷ 2 ∷ 2 ∷ 1 ∷ 2 ∷ 1 ∷ 1 ∷ 2 ∷ 2 ∷ 2 ∷ 2 ∷ 1 ∷ 2 ∷ 1 ∷ 0 ∷ 2 ∷ 2 ∷ 2 ∷ 2 ∷ 1 ∷ 2 ∷ 1 ∷ 0 ∷ 2 ∷ 2 ∷ 2 ∷ []
+
+abbrev pub kindTable : List ℕ
+kindTable = 0 ∷ 1 ∷ 1 ∷ 2 ∷ 3 ∷ 0 ∷ 0 ∷ 0 ∷ 0 ∷ 1 ∷ 1 ∷ 2 ∷ 3 ∷ 0 ∷ 0 ∷ 0 ∷ []

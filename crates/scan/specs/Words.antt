@@ -15,3 +15,8 @@ tokenWords (suc k) start end = suc k ∷ start ∷ end ∷ []
 unfoldable pub wordsFrom : ℕ → ℕ → ℕ → Reading Character Kind → List ℕ
 wordsFrom kind start at w =
     tokenWords kind start (at + widthOf (w .run)) ++ wordsOf (recordsFrom (at + widthOf (w .run)) (w .tokens))
+
+-- where the token under way after a turn began: where it began before, or at this place
+abbrev pub startBy : ℕ → ℕ → ℕ → ℕ
+startBy zero start at = start
+startBy (suc r) start at = at

@@ -1,25 +1,97 @@
 // The one-pass reader of tokens under a checked image: counting, writing, and the first token.
 ghost use mathlib.Core.Path.{_≡_};
-ghost use Prim.Native.Nat.{_*_, _≤_};
+ghost use mathlib.Core.Bool.{false};
+ghost use Prim.Native.Nat.{_+_, _*_, _≤_, _<_};
 ghost use lib.ListN.{length, drop};
 ghost use Rattle.character.specs.Opened.{Opened};
-ghost use Rattle.character.specs.Read.{MemoOf, TableOf};
-ghost use Rattle.scan.specs.Traits.{continueIn, kindFor, goesOn};
+ghost use Rattle.character.specs.Read.{TableOf};
+ghost use Rattle.scan.specs.Traits.{continueIn, kindFor, goesOn, turnOf, afterOf, turnTable, kindTable};
 ghost use Rattle.scan.specs.Rest.{continuesAt, endFrom};
 ghost use Rattle.scan.specs.Counted.{stopRefusal, countThrough};
-ghost use Rattle.scan.specs.Words.{tokenWords};
+ghost use Rattle.scan.specs.Words.{tokenWords, startBy};
 ghost use Rattle.scan.specs.First.{firstOf};
 ghost use Rattle.lists.specs.Laid.{laid};
 ghost use Rattle.utf8.specs.Text.{textOf};
 ghost use Rattle.division.specs.Record.{recordSize, listedWords};
 ghost use Rattle.division.specs.Reading.{maxText, readingOf};
-use character::Memo;
 use image::MAX_ENTRIES;
 use refusal::Refusal;
 use utf8::Text;
 
 // The words of a token's record.
 pub const RECORD_WORDS: usize = 3;
+
+// What a character does to the token under way, by its kind and the character's traits: the token goes on (0), a token begins (1),
+// or it takes a closer look (2).
+const TURNS: [usize; 64] = [
+    2,
+    1,
+    2,
+    1,
+    1,
+    2,
+    2,
+    2,
+    2,
+    1,
+    2,
+    1,
+    1,
+    2,
+    2,
+    2,
+    2,
+    0,
+    0,
+    1,
+    1,
+    2,
+    2,
+    2,
+    2,
+    0,
+    0,
+    2,
+    2,
+    2,
+    2,
+    2,
+    2,
+    1,
+    2,
+    1,
+    1,
+    2,
+    2,
+    2,
+    2,
+    1,
+    2,
+    1,
+    1,
+    2,
+    2,
+    2,
+    2,
+    1,
+    2,
+    1,
+    0,
+    2,
+    2,
+    2,
+    2,
+    1,
+    2,
+    1,
+    0,
+    2,
+    2,
+    2,
+];
+
+// The kind of the token that a character of these traits is in, where it takes no closer look.
+const KINDS: [u32; 16] = [0, 1, 1, 2, 3, 0, 0, 0, 0, 1, 1, 2, 3, 0, 0, 0];
 
 // How many tokens, or why not.
 pub enum Counted {
@@ -67,6 +139,24 @@ fn kind_begun(traits: u32) -> u32
     0
 }
 
+// What a character does to the token under way: 0, it goes on; 1, another begins; 2, it takes a closer look.
+fn find_turn(turns: &[usize; 64], kind: u32, traits: u32) -> usize
+    requires { ⌜ now turns ≡ turnTable ⌝ }
+    requires { ⌜ (kind < 4) × (traits < 16) ⌝ }
+    ensures { λ r. ⌜ r ≡ turnOf kind traits ⌝ }
+{
+    turns[(kind * 16 + traits) as usize]
+}
+
+// The kind of the token that a character is in, where it takes no closer look.
+fn kind_after(kinds: &[u32; 16], traits: u32) -> u32
+    requires { ⌜ now kinds ≡ kindTable ⌝ }
+    requires { ⌜ traits < 16 ⌝ }
+    ensures { λ r. ⌜ r ≡ afterOf traits ⌝ }
+{
+    kinds[traits as usize]
+}
+
 // Whether a Continue stands at a place.
 fn continues_at<'a>(
     image: &'a [u8],
@@ -74,17 +164,16 @@ fn continues_at<'a>(
     points: &'a [u32; MAX_ENTRIES],
     roles: &'a [u32; MAX_ENTRIES],
     used: usize,
-    memo: Memo,
     text: &'a [u8],
     at: usize,
 ) -> bool
     requires { ⌜ Opened (now image) n (now points) (now roles) used ⌝ }
-    requires { ⌜ MemoOf (now image) memo ⌝ }
     ensures { λ r. ⌜ r ≡ continuesAt (now (image .entry)) (now (text .entry)) at ⌝ }
 {
     if text.len() <= at {
         return false;
     }
+    let memo = character::no_memo();
     let c = character::read_decoded(image, n, points, roles, used, memo, text, at);
     if c.len == 0 {
         return false;
@@ -101,12 +190,10 @@ fn goes_on<'a>(
     points: &'a [u32; MAX_ENTRIES],
     roles: &'a [u32; MAX_ENTRIES],
     used: usize,
-    memo: Memo,
     text: &'a [u8],
     next: usize,
 ) -> bool
     requires { ⌜ Opened (now image) n (now points) (now roles) used ⌝ }
-    requires { ⌜ MemoOf (now image) memo ⌝ }
     ensures { λ r. ⌜ r ≡ goesOn kind traits (continuesAt (now (image .entry)) (now (text .entry)) next) ⌝ }
 {
     if kind == 1 {
@@ -116,7 +203,7 @@ fn goes_on<'a>(
         if traits < 8 {
             return false;
         }
-        return continues_at(image, n, points, roles, used, memo, text, next);
+        return continues_at(image, n, points, roles, used, text, next);
     }
     if kind == 3 {
         return traits % 8 == 4;
@@ -143,13 +230,15 @@ pub fn count_tokens<'a>(
     points: &'a [u32; MAX_ENTRIES],
     roles: &'a [u32; MAX_ENTRIES],
     used: usize,
-    table: &'a [u32; 128],
+    table: &'a [u8; 128],
     text: &'a [u8],
 ) -> Counted
     requires { ⌜ Opened (now image) n (now points) (now roles) used ⌝ }
     requires { ⌜ TableOf (now image) (now table) ⌝ }
     ensures { λ r. ⌜ r ≡ countThrough (now (image .entry)) (now (text .entry)) ⌝ }
 {
+    let turns = TURNS;
+    let kinds = KINDS;
     let mut memo = character::no_memo();
     let mut kind = 0;
     let mut count: usize = 0;
@@ -162,18 +251,14 @@ pub fn count_tokens<'a>(
         }
         memo = c.memo;
         let next = at + len;
-        if goes_on(
-            kind,
-            c.traits,
-            image,
-            n,
-            points,
-            roles,
-            used,
-            memo,
-            text,
-            next,
-        ) {
+        let turn = find_turn(&turns, kind, c.traits);
+        if turn < 2 {
+            count += turn;
+            kind = kind_after(&kinds, c.traits);
+            at = next;
+            continue;
+        }
+        if goes_on(kind, c.traits, image, n, points, roles, used, text, next) {
             at = next;
             continue;
         }
@@ -187,30 +272,36 @@ pub fn count_tokens<'a>(
     Counted::Tokens(count)
 }
 
-// The words of a token at the front of what is left of the buffer, and how many they are; none for the kind 0.
-fn put_token(out: &mut [u32], kind: u32, start: usize, end: usize) -> usize
+// The words of a token at the front of a part of the buffer.
+fn put_token(out: &mut [u32], kind: u32, start: usize, end: usize)
     requires { ⌜ (start ≤ maxText) × (end ≤ maxText) ⌝ }
-    requires { ⌜ length (tokenWords kind start end) ≤ length (now out) ⌝ }
-    ensures { λ r. ⌜ r ≡ length (tokenWords kind start end) ⌝ }
-    ensures { λ r. ⌜ now (out .exit) ≡ laid (now (out .entry)) 0 (tokenWords kind start end) ⌝ }
+    requires { ⌜ (kind ≡ 0 → ⊥) × (3 ≤ length (now out)) ⌝ }
+    ensures { λ _. ⌜ now (out .exit) ≡ laid (now (out .entry)) 0 (tokenWords kind start end) ⌝ }
 {
-    if kind == 0 {
-        return 0;
-    }
     out[0] = kind;
     out[1] = start as u32;
     out[2] = end as u32;
-    RECORD_WORDS
 }
 
-// The words of all tokens up to where no token begins or the text is ill-formed.
+// Where the token began that is under way after a turn at a place: there, or where it began before.
+fn pick_start(turn: usize, start: usize, at: usize) -> usize
+    ensures { λ r. ⌜ r ≡ startBy turn start at ⌝ }
+{
+    if turn == 0 {
+        return start;
+    }
+    at
+}
+
+// The words of all tokens up to where no token begins or the text is ill-formed. After each character the record of the token that
+// it is in ends there: the loop has no test for where tokens end.
 pub fn write_tokens<'a>(
     image: &'a [u8],
     n: usize,
     points: &'a [u32; MAX_ENTRIES],
     roles: &'a [u32; MAX_ENTRIES],
     used: usize,
-    table: &'a [u32; 128],
+    table: &'a [u8; 128],
     text: &'a [u8],
     out: &mut [u32],
 )
@@ -220,6 +311,8 @@ pub fn write_tokens<'a>(
     requires { ⌜ recordSize * length (readingOf (now image) (now text) .tokens) ≤ length (now out) ⌝ }
     ensures { λ _. ⌜ now (out .exit) ≡ laid (now (out .entry)) 0 (listedWords (readingOf (now (image .entry)) (now (text .entry)) .tokens)) ⌝ }
 {
+    let turns = TURNS;
+    let kinds = KINDS;
     let mut memo = character::no_memo();
     let mut kind = 0;
     let mut start = 0;
@@ -229,34 +322,33 @@ pub fn write_tokens<'a>(
         let c = character::read(image, n, points, roles, used, table, memo, text, at);
         let len = c.len;
         if len == 0 {
-            break;
+            return;
         }
         memo = c.memo;
         let next = at + len;
-        if goes_on(
-            kind,
-            c.traits,
-            image,
-            n,
-            points,
-            roles,
-            used,
-            memo,
-            text,
-            next,
-        ) {
+        let turn = find_turn(&turns, kind, c.traits);
+        if turn < 2 {
+            kind = kind_after(&kinds, c.traits);
+            start = pick_start(turn, start, at);
+            w += RECORD_WORDS * turn;
+            put_token(&mut out[w - RECORD_WORDS..], kind, start, next);
             at = next;
             continue;
         }
-        w += put_token(&mut out[w..], kind, start, at);
+        if goes_on(kind, c.traits, image, n, points, roles, used, text, next) {
+            put_token(&mut out[w - RECORD_WORDS..], kind, start, next);
+            at = next;
+            continue;
+        }
         kind = kind_begun(c.traits);
         if kind == 0 {
             return;
         }
+        w += RECORD_WORDS;
+        put_token(&mut out[w - RECORD_WORDS..], kind, at, next);
         start = at;
         at = next;
     }
-    put_token(&mut out[w..], kind, start, at);
 }
 
 // Where the token of this kind that is under way at a place ends.
@@ -266,7 +358,7 @@ fn find_end<'a>(
     points: &'a [u32; MAX_ENTRIES],
     roles: &'a [u32; MAX_ENTRIES],
     used: usize,
-    table: &'a [u32; 128],
+    table: &'a [u8; 128],
     text: &'a [u8],
     kind: u32,
     from: usize,
@@ -285,18 +377,7 @@ fn find_end<'a>(
         }
         memo = c.memo;
         let next = at + len;
-        if goes_on(
-            kind,
-            c.traits,
-            image,
-            n,
-            points,
-            roles,
-            used,
-            memo,
-            text,
-            next,
-        ) {
+        if goes_on(kind, c.traits, image, n, points, roles, used, text, next) {
             at = next;
             continue;
         }
@@ -312,7 +393,7 @@ pub fn first_token<'a>(
     points: &'a [u32; MAX_ENTRIES],
     roles: &'a [u32; MAX_ENTRIES],
     used: usize,
-    table: &'a [u32; 128],
+    table: &'a [u8; 128],
     text: &'a [u8],
 ) -> First
     requires { ⌜ Opened (now image) n (now points) (now roles) used ⌝ }

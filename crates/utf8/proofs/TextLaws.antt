@@ -1,11 +1,13 @@
 -- The characters of a text: step by step, what they mean, and where the text splits.
 -- Assumes nothing.
-use Prim.Native.Nat.{ℕ, zero, suc, _+_, _-_, _≤_, _<_}
+use Prim.Native.Nat.{ℕ, zero, suc, _+_, _-_, _*_, _/_, _%_, _≤_, _<_}
 use mathlib.Core.Path.{_≡_, refl, sym, ap, subst, _∙_}
 use mathlib.Core.Bool.{true}
 use mathlib.Core.List.{List, [], _∷_, _++_}
 use native.Mathlib.Nat.{add-assoc}
 use native.Mathlib.Omega.{arith}
+use native.Mathlib.Decide.{decLt}
+use borrow.Author.Tests.{le-ltb, leb-true}
 use lib.ListN.{length, take, drop, getD, length-take, length-drop, take-append-drop, drop-of-length-le}
 use lib.Seq.{drop-drop, drop-append-seam, take-add, getD-drop}
 use Rattle.utf8.specs.declared.Step.{Step}
@@ -15,7 +17,7 @@ use Rattle.utf8.specs.declared.Text.the-variants as text
 use Rattle.utf8.specs.Scalar.{isScalar}
 use Rattle.utf8.specs.Table.{codePoint}
 use Rattle.utf8.specs.Head.{stepOf}
-use Rattle.utf8.specs.Lead.{stepLength}
+use Rattle.utf8.specs.Lead.{stepLength, packed}
 use Rattle.utf8.specs.Text.{
   Character,
   Decoded,
@@ -61,6 +63,38 @@ taken s x n e =
     let c = simp length-take at m in
     record { some-bytes = omega arith; short = omega arith; within = omega arith; scalar = ap isScalar (f .code) ∙ sequence-scalar (take n s) (f .sequence) }
 
+scalar-le : (x : ℕ) → isScalar x ≡ true → x ≤ 0x10FFFF
+unfolding isScalar
+scalar-le x e = go (decLt x 0xE000)
+  where
+    go : Dec (x < 0xE000) → x ≤ 0x10FFFF
+    go (yes p) = omega arith
+    go (no p) =
+        let f = simp (le-ltb x 0xD800 (omega arith), le-ltb x 0xE000 (omega arith)) at e in
+        leb-true x 0x10FFFF f
+
+-- what a packed sequence tells: the length is its last octal digit, the code point the others
+pub record Unpacked (s : List ℕ) (d : ℕ) : Type 0 where
+  pub none : d % 8 ≡ 0 → stepOf s ≡ IllFormed
+  pub some : 0 < d % 8 → stepOf s ≡ Scalar (d / 8) (d % 8)
+  pub small : d / 8 ≤ 0x10FFFF
+
+unpacked-by : (s : List ℕ) (t : Step) → stepOf s ≡ t → 0 < length s → Unpacked s (packed t)
+unpacked-by s (Scalar x n) e h =
+    let t = taken s x n e in
+    let l : (x * 8 + n) % 8 ≡ n = omega (arith, t .short) in
+    let c : (x * 8 + n) / 8 ≡ x = omega (arith, t .short) in
+    record {
+      none = λ z. absurd (omega (arith, t .some-bytes));
+      some = λ z. e ∙ (λ i. Scalar (sym c i) (sym l i));
+      small = omega (arith, scalar-le x (t .scalar));
+    }
+unpacked-by s IllFormed e h = record { none = λ z. e; some = λ z. absurd (omega arith); small = omega arith }
+unpacked-by s End e h = let l = ap length (end-empty s e) in absurd (omega arith)
+
+pub unpacked : (s : List ℕ) (d : ℕ) → d ≡ packed (stepOf s) → 0 < length s → Unpacked s d
+unpacked s d e h = subst (λ (k : ℕ). Unpacked s k) (sym e) (unpacked-by s (stepOf s) refl h)
+
 -- the length of the sequence at the head tells what stands there
 length-by : (s : List ℕ) (t : Step) → stepOf s ≡ t → (stepLength t ≤ length s) × (stepLength t ≤ 4)
 length-by s (Scalar x n) e = let t = taken s x n e in (t .within, t .short)
@@ -77,6 +111,15 @@ none-by s End e h z = let l = ap length (end-empty s e) in absurd (omega arith)
 
 pub none-measured : (s : List ℕ) → 0 < length s → 0 ≡ stepLength (stepOf s) → IllFormed ≡ stepOf s
 none-measured s h e = none-by s (stepOf s) refl h (sym e)
+
+-- no length, no packed sequence
+pub none-packed : (s : List ℕ) → 0 ≡ stepLength (stepOf s) → 0 ≡ packed (stepOf s)
+none-packed s e = go (stepOf s) refl e
+  where
+    go : (t : Step) → stepOf s ≡ t → 0 ≡ stepLength t → 0 ≡ packed t
+    go (Scalar x n) f z = let t = taken s x n f in absurd (omega (arith, t .some-bytes))
+    go IllFormed f z = refl
+    go End f z = refl
 
 step-by : (s : List ℕ) (t : Step) → stepOf s ≡ t → (stepLength t ≡ 0 → ⊥) → (x : ℕ) × (stepOf s ≡ Scalar x (stepLength t))
 step-by s (Scalar x n) e f = (x, e)

@@ -1,5 +1,5 @@
 -- What the first byte of a sequence decides: the reader's form of Table 3-7. `proofs/LeadLaws.antt` joins the two.
-use Prim.Native.Nat.{ℕ, zero, suc}
+use Prim.Native.Nat.{ℕ, zero, suc, _+_, _*_}
 use mathlib.Core.Bool.{Bool, true, false, _&&_}
 use mathlib.Core.List.{List, [], _∷_}
 use lib.Dec.{ltb}
@@ -56,3 +56,9 @@ abbrev pub stepLength : Step → ℕ
 stepLength (Scalar x n) = n
 stepLength IllFormed = 0
 stepLength End = 0
+
+-- a sequence as one number: 8 times its code point, and its length; 0 where there is none
+abbrev pub packed : Step → ℕ
+packed (Scalar x n) = x * 8 + n
+packed IllFormed = 0
+packed End = 0

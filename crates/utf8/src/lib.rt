@@ -2,11 +2,11 @@
 ghost use mathlib.Core.Path.{_≡_};
 ghost use mathlib.Core.Bool.{not};
 ghost use Prim.Native.Nat.{_≤_, _<_};
-ghost use lib.ListN.{length};
+ghost use lib.ListN.{length, drop};
 ghost use Rattle.utf8.specs.Scalar.{isScalar};
 ghost use Rattle.utf8.specs.Table.{_to_, codePoint};
 ghost use Rattle.utf8.specs.Head.{stepOf};
-ghost use Rattle.utf8.specs.Lead.{leadOf, stepBy, byteFits, stepLength};
+ghost use Rattle.utf8.specs.Lead.{leadOf, stepBy, byteFits, stepLength, packed};
 ghost use Rattle.utf8.specs.Text.{textOf};
 ghost use mathlib.Core.List.{[], _∷_};
 
@@ -190,6 +190,19 @@ pub fn code_point(s: &[u8], len: usize) -> u32
         3 => join3(s[0], s[1], s[2]),
         _ => join4(s[0], s[1], s[2], s[3]),
     }
+}
+
+// The sequence at a place of `s` as one number: 8 times its code point, and its length; 0 where none begins.
+pub fn decode_packed(s: &[u8], at: usize) -> usize
+    requires { ⌜ at ≤ length (now s) ⌝ }
+    ensures { λ r. ⌜ r ≡ packed (stepOf (drop at (now (s .entry)))) ⌝ }
+{
+    let part = &s[at..];
+    let len = measure(part);
+    if len == 0 {
+        return 0;
+    }
+    code_point(part, len) as usize * 8 + len
 }
 
 // The sequence at the head of `s`.

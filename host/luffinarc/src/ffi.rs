@@ -4,7 +4,7 @@
 pub type Answer = [u64; 4];
 
 /// The code points or the roles of a profile.
-pub type Entries = [u32; 64];
+pub type Entries = [u32; crate::MAX_ENTRIES];
 
 extern "C" {
     pub fn luffinarc_check(

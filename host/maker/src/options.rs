@@ -25,14 +25,14 @@ fn version_word(version: &str) -> Result<u32, String> {
 
 pub fn parse(args: &[String]) -> Result<Options, String> {
     let names = ["--version", "--folder", "--profile", "--out"];
-    let mut values: [Option<String>; 4] = [const { None }; 4];
+    let mut values: [Option<String>; 4] = Default::default();
     for two in args.chunks(2) {
-        let [name, value] = two else {
-            return Err(format!("{}: no value\n{USAGE}", two[0]));
+        let (name, value) = match two {
+            [name, value] => (name, value),
+            _ => return Err(format!("{}: no value\n{USAGE}", two[0])),
         };
-        let Some(i) = names.iter().position(|known| known == name) else {
-            return Err(format!("{name}: not known\n{USAGE}"));
-        };
+        let known = names.iter().position(|known| known == name);
+        let i = known.ok_or_else(|| format!("{name}: not known\n{USAGE}"))?;
         if values[i].replace(value.clone()).is_some() {
             return Err(format!("{name}: given twice\n{USAGE}"));
         }

@@ -12,14 +12,14 @@ fn beside(out: &Path) -> PathBuf {
 }
 
 fn write_and_move(out: &Path, part: &Path, image: &[u8]) -> std::io::Result<()> {
-    let mut file = fs::File::create_new(part)?;
+    let mut file = fs::OpenOptions::new().write(true).create_new(true).open(part)?;
     file.write_all(image)?;
     file.sync_all()?;
     fs::rename(part, out)
 }
 
 pub fn store(out: &Path, image: &[u8]) -> Result<(), String> {
-    if fs::metadata(out).is_ok_and(|kind| !kind.is_file()) {
+    if fs::metadata(out).map_or(false, |kind| !kind.is_file()) {
         return Err(format!("{}: not a plain file", out.display()));
     }
     let part = beside(out);

@@ -6,7 +6,10 @@ use std::path::Path;
 /// The code point and role of a line.
 fn entry(line: &str) -> Option<(u32, u32)> {
     let fields: Vec<&str> = line.split_whitespace().collect();
-    let [digits, role] = fields[..] else { return None };
+    let (digits, role) = match fields[..] {
+        [digits, role] => (digits, role),
+        _ => return None,
+    };
     if !digits.bytes().all(|b| b.is_ascii_hexdigit()) || !role.bytes().all(|b| b.is_ascii_digit()) {
         return None;
     }

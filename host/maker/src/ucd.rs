@@ -93,7 +93,7 @@ fn unicode_data(file: &Path) -> Result<Vec<Span>, String> {
         }
         let here = point(fields[0]).ok_or_else(wrong)?;
         let before = open.as_ref().map(|o| o.0).or(found.last().map(|span| span.1));
-        if before.is_some_and(|before| here <= before) {
+        if before.map_or(false, |before| here <= before) {
             return Err(wrong());
         }
         let last = paired_name(fields[1], ", Last>").map(str::to_string);

@@ -85,9 +85,7 @@ fn tokens(image: &Image, text: &[u8]) -> Result<Vec<Token>, Refusal> {
     let mut rest = &units[..];
     while !rest.is_empty() {
         let start = rest[0].start;
-        let Some((kind, length)) = longest(rest) else {
-            return Err(Refusal::NoToken(start as u64));
-        };
+        let (kind, length) = longest(rest).ok_or(Refusal::NoToken(start as u64))?;
         tokens.push(Token { kind, start, end: rest[length - 1].end });
         rest = &rest[length..];
     }

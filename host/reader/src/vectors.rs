@@ -153,7 +153,10 @@ pub fn run_all(calls: &impl Calls) -> usize {
     for (i, line) in vectors.lines().enumerate() {
         let (case, expected) = line.split_once(" => ").unwrap();
         let fields: Vec<&str> = case.split(' ').collect();
-        let Some(answer) = run(calls, fields[0], &fields[1..]) else { continue };
+        let answer = match run(calls, fields[0], &fields[1..]) {
+            Some(answer) => answer,
+            None => continue,
+        };
         *counts.entry(fields[0]).or_default() += 1;
         if answer != expected {
             wrong += 1;

@@ -31,9 +31,12 @@ fn images() {
         let mut words = vec![7; case.room];
         let result = read(&case.image, &mut words);
         reads.add(&result);
-        let Ok(read) = result else {
-            assert!(words.iter().all(|&word| word == 7));
-            continue;
+        let read = match result {
+            Ok(read) => read,
+            Err(_) => {
+                assert!(words.iter().all(|&word| word == 7));
+                continue;
+            }
         };
         let (front, rest) = words.split_at(3 * read.ranges);
         assert!(rest.iter().all(|&word| word == 7));
@@ -71,7 +74,7 @@ fn lookups() {
         let case = lookup_case(&mut rng);
         let result = lookup(&case.image, case.number);
         tally.add(&result);
-        assert!(result.is_err() || result.is_ok_and(|(class, looked)| class <= 5 && looked <= 13));
+        assert!(result.map_or(true, |(class, looked)| class <= 5 && looked <= 13));
     }
     tally.close("lookup", "ok,1,2,3,4,9");
 }
@@ -162,7 +165,7 @@ fn changed_at(case: &StableCase, place: u64) -> bool {
     let (older, newer) = (parse(&case.older).unwrap(), parse(&case.newer).unwrap());
     let (points, _) = utf8::decode(&case.text[place as usize..]);
     let changed =
-        |i: usize| points.get(i).is_some_and(|p| older.class(p.point) != newer.class(p.point));
+        |i: usize| points.get(i).map_or(false, |p| older.class(p.point) != newer.class(p.point));
     changed(0) || (older.role(points[0].point) == 3 && changed(1))
 }
 

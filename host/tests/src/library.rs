@@ -9,8 +9,8 @@ use luffinarc_reader::{Calls, Checked, PairRefusal, Profile, Read, Refusal, Toke
 const OLD: Answer = [0xDEAD_BEEF_0BAD_CAFE; 4];
 
 /// What stands in a profile's arrays before a call.
-const OLD_POINTS: Entries = [0x0BAD_0BAD; 64];
-const OLD_ROLES: Entries = [0x0BAD_CAFE; 64];
+const OLD_POINTS: Entries = [0x0BAD_0BAD; luffinarc::MAX_ENTRIES];
+const OLD_ROLES: Entries = [0x0BAD_CAFE; luffinarc::MAX_ENTRIES];
 
 /// The refusal with this number; what it does not carry is zero.
 fn refusal(number: u32, carried: u64) -> Refusal {
@@ -69,7 +69,7 @@ impl Calls for Library {
     }
 
     fn read(&self, image: &[u8], words: &mut [u32]) -> Result<Read, Refusal> {
-        let (image, mut lent) = (Lent::new(image, 0xAA), Lent::new(words, 0xAAAA_AAAA));
+        let (image, mut lent) = (Lent::new(image, 0xAA), Lent::new(words, 0xAA));
         let (mut points, mut roles, mut answer) = (OLD_POINTS, OLD_ROLES, OLD);
         let number =
             calls::read(image.slice(), lent.slice_mut(), &mut points, &mut roles, &mut answer);
@@ -87,7 +87,7 @@ impl Calls for Library {
         profile: &Profile,
         out: &mut [u8],
     ) -> Result<usize, Refusal> {
-        let (words, mut lent) = (Lent::new(words, 0xAAAA_AAAA), Lent::new(out, 0xAA));
+        let (words, mut lent) = (Lent::new(words, 0xAA), Lent::new(out, 0xAA));
         let (points, roles, used) = (profile.points, profile.roles, profile.used as usize);
         let mut answer = OLD;
         let number = calls::write(
@@ -148,7 +148,7 @@ impl Calls for Library {
 
     fn list(&self, image: &[u8], text: &[u8], words: &mut [u32]) -> Result<usize, Refusal> {
         let (image, text) = (Lent::new(image, 0xAA), Lent::new(text, 0xAA));
-        let mut lent = Lent::new(words, 0xAAAA_AAAA);
+        let mut lent = Lent::new(words, 0xAA);
         let mut answer = OLD;
         let number = calls::list(image.slice(), text.slice(), lent.slice_mut(), &mut answer);
         image.same();

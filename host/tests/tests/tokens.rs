@@ -28,7 +28,10 @@ fn counts() {
         let result = Library.count(&case.image, &case.text);
         assert_eq!(result, Reader.count(&case.image, &case.text), "{case:02X?}");
         tally.add(&result);
-        let Ok(image) = Image::check(&case.image) else { continue };
+        let image = match Image::check(&case.image) {
+            Ok(image) => image,
+            Err(_) => continue,
+        };
         assert_eq!(image.count(&case.text).map_err(named), result, "{case:02X?}");
     }
     tally.close("count", "ok,1,2,3,4,5,6,7");
@@ -44,11 +47,17 @@ fn lists() {
         assert_eq!(result, Reader.list(&case.image, &case.text, &mut expected), "{case:02X?}");
         assert!(words == expected, "{case:02X?}");
         tally.add(&result);
-        let Ok(image) = Image::check(&case.image) else { continue };
+        let image = match Image::check(&case.image) {
+            Ok(image) => image,
+            Err(_) => continue,
+        };
         let mut again = vec![7; case.room];
         assert_eq!(image.list(&case.text, &mut again).map_err(named), result, "{case:02X?}");
         assert!(again == expected, "{case:02X?}");
-        let Ok(count) = result else { continue };
+        let count = match result {
+            Ok(count) => count,
+            Err(_) => continue,
+        };
         let tokens = image.tokens(&case.text).unwrap();
         assert_eq!(tokens.len(), count);
         let token =
@@ -69,7 +78,10 @@ fn places() {
             Ok(None) => tally.name("done"),
             _ => tally.add(&result),
         }
-        let Ok(image) = Image::check(&case.image) else { continue };
+        let image = match Image::check(&case.image) {
+            Ok(image) => image,
+            Err(_) => continue,
+        };
         let token = |t: luffinarc::Token| Token {
             kind: t.kind.number(),
             start: t.range.start,

@@ -6,7 +6,7 @@ use native.Mathlib.Omega.{arith}
 use borrow.Author.Needs.{needs}
 use lib.ListN.{length}
 use Rattle.character.specs.Read.{MemoOf, Filled}
-use Rattle.character.proofs.CharacterLaws.{filled-more}
+use Rattle.character.proofs.CharacterLaws.{opened-traits, filled-more}
 use Rattle.character.proofs.fill_table.Statement.{statement}
 use Rattle.character.proofs.fill_table.Tie as tie
 
@@ -29,11 +29,13 @@ cast-recall c = omega arith
 recall-requires : tie.Need-recall-requires Inv-loop μ-loop
 recall-requires c κs = (c .before .before .before .before .pre, c .before .loop .inv .2)
 
-mul-table : tie.Need-mul-table Inv-loop μ-loop
-mul-table c = omega arith
+cast-table : tie.Need-cast-table Inv-loop μ-loop
+cast-table c =
+    let m = c .before .recall .ensures in
+    omega (arith, sym (m .all _ (m .from) (m .to)), opened-traits (c .before .before .before .before .before .before .pre) (c .before .before .before .loop .i))
 
 array-write-table : tie.Need-array-write-table Inv-loop μ-loop
-array-write-table c = c .before .loop-test .taken
+array-write-table c = c .before .before .loop-test .taken
 
 add-i : tie.Need-add-i Inv-loop μ-loop
 add-i c = omega arith
@@ -43,8 +45,8 @@ loop-less c = omega arith
 
 loop-again : tie.Need-loop-again Inv-loop μ-loop
 loop-again c =
-    let m = c .recall .ensures in
-    (omega arith, filled-more _ _ _ _ (c .before .loop-test .taken) (c .before .before .loop .inv .1) (sym (m .all _ (m .from) (m .to))), m .all)
+    let m = c .before .recall .ensures in
+    (omega arith, filled-more _ _ _ _ (c .before .before .loop-test .taken) (c .before .before .before .loop .inv .1) (sym (m .all _ (m .from) (m .to))), m .all)
 
 ap-filled : {s t : List ℕ} {i j : ℕ} → i ≡ j → Filled s t i → Filled s t j
 ap-filled {s} {t} e f = subst (λ (k : ℕ). Filled s t k) e f
@@ -64,7 +66,7 @@ fill-table-spec =
     loop-holds
     cast-recall
     recall-requires
-    mul-table
+    cast-table
     array-write-table
     add-i
     loop-less

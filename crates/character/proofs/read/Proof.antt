@@ -1,6 +1,7 @@
 -- `character::read` meets its contract: a byte below 80 by the table, another sequence by decoding it. Assumes nothing.
 use native.Mathlib.Omega.{arith}
-use Rattle.character.proofs.CharacterLaws.{ascii-at}
+use lib.ListN.{getD}
+use Rattle.character.proofs.CharacterLaws.{opened-traits, ascii-at}
 use borrow.Author.Needs.{needs}
 use Rattle.character.proofs.read.Statement.{statement}
 use Rattle.character.proofs.read.Tie as tie
@@ -11,11 +12,11 @@ shared-slice-read-b c = search needs
 cast-t14 : tie.Need-cast-t14
 cast-t14 c = search needs
 
-mul-t15 : tie.Need-mul-t15
-mul-t15 c = search needs
+element-copy-out-t17 : tie.Need-element-copy-out-t17
+element-copy-out-t17 c = search needs
 
-element-copy-out-t18 : tie.Need-element-copy-out-t18
-element-copy-out-t18 c = search needs
+cast-t18 : tie.Need-cast-t18
+cast-t18 c = omega (arith, c .before .before .before .before .before .pre .1 .0 .each _ (c .before .if1 .taken), opened-traits (c .before .before .before .before .before .pre .0) (getD (c .before .before .before .before .before .args .text .now) (c .before .before .before .before .before .args .at) 0))
 
 returns : tie.Need-returns
 returns c =
@@ -37,8 +38,8 @@ read-spec =
     (tie.spec
     shared-slice-read-b
     cast-t14
-    mul-t15
-    element-copy-out-t18
+    element-copy-out-t17
+    cast-t18
     returns
     read-decoded-requires
     returns-2)

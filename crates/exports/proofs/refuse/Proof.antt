@@ -1,9 +1,8 @@
 -- `exports::refuse` meets its contract. Assumes nothing.
-use Prim.Native.Nat.{ℕ}
 use mathlib.Core.Path.{_∙_}
 use mathlib.Core.List.{[], _∷_}
 use borrow.Author.Needs.{needs}
-use Rattle.exports.proofs.ReplyLaws.{one-carried}
+use Rattle.exports.proofs.ReplyLaws.{known}
 use Rattle.exports.proofs.refuse.Statement.{statement}
 use Rattle.exports.proofs.refuse.Tie as tie
 
@@ -22,7 +21,7 @@ returns c =
     let e = c .before .before .carried .ensures in
     record {
       number = c .number .ensures;
-      values = c .before .put .ensures ∙ (λ d. e d ∷ one-carried (a .r) d ∷ a .which ∷ 0 ∷ []);
+      values = c .before .put .ensures ∙ (λ d. e d ∷ known (a .r) .0 d ∷ a .which ∷ 0 ∷ []);
     }
 
 pub refuse-spec : {M : Type 1} → statement M

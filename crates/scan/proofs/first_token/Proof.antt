@@ -1,5 +1,5 @@
 -- `scan::first_token` meets its contract. Assumes nothing.
-use mathlib.Core.Path.{sym, ap, _∙_}
+use mathlib.Core.Path.{_≡_, sym, ap, _∙_}
 use native.Mathlib.Omega.{arith}
 use Rattle.scan.specs.declared.First.the-variants.{Token}
 use Rattle.scan.proofs.RestLaws.{Turn, turn}

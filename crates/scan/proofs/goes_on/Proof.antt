@@ -1,5 +1,5 @@
 -- `scan::goes_on` meets its contract: it looks ahead only after a medial that is no Continue. Assumes nothing.
-use mathlib.Core.Path.{sym, _∙_}
+use mathlib.Core.Path.{sym, ap, _∙_}
 use borrow.Author.Needs.{needs}
 use Rattle.scan.proofs.TraitLaws.{goes-continue, goes-plain, goes-medial, goes-white, goes-none}
 use Rattle.scan.proofs.goes_on.Statement.{statement}

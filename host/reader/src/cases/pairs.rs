@@ -85,7 +85,7 @@ pub fn unequal_profile(rng: &mut Rng, image: &Image) -> Image {
         1 => drop(entries.remove(i)),
         2 => entries[i].1 = entries[i].1 % 4 + 1,
         _ if entries.len() == MAX_PROFILE => drop(entries.pop()),
-        _ if entries.last().is_some_and(|entry| entry.0 == 0x10FFFF) => drop(entries.pop()),
+        _ if entries.last().map_or(false, |entry| entry.0 == 0x10FFFF) => drop(entries.pop()),
         _ => entries.push((0x10FFFF, 1 + rng.below(4) as u32)),
     }
     Image { profile: Profile::of(&entries), ..image.clone() }

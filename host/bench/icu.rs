@@ -1,0 +1,43 @@
+//! The reader over ICU, if `LUFFINARC_ICU` names the file that holds it.
+
+use std::ffi::{c_void, CString};
+use std::os::raw::c_char;
+
+extern "C" {
+    fn dlopen(file: *const c_char, flags: i32) -> *mut c_void;
+    fn dlsym(library: *mut c_void, name: *const c_char) -> *mut c_void;
+}
+
+type Tokens = unsafe extern "C" fn(*const u8, i32, *mut u32) -> i64;
+
+/// The reader over ICU.
+pub struct Icu(Tokens);
+
+impl Icu {
+    pub fn load() -> Option<Icu> {
+        let file = CString::new(std::env::var("LUFFINARC_ICU").ok()?).unwrap();
+        let name = CString::new("icu_tokens").unwrap();
+        const NOW: i32 = 2;
+        // Safety: the file is made of `icu.c`, whose function has this type.
+        unsafe {
+            let library = dlopen(file.as_ptr(), NOW);
+            assert!(!library.is_null(), "{file:?} cannot be loaded");
+            let symbol = dlsym(library, name.as_ptr());
+            assert!(!symbol.is_null(), "{file:?} has no icu_tokens");
+            Some(Icu(std::mem::transmute::<*mut c_void, Tokens>(symbol)))
+        }
+    }
+
+    /// Counts the text's tokens; -1 where it has none.
+    pub fn count(&self, text: &[u8]) -> i64 {
+        // Safety: the pointer is of a slice, with its length.
+        unsafe { (self.0)(text.as_ptr(), text.len() as i32, std::ptr::null_mut()) }
+    }
+
+    /// Lists the text's tokens in words that have room for one at each byte.
+    pub fn list(&self, text: &[u8], words: &mut [u32]) -> i64 {
+        assert!(words.len() >= 3 * text.len());
+        // Safety: as above, and a token has a byte at least.
+        unsafe { (self.0)(text.as_ptr(), text.len() as i32, words.as_mut_ptr()) }
+    }
+}
