@@ -5,13 +5,11 @@ use mathlib.Core.List.{List, [], _∷_}
 use mathlib.Core.Option.{Option, none, some}
 use native.Mathlib.Omega.{arith}
 use lib.ListN.{length}
-use lib.Dec.{ltb}
 use borrow.Author.Tests.{lt-ltb, le-ltb}
 use Rattle.lists.specs.Laid.{laid}
 use Rattle.refusal.specs.declared.Refusal.{Refusal}
 use Rattle.refusal.specs.declared.Refusal.the-variants as refusal
 use Rattle.utf8.specs.Text.{Character}
-use Rattle.image.specs.Profile.{profileOf}
 use Rattle.image.specs.Check.{refusalOf, checkOf}
 use Rattle.image.specs.declared.Answer.the-variants as answer
 use Rattle.image.specs.declared.Checked.{Checked}
@@ -20,24 +18,9 @@ use Rattle.character.specs.Opened.{Opened}
 use Rattle.division.specs.Scan.{Tok}
 use Rattle.division.specs.Grammar.{Kind}
 use Rattle.division.specs.Outcome.{Outcome, given, refused, unless, outcomeMap}
-use Rattle.division.specs.Record.{recordSize, roomOf, listedWords}
-use Rattle.division.specs.Reading.{
-  maxText,
-  readingOf,
-  tokensOf,
-  lengthRefusal,
-  formRefusal,
-  judged,
-  outcomeOf,
-  countOf,
-  roomed,
-  writtenOf,
-  listOf,
-  laidBy,
-  listWords,
-}
+use Rattle.division.specs.Record.{recordSize, listedWords}
+use Rattle.division.specs.Reading.{maxText, readingOf, tokensOf, lengthRefusal, formRefusal, judged, outcomeOf, countOf, roomed, writtenOf, listOf, listWords}
 use Rattle.division.proofs.AnswerLaws.{counts-given, counts-refused, roomed-in, roomed-out}
-use Rattle.scan.specs.declared.Counted.{Counted}
 use Rattle.scan.specs.declared.Counted.the-variants as counted
 use Rattle.scan.specs.Counted.{countedBy, readThrough, countThrough}
 

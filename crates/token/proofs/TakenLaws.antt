@@ -1,12 +1,10 @@
 -- One token at a place is the first token of the text from the place on. Assumes nothing.
 use Prim.Native.Nat.{ℕ, _+_, _-_, _≤_, _<_}
 use mathlib.Core.Path.{_≡_, refl, sym, ap, _∙_}
-use mathlib.Core.Bool.{Bool, true, false, not, _&&_}
-use mathlib.Core.List.{List, [], _∷_, _++_}
-use mathlib.Core.Option.{Option, none, some}
+use mathlib.Core.List.{List, [], _∷_}
+use mathlib.Core.Option.{none}
 use native.Mathlib.Omega.{arith}
 use lib.ListN.{length, take, drop, length-drop}
-use lib.Dec.{ltb, eqb}
 use borrow.Author.Tests.{lt-ltb, le-ltb, eq-eqb, ne-eqb}
 use Rattle.refusal.specs.declared.Refusal.{Refusal}
 use Rattle.refusal.specs.declared.Refusal.the-variants as refusal
@@ -21,7 +19,6 @@ use Rattle.image.specs.declared.Checked.{Checked}
 use Rattle.image.proofs.ImageLaws.{says as check-says}
 use Rattle.division.specs.Scan.{Tok, unitsOf, reading}
 use Rattle.division.specs.Grammar.{Kind}
-use Rattle.division.specs.Kinds.{kindNumber}
 use Rattle.division.specs.Record.{tokenWidth, tokensWidth}
 use Rattle.division.specs.Reading.{maxText, rulesOf, readingOf, tokensOf, lengthRefusal}
 use Rattle.division.proofs.ScanLaws.{reading-covers}
@@ -31,7 +28,7 @@ use Rattle.scan.specs.declared.First.the-variants as first
 use Rattle.scan.specs.First.{firstIn, firstBy, firstOf}
 use Rattle.token.specs.declared.Taken.{Taken}
 use Rattle.token.specs.declared.Taken.the-variants.{Refused, Done, Token}
-use Rattle.token.specs.Taken.{pickTaken, placeRefusal, stopBy, stopOf, firstAt, tokenAt, takenOf}
+use Rattle.token.specs.Taken.{placeRefusal, stopBy, stopOf, firstAt, tokenAt, takenOf}
 
 -- the first token of a part that begins at a place, at its places in the whole text
 abbrev pub takenBy : ℕ → First → Taken

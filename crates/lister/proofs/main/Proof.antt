@@ -1,5 +1,5 @@
 -- `lister::main` is safe: the tokens that were listed have their words in the buffer. Assumes nothing.
-use mathlib.Core.Path.{_≡_, sym, ap, _∙_}
+use mathlib.Core.Path.{sym, _∙_}
 use native.Mathlib.Omega.{arith}
 use Rattle.listing.proofs.InputLaws.{listed-fits}
 use borrow.Author.Needs.{needs}

@@ -1,6 +1,6 @@
 -- `listing::list_input` meets its contract. Assumes nothing.
 use native.Mathlib.Omega.{arith}
-use lib.ListN.{length, length-take}
+use lib.ListN.{length-take}
 use Rattle.listing.proofs.InputLaws.{whole, from-none, from-whole}
 use borrow.Author.Needs.{needs}
 use Rattle.listing.proofs.list_input.Statement.{statement}

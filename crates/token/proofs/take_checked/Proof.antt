@@ -1,7 +1,7 @@
 -- `token::take_checked` meets its contract: the text from the place on is handed on, and its first token is the token at the place. Assumes nothing.
 use mathlib.Core.Path.{_≡_, sym, ap, _∙_}
 use native.Mathlib.Omega.{arith}
-use lib.ListN.{length, drop, length-drop}
+use lib.ListN.{drop, length-drop}
 use Rattle.lists.proofs.LaidLaws.{rest}
 use Rattle.scan.specs.declared.First.{First}
 use Rattle.scan.specs.First.{firstOf}
