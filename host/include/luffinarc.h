@@ -1,6 +1,6 @@
 /* Luffinarc: class images and tokens by Unicode Standard Annex #31.
  *
- * The functions are those of the static library target/staticlib/libexports.a, which `rt staticlib exports` makes.
+ * The functions are those of the static library target/staticlib/libluffinarc.a, which `rt staticlib luffinarc` makes.
  * They are proved to answer as their definitions say, for all images, texts and numbers; they use no heap, keep no
  * state, and may be called from several threads at once.
  *

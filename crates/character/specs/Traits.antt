@@ -1,4 +1,4 @@
--- What the token rules know of a code point, as one number (document 01, "The class image", roles).
+-- What the token rules know of a code point, as one number (docs/RULES.md, "The class image", roles).
 use Prim.Native.Nat.{ℕ, _+_}
 use mathlib.Core.Bool.{Bool, true, false}
 use mathlib.Core.List.{List}

@@ -2,8 +2,9 @@
 use Prim.Native.Nat.{ℕ, _+_, _-_, _*_, _/_, _≤_, _<_}
 use mathlib.Core.Path.{_≡_, refl, sym, ap, subst, _∙_}
 use mathlib.Core.List.{List, [], _∷_}
-use mathlib.Core.Bool.{Bool, true, false, _&&_, _||_}
+use mathlib.Core.Bool.{Bool, true, false, true≢false, _&&_, _||_, cond}
 use mathlib.Core.Option.{Option, none, some}
+use mathlib.Core.Logic.{_↔_}
 use native.Mathlib.Omega.{arith}
 use lib.ListN.{length}
 use lib.Dec.{leb, ltb, eqb}
@@ -16,6 +17,7 @@ use Rattle.lists.proofs.EachLaws.{column-at, column-past}
 use Rattle.lists.proofs.FirstLaws.{first-bad, all-good, first-is-bad, first-is-none}
 use Rattle.refusal.specs.declared.Refusal.{Refusal}
 use Rattle.refusal.specs.declared.Refusal.the-variants as refusal
+use Rattle.refusal.specs.Refusal.{numberOf}
 use Rattle.utf8.specs.Scalar.{isScalar}
 use Rattle.image.specs.Word.{wordAt}
 use Rattle.image.specs.Limits.{maxRanges, maxEntries, headerBytes, entryBytes, maxImage}
@@ -35,8 +37,8 @@ use Rattle.image.specs.Header.{
 }
 use Rattle.image.specs.Ranges.{rangeAt, rangeWords, goodRange, firstBadRange}
 use Rattle.image.specs.Profile.{pointAt, roleAt, pointIn, roleIn, goodEntry, firstBadEntry, profileOf, noProfile}
-use Rattle.image.specs.Accepted.{Headed, Accepted, Because}
-use Rattle.image.specs.Check.{pickRefusal, refuseAt, refusalOf, checkBy, checkOf, readRefusal, readOf, wordsAfter}
+use Rattle.image.specs.Accepted.{Sized, Headed, Accepted, Because}
+use Rattle.image.specs.Check.{refuseAt, refusalOf, checkBy, checkOf, readRefusal, readOf, wordsAfter}
 use Rattle.image.specs.declared.Range.{Range}
 use Rattle.image.specs.declared.Profile.{Profile}
 use Rattle.image.specs.declared.Answer.{Answer}
@@ -96,6 +98,24 @@ module _ (s : List ℕ) where
   unfolding lengthRight
   length-right h = simp (le-leb _ _ (h .long), le-leb _ _ (h .short), eq-eqb _ _ (h .total))
 
+  sized : lengthRight s ≡ true → Sized s
+  unfolding lengthRight
+  sized l =
+      let (a, (b, t)) = split (leb headerBytes (length s)) (leb (length s) maxImage ∷ eqb (totalOf s) (length s) ∷ []) l in
+      record { long = leb-true _ _ a; short = leb-true _ _ b; total = eqb-true _ _ t }
+
+  sized-right : Sized s → lengthRight s ≡ true
+  unfolding lengthRight
+  sized-right h = simp (le-leb _ _ (h .long), le-leb _ _ (h .short), eq-eqb _ _ (h .total))
+
+  not-sized : (Sized s → ⊥) → (b : Bool) → lengthRight s ≡ b → b ≡ false
+  not-sized f true e = absurd (f (sized e))
+  not-sized f false e = refl
+
+  not-headed : Sized s → (Headed s → ⊥) → (b : Bool) → headerRight s ≡ b → b ≡ false
+  not-headed z f true e = absurd (f (headed (sized-right z) e))
+  not-headed z f false e = refl
+
   pub header-right : Headed s → headerRight s ≡ true
   unfolding headerRight
   header-right h =
@@ -152,24 +172,33 @@ module _ (s : List ℕ) where
 
   because-entries :
       Headed s → AllGood (goodRange (rangeAt s)) (rangeCount s) → (b : Bool) → ltb badEntry (entryCount s) ≡ b
-      → Because s (pickRefusal b (some (refusal.Entry badEntry)) none)
+      → Because s (cond b (some (refusal.Entry badEntry)) none)
   unfolding firstBadEntry
   because-entries h g true e = (h, g, first-bad (goodEntry (pointAt s) (roleAt s)) (entryCount s) (ltb-true _ _ e))
   because-entries h g false e =
       record { header = h; ranges = g; entries = all-good (goodEntry (pointAt s) (roleAt s)) (entryCount s) (ltb-false _ _ e) }
 
-  because-ranges : Headed s → (b : Bool) → ltb badRange (rangeCount s) ≡ b → Because s (pickRefusal b (some (refusal.Range badRange)) afterRanges)
+  because-ranges : Headed s → (b : Bool) → ltb badRange (rangeCount s) ≡ b → Because s (cond b (some (refusal.Range badRange)) afterRanges)
   unfolding firstBadRange
   because-ranges h true e = (h, first-bad (goodRange (rangeAt s)) (rangeCount s) (ltb-true _ _ e))
   because-ranges h false e = because-entries h (all-good (goodRange (rangeAt s)) (rangeCount s) (ltb-false _ _ e)) _ refl
 
-  because-header : lengthRight s ≡ true → (b : Bool) → headerRight s ≡ b → Because s (pickRefusal b afterHeader (some refusal.Header))
+  because-header : lengthRight s ≡ true → (b : Bool) → headerRight s ≡ b → Because s (cond b afterHeader (some refusal.Header))
   because-header l true e = because-ranges (headed s l e) _ refl
-  because-header l false e = (l, e)
+  because-header l false e = (sized s l, λ h. true≢false (sym (header-right s h) ∙ e))
 
-  because-length : (b : Bool) → lengthRight s ≡ b → Because s (pickRefusal b (pickRefusal (headerRight s) afterHeader (some refusal.Header)) (some refusal.Length))
+  because-length : (b : Bool) → lengthRight s ≡ b → Because s (cond b (cond (headerRight s) afterHeader (some refusal.Header)) (some refusal.Length))
   because-length true e = because-header e _ refl
-  because-length false e = e
+  because-length false e = λ z. true≢false (sym (sized-right s z) ∙ e)
+
+  -- the refusals of the length and of the header, by their tests
+  pub length-refused : lengthRight s ≡ false → refusalOf s ≡ some refusal.Length
+  unfolding refusalOf
+  length-refused l = simp l
+
+  pub header-refused : lengthRight s ≡ true → headerRight s ≡ false → refusalOf s ≡ some refusal.Header
+  unfolding refusalOf
+  header-refused l h = simp (l, h)
 
   -- why an image is accepted or refused
   pub because : Because s (refusalOf s)
@@ -199,8 +228,8 @@ module _ (s : List ℕ) where
   decides none a =
       let e = first-is-none (goodEntry (pointAt s) (roleAt s)) (entryCount s) (a .entries) in
       past-ranges (a .header) (a .ranges) ∙ simp (le-ltb badEntry (entryCount s) (omega arith))
-  decides (some refusal.Length) l = simp l
-  decides (some refusal.Header) (l, h) = simp (l, h)
+  decides (some refusal.Length) f = length-refused (not-sized s f _ refl)
+  decides (some refusal.Header) (z, f) = header-refused (sized-right s z) (not-headed s z f _ refl)
   decides (some (refusal.Range i)) (h, f) =
       let e = first-is-bad (goodRange (rangeAt s)) (rangeCount s) i f in
       past-header h ∙ simp (e, lt-ltb i (rangeCount s) (f .within))
@@ -293,3 +322,48 @@ module _ (s out : List ℕ) where
   -- a refused read leaves the buffer as it was
   pub refused-keeps : (r : Refusal) → readOf s (length out) .answer ≡ answer.Refused r → wordsAfter s out ≡ out
   refused-keeps r e = read-says (readOf s (length out)) refl (answer.Refused r) e .2
+
+  room-by :
+      (o : Option Refusal) → refusalOf s ≡ o → (b : Bool) → ltb (length out / 3) (rangeCount s) ≡ b → (k : ℕ)
+      → readRefusal s (length out) o ≡ some (refusal.Room k) → Accepted s × (length out / 3 < rangeCount s) × (k ≡ rangeCount s)
+  room-by none e true f k h =
+      let g : some (refusal.Room (rangeCount s)) ≡ some (refusal.Room k) = simp f at h in
+      let z : rangeCount s ≡ k = cc in
+      (accepted s e, ltb-true _ _ f, sym z)
+  room-by none e false f k h =
+      let g : _≡_ {A = Option Refusal} none (some (refusal.Room k)) = simp f at h in
+      let z : _≡_ {A = ℕ} 0 1 = cc in
+      absurd (omega arith)
+  room-by (some r) e b f k h = absurd (why s (some (refusal.Room k)) (e ∙ h))
+
+  no-room : Accepted s → length out / 3 < rangeCount s → readRefusal s (length out) (refusalOf s) ≡ some (refusal.Room (rangeCount s))
+  no-room a l = ap (readRefusal s (length out)) (refused-none s a) ∙ simp (lt-ltb _ _ l)
+
+  -- 8 of a read, exactly when: the image is accepted, and its ranges need more room
+  pub read-room :
+      (k : ℕ) → (readOf s (length out) .answer ≡ answer.Refused (refusal.Room k)) ↔ (Accepted s × (length out / 3 < rangeCount s) × (k ≡ rangeCount s))
+  unfolding readOf
+  read-room k = (to, from)
+    where
+      to : readOf s (length out) .answer ≡ answer.Refused (refusal.Room k) → Accepted s × (length out / 3 < rangeCount s) × (k ≡ rangeCount s)
+      to h = room-by (refusalOf s) refl _ refl k (read-says (readOf s (length out)) refl (answer.Refused (refusal.Room k)) h .0)
+
+      from : Accepted s × (length out / 3 < rangeCount s) × (k ≡ rangeCount s) → readOf s (length out) .answer ≡ answer.Refused (refusal.Room k)
+      from (a, l, e) = ap (λ (o : Option Refusal). checkBy s o .answer) (no-room a l) ∙ ap (λ (m : ℕ). answer.Refused (refusal.Room m)) (sym e)
+
+-- an image is refused with 1 to 4
+image-numbers : (a b c d : Bool) (i j : ℕ) (r : Refusal) →
+    cond a (cond b (cond c (some (refusal.Range i)) (cond d (some (refusal.Entry j)) none)) (some refusal.Header)) (some refusal.Length) ≡ some r →
+    numberOf r ≤ 4
+image-numbers false b c d i j r e = let f : refusal.Length ≡ r = cc in rw (← f) (omega arith)
+image-numbers true false c d i j r e = let f : refusal.Header ≡ r = cc in rw (← f) (omega arith)
+image-numbers true true true d i j r e = let f : refusal.Range i ≡ r = cc in rw (← f) (omega arith)
+image-numbers true true false true i j r e = let f : refusal.Entry j ≡ r = cc in rw (← f) (omega arith)
+image-numbers true true false false i j r e = let z : _≡_ {A = ℕ} 0 1 = cc in absurd (omega arith)
+
+pub image-refused : (s : List ℕ) (r : Refusal) → refusalOf s ≡ some r → numberOf r ≤ 4
+unfolding refusalOf
+image-refused s r e =
+    let i = firstBadRange (rangeAt s) (rangeCount s) in
+    let j = firstBadEntry (pointAt s) (roleAt s) (entryCount s) in
+    image-numbers (lengthRight s) (headerRight s) (ltb i (rangeCount s)) (ltb j (entryCount s)) i j r e

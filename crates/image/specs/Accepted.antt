@@ -1,9 +1,8 @@
--- What an accepted image is, and what each of the refusals 1 to 4 says of an image (document 01, "The class image", "Named refusals").
+-- What an accepted image is, and what each of the refusals 1 to 4 says of an image (docs/RULES.md, "The class image", "Named refusals").
 -- `proofs/ImageLaws.antt` joins this to the answers of `Check.antt`.
 use Prim.Native.Nat.{ℕ, _≤_}
 use mathlib.Core.Path.{_≡_}
 use mathlib.Core.List.{List}
-use mathlib.Core.Bool.{true, false}
 use mathlib.Core.Option.{Option, none, some}
 use lib.ListN.{length}
 use Rattle.lists.specs.First.{AllGood, FirstBad}
@@ -20,11 +19,15 @@ use Rattle.image.specs.Header.{
   zeroWord,
   entriesAt,
   imageEnd,
-  lengthRight,
-  headerRight,
 }
 use Rattle.image.specs.Ranges.{rangeAt, goodRange}
 use Rattle.image.specs.Profile.{pointAt, roleAt, goodEntry}
+
+-- an image of a length within its limits, which is the header's total length
+pub record Sized (s : List ℕ) : Type 0 where
+  pub long : headerBytes ≤ length s
+  pub short : length s ≤ maxImage
+  pub total : totalOf s ≡ length s
 
 -- an image whose length and header are right
 pub record Headed (s : List ℕ) : Type 0 where
@@ -48,8 +51,8 @@ pub record Accepted (s : List ℕ) : Type 0 where
 -- what is so exactly where an image has this refusal of 1 to 4, or none
 abbrev pub Because : List ℕ → Option Refusal → Type 0
 Because s none = Accepted s
-Because s (some refusal.Length) = lengthRight s ≡ false
-Because s (some refusal.Header) = (lengthRight s ≡ true) × (headerRight s ≡ false)
+Because s (some refusal.Length) = Sized s → ⊥
+Because s (some refusal.Header) = Sized s × (Headed s → ⊥)
 Because s (some (refusal.Range i)) = Headed s × FirstBad (goodRange (rangeAt s)) (rangeCount s) i
 Because s (some (refusal.Entry i)) =
     Headed s × AllGood (goodRange (rangeAt s)) (rangeCount s) × FirstBad (goodEntry (pointAt s) (roleAt s)) (entryCount s) i

@@ -1,7 +1,7 @@
--- What checking and reading an image give (document 01, "Named refusals" 1 to 4 and 8).
+-- What checking and reading an image give (docs/RULES.md, "Named refusals" 1 to 4 and 8).
 use Prim.Native.Nat.{ℕ, _/_}
 use mathlib.Core.List.{List}
-use mathlib.Core.Bool.{Bool, true, false}
+use mathlib.Core.Bool.{Bool, true, false, cond}
 use mathlib.Core.Option.{Option, none, some}
 use lib.ListN.{length}
 use lib.Dec.{ltb}
@@ -16,19 +16,15 @@ use Rattle.image.specs.declared.Answer.{Answer}
 use Rattle.image.specs.declared.Answer.the-variants as answer
 use Rattle.image.specs.declared.Checked.{Checked}
 
-abbrev pub pickRefusal : Bool → Option Refusal → Option Refusal → Option Refusal
-pickRefusal true a b = a
-pickRefusal false a b = b
-
 -- the refusal of an index, where it is below the count
 abbrev pub refuseAt : (ℕ → Refusal) → ℕ → ℕ → Option Refusal → Option Refusal
-refuseAt f i n other = pickRefusal (ltb i n) (some (f i)) other
+refuseAt f i n other = cond (ltb i n) (some (f i)) other
 
 -- the first in number order of 1 to 4 that applies; none: the image is accepted
 unfoldable pub refusalOf : List ℕ → Option Refusal
 refusalOf s =
-    pickRefusal (lengthRight s)
-    (pickRefusal (headerRight s)
+    cond (lengthRight s)
+    (cond (headerRight s)
     (refuseAt refusal.Range (firstBadRange (rangeAt s) (rangeCount s)) (rangeCount s)
     (refuseAt refusal.Entry (firstBadEntry (pointAt s) (roleAt s) (entryCount s)) (entryCount s) none))
     (some refusal.Header))
@@ -51,7 +47,7 @@ checkOf s = checkBy s (refusalOf s)
 
 -- refusals 1 to 4, then 8 with the records needed, for a buffer of `words` words
 abbrev pub readRefusal : List ℕ → ℕ → Option Refusal → Option Refusal
-readRefusal s words none = pickRefusal (ltb (words / 3) (rangeCount s)) (some (refusal.Room (rangeCount s))) none
+readRefusal s words none = cond (ltb (words / 3) (rangeCount s)) (some (refusal.Room (rangeCount s))) none
 readRefusal s words (some r) = some r
 
 -- the answer of reading

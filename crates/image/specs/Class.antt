@@ -1,4 +1,4 @@
--- The classes of scalar values and their numbers (document 01, "The class image").
+-- The classes of scalar values and their numbers (docs/RULES.md, "The class image").
 use Prim.Native.Nat.{ℕ, zero, suc}
 
 pub data Class : Type 0 where

@@ -1,4 +1,4 @@
--- The header of a class image: eight numbers in 32 bytes (document 01, "The class image"; refusals 1 and 2).
+-- The header of a class image: eight numbers in 32 bytes (docs/RULES.md, "The class image"; refusals 1 and 2).
 use Prim.Native.Nat.{ℕ, _+_, _*_}
 use mathlib.Core.List.{List}
 use mathlib.Core.Bool.{Bool, _&&_}

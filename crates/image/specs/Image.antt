@@ -1,4 +1,4 @@
--- The image with a version, ranges and a profile, as numbers and as bytes (document 01, "The class image").
+-- The image with a version, ranges and a profile, as numbers and as bytes (docs/RULES.md, "The class image").
 use Prim.Native.Nat.{ℕ}
 use mathlib.Core.List.{List, [], _∷_, _++_}
 use Rattle.lists.specs.Each.{each}

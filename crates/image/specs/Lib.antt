@@ -4,6 +4,7 @@ pub mod Class
 pub mod Permitted
 pub mod Header
 pub mod Ranges
+pub mod Good
 pub mod Profile
 pub mod Image
 pub mod Check

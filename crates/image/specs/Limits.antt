@@ -1,4 +1,4 @@
--- The limits and sizes of a class image (document 01, "The class image").
+-- The limits and sizes of a class image (docs/RULES.md, "The class image").
 use Prim.Native.Nat.{ℕ, _+_, _*_}
 
 -- ranges and profile entries that an image may have

@@ -1,4 +1,4 @@
--- The permitted changes of a class from one version to a later one (document 01, "Permitted changes"; UAX #31, Table 1).
+-- The permitted changes of a class from one version to a later one (docs/RULES.md, "Permitted changes"; UAX #31, Table 1).
 use mathlib.Core.Path.{_≡_}
 use Rattle.image.specs.Class.{Class, Unassigned, Start, Nonstart, Other}
 

@@ -1,10 +1,10 @@
--- Profiles: code points with roles (document 01, "The class image"; refusal 4).
+-- Profiles: code points with roles (docs/RULES.md, "The class image"; refusal 4).
 use Prim.Native.Nat.{ℕ, _+_, _-_, _*_}
 use mathlib.Core.List.{List}
-use mathlib.Core.Bool.{Bool, not, _&&_, _||_}
+use mathlib.Core.Bool.{Bool, not, _&&_, _||_, cond}
 use lib.Dec.{leb, ltb, eqb}
 use lib.ListN.{getD, replicate}
-use Rattle.lists.specs.First.{pickN, firstWhere}
+use Rattle.lists.specs.First.{firstWhere}
 use Rattle.lists.specs.Each.{column}
 use Rattle.utf8.specs.Scalar.{isScalar}
 use Rattle.image.specs.Word.{wordAt}
@@ -52,11 +52,11 @@ noProfile = record { points = replicate maxEntries 0; roles = replicate maxEntri
 unfoldable pub roleOf : Profile → ℕ → ℕ
 roleOf p x =
     let i = firstWhere (λ (i : ℕ). eqb (pointIn p i) x) (p .used) in
-    pickN (ltb i (p .used)) (roleIn p i) 0
+    cond (ltb i (p .used)) (roleIn p i) 0
 
 -- the class after the profile: role 1 makes Start, 2 Nonstart, 4 Other; 3 keeps the class
 unfoldable pub afterRole : ℕ → ℕ → ℕ
-afterRole role class = pickN (eqb role 1) 1 (pickN (eqb role 2) 2 (pickN (eqb role 4) 5 class))
+afterRole role class = cond (eqb role 1) 1 (cond (eqb role 2) 2 (cond (eqb role 4) 5 class))
 
 -- role 3 marks a medial
 unfoldable pub isMedial : Profile → ℕ → Bool

@@ -1,11 +1,11 @@
--- Ranges of code points with a class (document 01, "The class image"; refusal 3).
+-- Ranges of code points with a class (docs/RULES.md, "The class image"; refusal 3).
 -- Ranges are given by a function of the index, so that the same rules serve the bytes of an image and a list of words.
 use Prim.Native.Nat.{ℕ, _+_, _-_, _*_}
 use mathlib.Core.List.{List, [], _∷_}
-use mathlib.Core.Bool.{Bool, not, _&&_, _||_}
+use mathlib.Core.Bool.{Bool, not, _&&_, _||_, cond}
 use lib.Dec.{leb, ltb, eqb}
 use lib.ListN.{getD}
-use Rattle.lists.specs.First.{pickN, firstWhere}
+use Rattle.lists.specs.First.{firstWhere}
 use Rattle.image.specs.Word.{wordAt}
 use Rattle.image.specs.Limits.{headerBytes, rangeBytes, lastCodePoint}
 use Rattle.image.specs.declared.Range.{Range}
@@ -48,4 +48,4 @@ holds r x = leb (r .first) x && leb x (r .last)
 unfoldable pub classIn : (ℕ → Range) → ℕ → ℕ → ℕ
 classIn at n x =
     let i = firstWhere (λ (i : ℕ). holds (at i) x) n in
-    pickN (ltb i n) (at i .class) 0
+    cond (ltb i n) (at i .class) 0

@@ -1,4 +1,4 @@
--- Numbers of 32 bits in a list of bytes, little-endian (document 01, "The class image").
+-- Numbers of 32 bits in a list of bytes, little-endian (docs/RULES.md, "The class image").
 use Prim.Native.Nat.{ℕ, _+_, _*_, _/_, _%_, _<_}
 use mathlib.Core.List.{List, [], _∷_}
 use lib.ListN.{getD}

@@ -1,4 +1,4 @@
-// Document 01's cases of class images: each answer, one line each.
+// docs/RULES.md's cases of class images: each answer, one line each.
 ghost use Prim.Native.Nat.{_≤_};
 use image::Answer;
 use image::Checked;

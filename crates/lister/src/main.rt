@@ -65,7 +65,7 @@ fn main() {
     let mut input = [0u8; MAX_INPUT];
     let n = io::read_full(STDIN_FILENO, &mut input);
     let mut words = [0u32; MAX_WORDS];
-    let counted = listing::list_input(&input[..n], &mut words);
+    let counted = listing::list_read(&input[..n], MAX_INPUT, &mut words);
     match counted {
         Counted::Refused(r) => print_refusal(r),
         Counted::Tokens(count) => print_tokens(&words, count),

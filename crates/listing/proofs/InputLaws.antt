@@ -1,14 +1,13 @@
 -- Where an image in the lister's input ends, and what is then listed. Assumes nothing.
 use Prim.Native.Nat.{ℕ, _-_, _*_, _≤_, _<_}
 use mathlib.Core.Path.{_≡_, refl, sym, ap, _∙_}
-use mathlib.Core.Bool.{Bool, true, false}
+use mathlib.Core.Bool.{Bool, true, false, cond}
 use mathlib.Core.List.{List}
 use mathlib.Core.Option.{Option, none, some}
 use native.Mathlib.Omega.{arith}
 use lib.ListN.{length, take, drop}
 use lib.Dec.{leb, ltb}
 use borrow.Author.Tests.{lt-ltb, le-ltb, le-leb, lt-leb, leb-true}
-use Rattle.lists.specs.First.{pickN}
 use Rattle.lists.proofs.BoolLaws.{and-left, and-right}
 use Rattle.lists.proofs.LaidLaws.{rest}
 use Rattle.refusal.specs.declared.Refusal.{Refusal}
@@ -20,12 +19,12 @@ use Rattle.image.specs.Check.{refusalOf, checkOf}
 use Rattle.image.specs.declared.Answer.the-variants as answer
 use Rattle.image.specs.declared.Checked.{Checked}
 use Rattle.image.proofs.ImageLaws.{says}
-use Rattle.division.specs.Scan.{Tok}
-use Rattle.division.specs.Grammar.{Kind}
-use Rattle.division.specs.Outcome.{Outcome, given, refused, unless, refusedIf, outcomeMap}
-use Rattle.division.specs.Record.{recordSize}
-use Rattle.division.specs.Reading.{outcomeOf, writtenOf, laidBy, listOf, listWords}
-use Rattle.division.proofs.AnswerLaws.{roomed-given}
+use Rattle.grammar.specs.Scan.{Tok}
+use Rattle.grammar.specs.Grammar.{Kind}
+use Rattle.refusal.specs.Outcome.{Outcome, given, refused, unless, refusedIf, outcomeMap}
+use Rattle.grammar.specs.Record.{recordSize}
+use Rattle.grammar.specs.Reading.{outcomeOf, writtenOf, laidBy, listOf, listWords}
+use Rattle.grammar.proofs.AnswerLaws.{roomed-given}
 use Rattle.scan.specs.declared.Counted.{Counted}
 use Rattle.scan.specs.declared.Counted.the-variants as counted
 use Rattle.scan.specs.Counted.{countedBy}
@@ -73,9 +72,9 @@ pub record Whole (input : List ℕ) (end : ℕ) : Type 0 where
 module _ (input : List ℕ) (end : ℕ) (e : end ≡ endOf input) where
   whole-by : (b : Bool) → comesWhole input ≡ b → (end ≡ 0 → ⊥) → Whole input end
   unfolding comesWhole endOf
-  whole-by false f h = absurd (h (e ∙ ap (λ (b : Bool). pickN b (totalOf input) 0) f))
+  whole-by false f h = absurd (h (e ∙ ap (λ (b : Bool). cond b (totalOf input) 0) f))
   whole-by true f h =
-      let t : end ≡ totalOf input = e ∙ ap (λ (b : Bool). pickN b (totalOf input) 0) f in
+      let t : end ≡ totalOf input = e ∙ ap (λ (b : Bool). cond b (totalOf input) 0) f in
       let l : totalOf input ≤ length input =
       leb-true _ _ (and-right (leb (totalOf input) maxImage) _ (and-right (leb headerBytes (totalOf input)) _ (and-right (leb headerBytes (length input)) _ f))) in
       record { comes = f; total = t; within = omega arith }
@@ -87,7 +86,7 @@ module _ (input : List ℕ) (end : ℕ) (e : end ≡ endOf input) where
   unfolding comesWhole endOf
   none-by false f z = f
   none-by true f z =
-      let t : end ≡ totalOf input = e ∙ ap (λ (b : Bool). pickN b (totalOf input) 0) f in
+      let t : end ≡ totalOf input = e ∙ ap (λ (b : Bool). cond b (totalOf input) 0) f in
       let l : headerBytes ≤ totalOf input = leb-true _ _ (and-left (leb headerBytes (totalOf input)) _ (and-right (leb headerBytes (length input)) _ f)) in
       absurd (omega arith)
 

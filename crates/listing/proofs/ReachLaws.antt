@@ -1,5 +1,5 @@
 -- No more of the lister's input matters than its program reads: the largest image, the longest text and one byte. Assumes nothing.
-use Prim.Native.Nat.{ℕ, _+_, _≤_, _<_}
+use Prim.Native.Nat.{ℕ, _+_, _*_, _≤_, _<_}
 use mathlib.Core.Path.{_≡_, refl, sym, ap, _∙_}
 use mathlib.Core.Bool.{Bool, true, false, _&&_}
 use mathlib.Core.List.{List}
@@ -14,7 +14,10 @@ use Rattle.lists.proofs.BoolLaws.{and-left, and-right}
 use Rattle.image.specs.Word.{wordAt}
 use Rattle.image.specs.Limits.{headerBytes, maxImage}
 use Rattle.image.specs.Header.{totalOf}
-use Rattle.listing.specs.Input.{maxScript, comesWhole, writtenWithin, writtenBy, writtenFrom}
+use Rattle.refusal.specs.Outcome.{outcomeMap}
+use Rattle.grammar.specs.Record.{recordSize}
+use Rattle.scan.specs.Counted.{countedBy}
+use Rattle.listing.specs.Input.{maxScript, comesWhole, writtenWithin, writtenBy, writtenFrom, listedFrom, wholeAnswer}
 
 abbrev whole : ℕ → ℕ → Bool
 whole n total = leb headerBytes n && (leb headerBytes total && (leb total maxImage && leb total n))
@@ -78,3 +81,10 @@ module _ (input : List ℕ) (k : ℕ) (enough : maxImage + maxScript < k) where
       go : Dec (k ≤ length input) → writtenFrom (take k input) words ≡ writtenFrom input words
       go (yes h) = same-written h words
       go (no h) = ap (λ s. writtenFrom s words) (take-all k input (omega arith))
+
+-- so is the program's answer, where there is room for the longest text's tokens
+pub whole-answer : (input : List ℕ) (limit : ℕ) → maxImage + maxScript < limit → (read : List ℕ) → take limit input ≡ read → (words : ℕ) → words ≡ recordSize * maxScript →
+    countedBy (listedFrom read words) ≡ wholeAnswer input
+unfolding wholeAnswer listedFrom
+whole-answer input limit h read e words w =
+    rw (← e, w) (ap (λ o. countedBy (outcomeMap length o)) (looks-no-further input limit h (recordSize * maxScript)))

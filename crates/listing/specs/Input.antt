@@ -1,19 +1,21 @@
--- An image and right after it a text, as the token lister reads them (document 01, "Small image M and its readings").
-use Prim.Native.Nat.{ℕ}
-use mathlib.Core.Bool.{Bool, true, false, _&&_}
+-- An image and right after it a text, as the token lister reads them (docs/RULES.md, "Small image M and its readings").
+use Prim.Native.Nat.{ℕ, _*_}
+use mathlib.Core.Bool.{Bool, true, false, _&&_, cond}
 use mathlib.Core.List.{List}
 use lib.ListN.{length, take, drop}
 use lib.Dec.{ltb, leb}
-use Rattle.lists.specs.First.{pickN}
 use Rattle.refusal.specs.declared.Refusal.the-variants as refusal
 use Rattle.utf8.specs.Text.{Character}
 use Rattle.image.specs.Limits.{headerBytes, maxImage}
 use Rattle.image.specs.Header.{totalOf}
 use Rattle.image.specs.Check.{refusalOf}
-use Rattle.division.specs.Scan.{Tok}
-use Rattle.division.specs.Grammar.{Kind}
-use Rattle.division.specs.Outcome.{Outcome, refused, unless, refusedIf, outcomeMap}
-use Rattle.division.specs.Reading.{writtenOf, laidBy}
+use Rattle.grammar.specs.Scan.{Tok}
+use Rattle.grammar.specs.Grammar.{Kind}
+use Rattle.refusal.specs.Outcome.{Outcome, refused, unless, refusedIf, outcomeMap}
+use Rattle.grammar.specs.Record.{recordSize}
+use Rattle.grammar.specs.Reading.{writtenOf, laidBy}
+use Rattle.scan.specs.declared.Counted.{Counted}
+use Rattle.scan.specs.Counted.{countedBy}
 
 -- the most bytes of the lister's text
 abbrev pub maxScript : ℕ
@@ -26,7 +28,7 @@ comesWhole input =
 
 -- where the image ends; 0 where it doesn't come whole
 unfoldable pub endOf : List ℕ → ℕ
-endOf input = pickN (comesWhole input) (totalOf input) 0
+endOf input = cond (comesWhole input) (totalOf input) 0
 
 -- 1 to 4 of the image, then 5 above 8,192 bytes of text, then what writing the list gives
 unfoldable pub writtenWithin : List ℕ → List ℕ → ℕ → Outcome (List (Tok Character Kind))
@@ -47,3 +49,7 @@ listedFrom input words = outcomeMap length (writtenFrom input words)
 
 unfoldable pub wordsAfter : List ℕ → List ℕ → List ℕ
 wordsAfter input out = laidBy out (writtenFrom input (length out))
+
+-- the program's answer: there is room for a token at every byte of the longest text
+unfoldable pub wholeAnswer : List ℕ → Counted
+wholeAnswer input = countedBy (listedFrom input (recordSize * maxScript))

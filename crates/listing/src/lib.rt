@@ -1,25 +1,28 @@
 // What the token lister does with its input: an image and right after it a text.
 ghost use mathlib.Core.Path.{_≡_};
-ghost use lib.ListN.{length};
-ghost use Rattle.division.specs.Outcome.{outcomeMap};
-ghost use Rattle.division.specs.Reading.{laidBy};
+ghost use mathlib.Core.List.{List};
+ghost use Prim.Native.Nat.{ℕ, _+_, _*_, _<_};
+ghost use Rattle.image.specs.Limits.{maxImage};
+ghost use Rattle.grammar.specs.Record.{recordSize};
+ghost use lib.ListN.{length, take};
+ghost use Rattle.refusal.specs.Outcome.{outcomeMap};
+ghost use Rattle.grammar.specs.Reading.{laidBy};
 ghost use Rattle.scan.specs.Counted.{countedBy};
-ghost use Rattle.listing.specs.Input.{endOf, writtenWithin, listedFrom, wordsAfter};
+ghost use Rattle.listing.specs.Input.{endOf, writtenWithin, listedFrom, wordsAfter, maxScript, wholeAnswer};
 use image::Answer;
+use image::MAX_IMAGE;
 use refusal::Refusal;
 use scan::Counted;
 
 // The most bytes of the text, and of all input that is looked at: the largest image, the longest text and one byte more.
 pub const MAX_SCRIPT: usize = 8192;
 
-pub const MAX_INPUT: usize = 57889;
+pub const MAX_INPUT: usize = MAX_IMAGE + MAX_SCRIPT + 1;
 
 // The words that the longest text's tokens can need.
-pub const MAX_WORDS: usize = 24576;
+pub const MAX_WORDS: usize = scan::RECORD_WORDS * MAX_SCRIPT;
 
 const HEADER_BYTES: usize = 32;
-
-const MAX_IMAGE: usize = 49696;
 
 // Where the image at the front of the input ends; 0 where it doesn't come whole.
 fn find_end(input: &[u8]) -> usize
@@ -72,4 +75,14 @@ pub fn list_input(input: &[u8], out: &mut [u32]) -> Counted
         return Counted::Refused(Refusal::Length);
     }
     list_script(&input[..end], &input[end..], out)
+}
+
+// The answer for the whole input, of which at most `limit` bytes were read.
+pub fn list_read(input: &[u8], limit: usize, out: &mut [u32]) -> Counted
+    requires { ⌜ (maxImage + maxScript < limit) × (length (now out) ≡ recordSize * maxScript) ⌝ }
+    ensures { λ r. ⌜ r ≡ countedBy (listedFrom (now (input .entry)) (length (now (out .entry)))) ⌝ }
+    ensures { λ r. ⌜ ((whole : List ℕ) → take limit whole ≡ now (input .entry) → r ≡ wholeAnswer whole) ⌝ }
+    ensures { λ r. ⌜ now (out .exit) ≡ wordsAfter (now (input .entry)) (now (out .entry)) ⌝ }
+{
+    list_input(input, out)
 }

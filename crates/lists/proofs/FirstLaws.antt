@@ -1,12 +1,12 @@
 -- The first index at which a test holds: one index at a time, for loops, and what it is, for callers. Assumes nothing.
 use Prim.Native.Nat.{ℕ, zero, suc, _+_, _-_, _≤_, _<_}
 use mathlib.Core.Path.{_≡_, refl, sym, ap, _∙_}
-use mathlib.Core.Bool.{Bool, true, false, not, true≢false}
+use mathlib.Core.Bool.{Bool, true, false, not, true≢false, cond}
 use native.Mathlib.Numerals.{add-one}
 use native.Mathlib.Omega.{arith}
 use native.Mathlib.Decide.{decLt}
 use borrow.Author.Tests.{not-true, not-false}
-use Rattle.lists.specs.First.{pickN, firstFrom, firstWhere, AllGood, FirstBad}
+use Rattle.lists.specs.First.{firstFrom, firstWhere, AllGood, FirstBad}
 
 -- for loops: the search from index i on, with n - i indexes left
 module _ (f : ℕ → Bool) (n i : ℕ) where
@@ -37,7 +37,7 @@ module _ (f : ℕ → Bool) where
     pub passed : (x : ℕ) → i ≤ x → x < j → f x ≡ false
     pub found : j < i + k → f j ≡ true
 
-  finds-step : (k i : ℕ) → Finds k (suc i) (firstFrom f k (suc i)) → (b : Bool) → f i ≡ b → Finds (suc k) i (pickN b i (firstFrom f k (suc i)))
+  finds-step : (k i : ℕ) → Finds k (suc i) (firstFrom f k (suc i)) → (b : Bool) → f i ≡ b → Finds (suc k) i (cond b i (firstFrom f k (suc i)))
   finds-step k i h true e =
       record { from = omega arith; to = omega arith; passed = λ x l u. absurd (omega arith); found = λ l. e }
   finds-step k i h false e =

@@ -1,7 +1,7 @@
 -- The halving search: one step of it, and how many steps there are. Assumes nothing.
 use Prim.Native.Nat.{ℕ, zero, suc, _+_, _-_, _/_, _^_, _≤_, _<_}
 use mathlib.Core.Path.{_≡_, refl, sym, ap, _∙_}
-use mathlib.Core.Bool.{Bool, true, false}
+use mathlib.Core.Bool.{Bool, true, false, cond}
 use native.Mathlib.Nat.{pow-suc}
 use native.Mathlib.Omega.{arith}
 use lib.Dec.{leb, ltb}
@@ -9,13 +9,13 @@ use borrow.Author.Tests.{le-leb, lt-leb, lt-ltb, le-ltb, leb-false}
 use Rattle.image.specs.Ranges.{holds}
 use Rattle.image.specs.declared.Range.{Range}
 use Rattle.lookup.specs.declared.Probe.{Probe}
-use Rattle.lookup.specs.Halving.{pickProbe, nothing, more, look, seekIn, seekOf}
+use Rattle.lookup.specs.Halving.{nothing, more, look, seekIn, seekOf}
 
-pick-same : (t : Bool) (a x y : Probe) → (t ≡ false → x ≡ y) → pickProbe t a x ≡ pickProbe t a y
+pick-same : (t : Bool) (a x y : Probe) → (t ≡ false → x ≡ y) → cond t a x ≡ cond t a y
 pick-same true a x y f = refl
 pick-same false a x y f = f refl
 
-pick-count : (t : Bool) (x y : Probe) (j : ℕ) → x .count ≤ j → (t ≡ false → y .count ≤ j) → pickProbe t x y .count ≤ j
+pick-count : (t : Bool) (x y : Probe) (j : ℕ) → x .count ≤ j → (t ≡ false → y .count ≤ j) → cond t x y .count ≤ j
 pick-count true x y j f g = f
 pick-count false x y j f g = g refl
 
@@ -23,7 +23,7 @@ module _ (at : ℕ → Range) (x : ℕ) where
   -- two searches that agree on both halves agree
   look-same : (f g : ℕ → ℕ → Probe) (lo hi m : ℕ) → f lo m ≡ g lo m → f (m + 1) hi ≡ g (m + 1) hi → look f at x lo hi m ≡ look g at x lo hi m
   look-same f g lo hi m p q =
-      λ d. pickProbe (holds (at m) x) (record { class = at m .class; count = 1 }) (pickProbe (ltb x (at m .first)) (more (p d)) (more (q d)))
+      λ d. cond (holds (at m) x) (record { class = at m .class; count = 1 }) (cond (ltb x (at m .first)) (more (p d)) (more (q d)))
 
   empty : (k lo hi : ℕ) → hi ≤ lo → seekIn k at lo hi x ≡ nothing
   empty zero lo hi h = refl
@@ -49,7 +49,7 @@ module _ (at : ℕ → Range) (x : ℕ) where
       let k = hi - lo in
       let m = (lo + hi) / 2 in
       enough k (suc k) lo hi (omega arith) (omega arith)
-      ∙ ap (λ (t : Bool). pickProbe t nothing (look (λ a b. seekIn k at a b x) at x lo hi m)) (lt-leb hi lo h)
+      ∙ ap (λ (t : Bool). cond t nothing (look (λ a b. seekIn k at a b x) at x lo hi m)) (lt-leb hi lo h)
       ∙ look-same (λ a b. seekIn k at a b x) (λ a b. seekIn (b - a) at a b x) lo hi m (enough k (m - lo) lo m (omega arith) (omega arith)) (enough k (hi - (m + 1)) (m + 1) hi (omega arith) (omega arith))
 
   -- one step, by the range r that it looks at and the search p in the half that remains

@@ -1,13 +1,12 @@
 -- The answer of a lookup, case by case; its count is at most 13, and a class after the profile at most 5. Assumes nothing.
 use Prim.Native.Nat.{ℕ, _+_, _*_, _≤_}
 use mathlib.Core.Path.{_≡_, refl, ap, _∙_}
-use mathlib.Core.Bool.{Bool, true, false}
+use mathlib.Core.Bool.{Bool, true, false, cond}
 use mathlib.Core.List.{List}
 use mathlib.Core.Option.{Option, none, some}
 use native.Mathlib.Omega.{arith}
 use lib.Dec.{eqb}
 use lib.ListN.{length}
-use Rattle.lists.specs.First.{pickN}
 use Rattle.utf8.specs.Scalar.{isScalar}
 use Rattle.refusal.specs.declared.Refusal.{Refusal}
 use Rattle.refusal.specs.declared.Refusal.the-variants as refusal
@@ -25,7 +24,7 @@ use Rattle.lookup.specs.declared.Probe.{Probe}
 use Rattle.lookup.specs.declared.Found.the-variants as found
 use Rattle.lookup.specs.Halving.{seekOf}
 use Rattle.lookup.specs.Stretch.{GoodRanges}
-use Rattle.lookup.specs.Lookup.{pickFound, lookupBy, lookupOf}
+use Rattle.lookup.specs.Lookup.{lookupBy, lookupOf}
 use Rattle.lookup.proofs.HalvingLaws.{seek-thirteen}
 use Rattle.lookup.proofs.ClassLaws.{seek-class, class-known}
 
@@ -80,7 +79,7 @@ module _ (s : List ℕ) (x : ℕ) where
       let v = k ∙ (λ d. afterRole (w d) (u d)) in
       (λ d. found.Class (v d) (t d .count)) ∙ simp (o .accepts, h)
 
-  thirteen-in : (c k : ℕ) → refusalOf s ≡ none → (b : Bool) → pickFound b (found.Class (classOf s x) (seekOf (rangeAt s) 0 (rangeCount s) x .count)) (found.Refused (refusal.NotScalar x)) ≡ found.Class c k → k ≤ 13
+  thirteen-in : (c k : ℕ) → refusalOf s ≡ none → (b : Bool) → cond b (found.Class (classOf s x) (seekOf (rangeAt s) 0 (rangeCount s) x .count)) (found.Refused (refusal.NotScalar x)) ≡ found.Class c k → k ≤ 13
   thirteen-in c k e true f =
       let a = accepted s e .header .few-ranges in
       let z : seekOf (rangeAt s) 0 (rangeCount s) x .count ≡ k = cc in
@@ -100,7 +99,7 @@ pub after-known : (role class : ℕ) → class ≤ 5 → afterRole role class �
 unfolding afterRole
 after-known role class h = go (eqb role 1) (eqb role 2) (eqb role 4)
   where
-    go : (a b c : Bool) → pickN a 1 (pickN b 2 (pickN c 5 class)) ≤ 5
+    go : (a b c : Bool) → cond a 1 (cond b 2 (cond c 5 class)) ≤ 5
     go true b c = omega arith
     go false true c = omega arith
     go false false true = omega arith

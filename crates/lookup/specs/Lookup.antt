@@ -1,7 +1,7 @@
--- What a lookup answers (document 01, "Lookup and its count", and refusals 1 to 4 and 9).
+-- What a lookup answers (docs/RULES.md, "Lookup and its count", and refusals 1 to 4 and 9).
 use Prim.Native.Nat.{ℕ}
 use mathlib.Core.List.{List}
-use mathlib.Core.Bool.{Bool, true, false}
+use mathlib.Core.Bool.{Bool, true, false, cond}
 use mathlib.Core.Option.{Option, none, some}
 use Rattle.utf8.specs.Scalar.{isScalar}
 use Rattle.refusal.specs.declared.Refusal.{Refusal}
@@ -13,14 +13,10 @@ use Rattle.lookup.specs.Halving.{seekOf}
 use Rattle.lookup.specs.declared.Found.{Found}
 use Rattle.lookup.specs.declared.Found.the-variants as found
 
-abbrev pub pickFound : Bool → Found → Found → Found
-pickFound true a b = a
-pickFound false a b = b
-
 -- in an accepted image: the class after the profile and the number of the search's steps, or 9
 abbrev pub foundIn : List ℕ → ℕ → Found
 foundIn s x =
-    pickFound (isScalar x) (found.Class (classOf s x) (seekOf (rangeAt s) 0 (rangeCount s) x .count)) (found.Refused (refusal.NotScalar x))
+    cond (isScalar x) (found.Class (classOf s x) (seekOf (rangeAt s) 0 (rangeCount s) x .count)) (found.Refused (refusal.NotScalar x))
 
 abbrev pub lookupBy : List ℕ → ℕ → Option Refusal → Found
 lookupBy s x none = foundIn s x

@@ -1,4 +1,4 @@
--- Stretches of code points that have one role and one class after the profile (document 01, "The class image").
+-- Stretches of code points that have one role and one class after the profile (docs/RULES.md, "The class image").
 use Prim.Native.Nat.{ℕ, _≤_, _<_}
 use mathlib.Core.Path.{_≡_}
 use mathlib.Core.List.{List}

@@ -1,4 +1,4 @@
--- Stretches of code points that have one class in the ranges (document 01, "The class image").
+-- Stretches of code points that have one class in the ranges (docs/RULES.md, "The class image").
 use Prim.Native.Nat.{ℕ, _-_, _≤_, _<_}
 use mathlib.Core.Path.{_≡_}
 use Rattle.lists.specs.First.{AllGood}

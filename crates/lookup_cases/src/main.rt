@@ -1,4 +1,4 @@
-// Looks code points up in image M of document 01, and in images that are refused.
+// Looks code points up in image M of docs/RULES.md, and in images that are refused.
 ghost use Prim.Native.Nat.{_<_};
 use libc::STDOUT_FILENO;
 use lookup::Found;

@@ -1,13 +1,12 @@
 -- The test of class numbers says what the data type of permitted changes says. Assumes nothing.
 use Prim.Native.Nat.{ℕ, zero, suc, _≤_}
 use mathlib.Core.Path.{_≡_, refl, sym, ap}
-use mathlib.Core.Bool.{Bool, true, false, false≢true, _||_}
+use mathlib.Core.Bool.{Bool, true, false, false≢true, _||_, cond}
 use mathlib.Core.Logic.{_⊎_, inl, inr, ⊎-elim}
 use native.Mathlib.Omega.{arith}
 use lib.Dec.{eqb}
 use borrow.Author.Tests.{eqb-true, eq-eqb}
 use Rattle.lists.proofs.BoolLaws.{or-cases}
-use Rattle.utf8.specs.Scalar.{pickB}
 use Rattle.image.specs.Class.{Class, classNumber, classNamed}
 use Rattle.image.specs.Permitted.{
   Permitted,
@@ -24,7 +23,7 @@ use Rattle.pair.specs.Change.{isContinueClass, permitted}
 abbrev Named : ℕ → ℕ → Type 0
 Named a b = Permitted (classNamed a) (classNamed b)
 
-pick-cases : (t a b : Bool) → pickB t a b ≡ true → ((t ≡ true) × (a ≡ true)) ⊎ (b ≡ true)
+pick-cases : (t a b : Bool) → cond t a b ≡ true → ((t ≡ true) × (a ≡ true)) ⊎ (b ≡ true)
 pick-cases true a b e = inl (refl, e)
 pick-cases false a b e = inr e
 
@@ -33,7 +32,7 @@ unfolding isContinueClass
 continue-cases b e = ⊎-elim (λ h. inl (eqb-true _ _ h)) (λ h. inr (eqb-true _ _ h)) (or-cases (eqb b 1) (eqb b 2) e)
 
 module _ (a b : ℕ) where
-  from-nonstart : pickB (eqb a 2) (eqb b 1) false ≡ true → Named a b
+  from-nonstart : cond (eqb a 2) (eqb b 1) false ≡ true → Named a b
   from-nonstart e = elim (pick-cases (eqb a 2) (eqb b 1) false e) [
     | inl h ↦ rw (eqb-true a 2 (h .0), eqb-true b 1 (h .1)) nonstart-start
     | inr h ↦ absurd (false≢true h)

@@ -2,7 +2,7 @@
 use Prim.Native.Nat.{ℕ, _-_, _≤_, _<_}
 use mathlib.Core.Path.{_≡_, refl, sym, subst, _∙_}
 use mathlib.Core.List.{List}
-use mathlib.Core.Bool.{Bool, true, false, true≢false}
+use mathlib.Core.Bool.{Bool, true, false, true≢false, cond}
 use mathlib.Core.Option.{Option, none, some}
 use native.Mathlib.Omega.{arith}
 use native.Mathlib.Decide.{decLt}
@@ -26,18 +26,7 @@ use Rattle.lookup.proofs.ClassLaws.{class-known}
 use Rattle.image.specs.Permitted.{Permitted}
 use Rattle.pair.specs.Change.{permitted}
 use Rattle.pair.specs.Means.{PermittedAt, OnlyPermitted, FirstChange, SameProfile, BothAccepted, Means}
-use Rattle.pair.specs.Pair.{
-  forbiddenAt,
-  codePoints,
-  firstForbidden,
-  differsAt,
-  sameEntries,
-  sameProfile,
-  pickPair,
-  comparedOf,
-  pairBy,
-  pairOf,
-}
+use Rattle.pair.specs.Pair.{forbiddenAt, codePoints, firstForbidden, differsAt, sameEntries, sameProfile, comparedOf, pairBy, pairOf}
 use Rattle.pair.specs.declared.Pair.{Pair}
 use Rattle.pair.specs.declared.Pair.the-variants as pair
 use Rattle.pair.proofs.ChangeLaws.{permitted-is, is-permitted}
@@ -138,13 +127,13 @@ module _ (older newer : List ℕ) where
   -- the answers
   module _ (both : BothAccepted older newer) where
     means-change : SameProfile older newer → (b : Bool) → ltb (firstForbidden older newer) codePoints ≡ b
-        → Means older newer (pickPair b (pair.Refused (refusal.Change (firstForbidden older newer))) pair.Permitted)
+        → Means older newer (cond b (pair.Refused (refusal.Change (firstForbidden older newer))) pair.Permitted)
     means-change s true e = (both, s, first-change both (ltb-true _ _ e))
     means-change s false e = (both, s, only-permitted both (ltb-false _ _ e))
 
     means-compared : (b : Bool) → sameProfile older newer ≡ b
         → Means older newer
-        (pickPair b (pickPair (ltb (firstForbidden older newer) codePoints) (pair.Refused (refusal.Change (firstForbidden older newer))) pair.Permitted) (pair.Refused refusal.Profiles))
+        (cond b (cond (ltb (firstForbidden older newer) codePoints) (pair.Refused (refusal.Change (firstForbidden older newer))) pair.Permitted) (pair.Refused refusal.Profiles))
     means-compared true e = means-change (same-profile e) _ refl
     means-compared false e = (both, λ s. true≢false (sym (profile-same s) ∙ e))
 

@@ -1,4 +1,4 @@
--- What each answer of the pair check says of the two images (document 01, "Permitted changes", "Named refusals").
+-- What each answer of the pair check says of the two images (docs/RULES.md, "Permitted changes", "Named refusals").
 -- `proofs/PairLaws.antt` joins this to the answers of `Pair.antt`.
 use Prim.Native.Nat.{ℕ, _<_}
 use mathlib.Core.Path.{_≡_}

@@ -1,7 +1,7 @@
--- What the pair check of two images answers (document 01, "Permitted changes", and refusals 10 and 11).
+-- What the pair check of two images answers (docs/RULES.md, "Permitted changes", and refusals 10 and 11).
 use Prim.Native.Nat.{ℕ}
 use mathlib.Core.List.{List}
-use mathlib.Core.Bool.{Bool, true, false, not, _&&_, _||_}
+use mathlib.Core.Bool.{Bool, true, false, not, _&&_, _||_, cond}
 use mathlib.Core.Option.{Option, none, some}
 use lib.Dec.{ltb, eqb}
 use Rattle.lists.specs.First.{firstWhere}
@@ -39,15 +39,11 @@ sameEntries older newer count = eqb (firstWhere (differsAt older newer) count) c
 unfoldable pub sameProfile : List ℕ → List ℕ → Bool
 sameProfile older newer = eqb (entryCount newer) (entryCount older) && sameEntries older newer (entryCount older)
 
-abbrev pub pickPair : Bool → Pair → Pair → Pair
-pickPair true a b = a
-pickPair false a b = b
-
 -- of two accepted images: 11, then 10 with the smallest code point
 unfoldable pub comparedOf : List ℕ → List ℕ → Pair
 comparedOf older newer =
-    pickPair (sameProfile older newer)
-    (pickPair (ltb (firstForbidden older newer) codePoints) (pair.Refused (refusal.Change (firstForbidden older newer))) pair.Permitted)
+    cond (sameProfile older newer)
+    (cond (ltb (firstForbidden older newer) codePoints) (pair.Refused (refusal.Change (firstForbidden older newer))) pair.Permitted)
     (pair.Refused refusal.Profiles)
 
 abbrev pub pairBy : List ℕ → List ℕ → Option Refusal → Option Refusal → Pair

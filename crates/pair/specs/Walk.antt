@@ -1,10 +1,10 @@
--- A walk over the ranges of two images side by side, from code point 0 up (document 01, "Permitted changes").
+-- A walk over the ranges of two images side by side, from code point 0 up (docs/RULES.md, "Permitted changes").
+use mathlib.Core.Bool.{cond}
 use Prim.Native.Nat.{ℕ, _+_, _≤_}
 use mathlib.Core.Path.{_≡_}
 use mathlib.Core.List.{List}
 use lib.ListN.{length}
 use lib.Dec.{ltb}
-use Rattle.lists.specs.First.{pickN}
 use Rattle.image.specs.Limits.{lastCodePoint}
 use Rattle.image.specs.Header.{entriesAt}
 use Rattle.image.specs.Ranges.{rangeAt, classIn}
@@ -20,7 +20,7 @@ pub record Walk (s : List ℕ) (n i x : ℕ) : Type 0 where
 
 -- the place of the code point after e, where i is the place up to `last`, and `next` the one after it
 abbrev pub placeAfter : ℕ → ℕ → ℕ → ℕ → ℕ
-placeAfter last next i e = pickN (ltb e last) i next
+placeAfter last next i e = cond (ltb e last) i next
 
 -- the code points from x to the last one of r have its class, and the walk goes on after each of them
 pub record AheadOf (s : List ℕ) (n i x : ℕ) (r : Ahead) : Type 0 where

@@ -1,4 +1,4 @@
-// Runs the pair check on images M and M2 of document 01, and on images made of them by changing a byte.
+// Runs the pair check on images M and M2 of docs/RULES.md, and on images made of them by changing a byte.
 ghost use Prim.Native.Nat.{_<_};
 use pair::Pair;
 

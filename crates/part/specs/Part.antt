@@ -1,4 +1,4 @@
--- A token's bytes: 13, or that part of the text (document 01, "Tokens" and "Named refusals").
+-- A token's bytes: 13, or that part of the text (docs/RULES.md, "Tokens" and "Named refusals").
 use Prim.Native.Nat.{ℕ, _-_}
 use mathlib.Core.Bool.{Bool, true, false}
 use mathlib.Core.List.{List, []}

@@ -1,4 +1,4 @@
--- Document 01, "Named refusals": the number of each refusal and what it carries.
+-- docs/RULES.md, "Named refusals": the number of each refusal and what it carries.
 use Prim.Native.Nat.{ℕ}
 use mathlib.Core.List.{List, [], _∷_}
 use Rattle.refusal.specs.declared.Refusal.{Refusal}

@@ -15,11 +15,11 @@ use Rattle.utf8.specs.Head.{stepOf}
 use Rattle.utf8.specs.Text.{Character, decode, widthOf, textBy, textOf}
 use Rattle.utf8.proofs.TextLaws.{shift, shift-zero, ill-here, end-here, covers}
 use Rattle.image.specs.Check.{refusalOf}
-use Rattle.division.specs.Scan.{Tok, Reading, grown, opened, stopped}
-use Rattle.division.specs.Grammar.{Kind}
-use Rattle.division.specs.Outcome.{Outcome, given, refused, unless, outcomeMap}
-use Rattle.division.specs.Record.{tokensWidth}
-use Rattle.division.specs.Reading.{readingOf, formRefusalBy, judged}
+use Rattle.grammar.specs.Scan.{Tok, Reading, grown, opened, stopped}
+use Rattle.grammar.specs.Grammar.{Kind}
+use Rattle.refusal.specs.Outcome.{Outcome, given, refused, unless, outcomeMap}
+use Rattle.grammar.specs.Record.{tokensWidth}
+use Rattle.grammar.specs.Reading.{readingOf, formRefusalBy, judged}
 use Rattle.scan.specs.declared.Counted.the-variants.{Refused, Tokens}
 use Rattle.scan.specs.Traits.{kindFor, goesOn, turnOf, afterOf}
 use Rattle.scan.specs.Rest.{restOf, continuesAt}

@@ -11,10 +11,10 @@ use Rattle.utf8.specs.declared.Step.the-variants as step
 use Rattle.utf8.specs.Head.{stepOf}
 use Rattle.utf8.specs.Text.{Character, widthOf}
 use Rattle.image.specs.Check.{refusalOf}
-use Rattle.division.specs.Scan.{Reading}
-use Rattle.division.specs.Grammar.{Kind}
-use Rattle.division.specs.Kinds.{kindNumber}
-use Rattle.division.specs.Reading.{readingOf, tokensOf}
+use Rattle.grammar.specs.Scan.{Reading}
+use Rattle.grammar.specs.Grammar.{Kind}
+use Rattle.grammar.specs.Kinds.{kindNumber}
+use Rattle.grammar.specs.Reading.{readingOf, tokensOf}
 use Rattle.scan.specs.declared.First.{First}
 use Rattle.scan.specs.declared.First.the-variants.{Nothing, IllFormed, NoToken, Token}
 use Rattle.scan.specs.Traits.{kindFor, goesOn}

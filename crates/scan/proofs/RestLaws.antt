@@ -15,11 +15,11 @@ use Rattle.image.specs.Check.{refusalOf}
 use Rattle.character.specs.Traits.{traitsOf}
 use Rattle.character.specs.Read.{ReadAs}
 use Rattle.character.specs.declared.Character.{Character as Read}
-use Rattle.division.specs.Scan.{Reading, goes, grown, opened, stopped, walk}
-use Rattle.division.specs.Grammar.{Kind}
-use Rattle.division.specs.Kinds.{kindNumber}
-use Rattle.division.specs.Reading.{meaningOf, rulesOf, readingOf}
-use Rattle.division.proofs.ScanLaws.{walk-nil, walk-more, walk-stop, walk-open, run-none, run-ends}
+use Rattle.grammar.specs.Scan.{Reading, goes, grown, opened, stopped, walk}
+use Rattle.grammar.specs.Grammar.{Kind}
+use Rattle.grammar.specs.Kinds.{kindNumber}
+use Rattle.grammar.specs.Reading.{meaningOf, rulesOf, readingOf}
+use Rattle.grammar.proofs.ScanLaws.{walk-nil, walk-more, walk-stop, walk-open, run-none, run-ends}
 use Rattle.scan.specs.Traits.{kindNamed, numberBy, continueIn, kindFor, goesOn}
 use Rattle.scan.specs.Rest.{restOf, continuesAt}
 use Rattle.scan.proofs.TraitLaws.{named-number, continue-of, kind-of, goes-of}

@@ -12,10 +12,10 @@ use Rattle.image.specs.Check.{refusalOf, classOf, medialOf}
 use Rattle.image.specs.Class.{classNamed}
 use Rattle.lookup.proofs.LookupLaws.{class-of-known}
 use Rattle.character.specs.Traits.{medialPart, traitsOf}
-use Rattle.division.specs.Scan.{Rules, goes}
-use Rattle.division.specs.Grammar.{Kind, identifier, syntax, whitespace}
-use Rattle.division.specs.Kinds.{isContinue, isWhite, kindOfClass, kindNumber, continues, continuesFirst}
-use Rattle.division.specs.Reading.{meaningOf, rulesOf}
+use Rattle.grammar.specs.Scan.{Rules, goes}
+use Rattle.grammar.specs.Grammar.{Kind, identifier, syntax, whitespace}
+use Rattle.grammar.specs.Kinds.{isContinue, isWhite, kindOfClass, kindNumber, continues, continuesFirst}
+use Rattle.grammar.specs.Reading.{meaningOf, rulesOf}
 use Rattle.scan.specs.Traits.{kindNamed, numberBy, classIn, medialIn, continueIn, kindFor, goesBy, goesOn}
 
 -- traits hold a class of at most 5, and 8 more for a medial

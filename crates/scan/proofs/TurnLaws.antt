@@ -1,7 +1,7 @@
 -- What is known of a character's turn without a look at what follows, and that the two tables hold it. Assumes nothing.
 use Prim.Native.Nat.{ℕ, zero, suc, _+_, _*_, _/_, _%_, _≤_, _<_}
 use mathlib.Core.Path.{_≡_, refl, sym, ap, _∙_}
-use mathlib.Core.Bool.{Bool, true, false, _&&_, _||_}
+use mathlib.Core.Bool.{Bool, true, false, _&&_, _||_, cond}
 use mathlib.Core.List.{List, [], _∷_}
 use mathlib.Core.Option.{Option, none, some}
 use native.Mathlib.Omega.{arith}
@@ -11,9 +11,9 @@ use Rattle.lists.proofs.EachLaws.{column-at}
 use Rattle.image.specs.Class.{Class, Unassigned, Start, Nonstart, Syntax, White, Other}
 use Rattle.image.specs.Check.{refusalOf}
 use Rattle.lookup.proofs.LookupLaws.{class-of-known}
-use Rattle.division.specs.Grammar.{Kind, identifier, syntax, whitespace}
-use Rattle.division.specs.Kinds.{isContinue, isWhite, kindOfClass}
-use Rattle.scan.specs.Traits.{kindNamed, numberBy, classIn, medialIn, kindFor, goesBy, goesOn, pickN, begunBy, turnOf, afterBy, afterOf, turnTable, kindTable}
+use Rattle.grammar.specs.Grammar.{Kind, identifier, syntax, whitespace}
+use Rattle.grammar.specs.Kinds.{isContinue, isWhite, kindOfClass}
+use Rattle.scan.specs.Traits.{kindNamed, numberBy, classIn, medialIn, kindFor, goesBy, goesOn, begunBy, turnOf, afterBy, afterOf, turnTable, kindTable}
 
 abbrev turnAt : ℕ → ℕ
 turnAt i = turnOf (i / 16) (i % 16)
@@ -114,7 +114,7 @@ module _ (k t : ℕ) where
   unfolding turnOf goesOn afterOf
   turn-goes e f = go (goesOn k t false) (goesOn k t true) (kindFor t) refl e
     where
-      go : (a b : Bool) (n : ℕ) → goesOn k t false ≡ a → pickN a 0 (pickN b 2 (begunBy n)) ≡ 0 → Goes k t f
+      go : (a b : Bool) (n : ℕ) → goesOn k t false ≡ a → cond a 0 (cond b 2 (begunBy n)) ≡ 0 → Goes k t f
       go true b n p q = let g = goes-by k (classIn t) (medialIn t) f p in record { on = g .0; after = g .1 }
       go false true n p q = absurd (omega arith)
       go false false zero p q = absurd (omega arith)
@@ -124,7 +124,7 @@ module _ (k t : ℕ) where
   unfolding turnOf kindFor afterOf
   turn-begins e f = go (goesOn k t false) (goesOn k t true) (kindFor t) refl refl refl e f
     where
-      go : (a b : Bool) (n : ℕ) → goesOn k t false ≡ a → goesOn k t true ≡ b → kindFor t ≡ n → pickN a 0 (pickN b 2 (begunBy n)) ≡ 1 → (follows : Bool) → Begun k t follows
+      go : (a b : Bool) (n : ℕ) → goesOn k t false ≡ a → goesOn k t true ≡ b → kindFor t ≡ n → cond a 0 (cond b 2 (begunBy n)) ≡ 1 → (follows : Bool) → Begun k t follows
       go true b n p q r z f = absurd (omega arith)
       go false true n p q r z f = absurd (omega arith)
       go false false zero p q r z f = absurd (omega arith)

@@ -13,12 +13,12 @@ use Rattle.lists.specs.Laid.{laid}
 use Rattle.lists.proofs.LaidLaws.{laid-none, laid-step, length-laid, lent}
 use Rattle.utf8.specs.Text.{Character, widthOf}
 use Rattle.image.specs.Check.{refusalOf}
-use Rattle.division.specs.Scan.{Reading, grown, opened, stopped}
-use Rattle.division.specs.Grammar.{Kind, identifier, syntax, whitespace}
-use Rattle.division.specs.Kinds.{kindNumber}
-use Rattle.division.specs.Record.{recordsFrom, wordsOf, listedWords}
-use Rattle.division.specs.Reading.{readingOf}
-use Rattle.division.proofs.RecordLaws.{length-listed}
+use Rattle.grammar.specs.Scan.{Reading, grown, opened, stopped}
+use Rattle.grammar.specs.Grammar.{Kind, identifier, syntax, whitespace}
+use Rattle.grammar.specs.Kinds.{kindNumber}
+use Rattle.grammar.specs.Record.{recordsFrom, wordsOf, listedWords}
+use Rattle.grammar.specs.Reading.{readingOf}
+use Rattle.grammar.proofs.RecordLaws.{length-listed}
 use Rattle.scan.specs.Traits.{kindFor, goesOn, turnOf, afterOf}
 use Rattle.scan.specs.Rest.{restOf, continuesAt}
 use Rattle.scan.specs.Words.{tokenWords, wordsFrom, startBy}

@@ -1,4 +1,4 @@
--- Counting a text's tokens (document 01, "Tokens" and "Named refusals").
+-- Counting a text's tokens (docs/RULES.md, "Tokens" and "Named refusals").
 use Prim.Native.Nat.{ℕ, _+_}
 use mathlib.Core.List.{List}
 use lib.ListN.{length}
@@ -7,10 +7,10 @@ use Rattle.refusal.specs.declared.Refusal.the-variants as refusal
 use Rattle.utf8.specs.declared.Text.{Text}
 use Rattle.utf8.specs.declared.Text.the-variants.{WellFormed, IllFormed}
 use Rattle.utf8.specs.Text.{Character}
-use Rattle.division.specs.Scan.{Tok}
-use Rattle.division.specs.Grammar.{Kind}
-use Rattle.division.specs.Outcome.{Outcome, given, refused, unless, outcomeMap}
-use Rattle.division.specs.Reading.{readingOf, formRefusal, judged}
+use Rattle.grammar.specs.Scan.{Tok}
+use Rattle.grammar.specs.Grammar.{Kind}
+use Rattle.refusal.specs.Outcome.{Outcome, given, refused, unless, outcomeMap}
+use Rattle.grammar.specs.Reading.{readingOf, formRefusal, judged}
 use Rattle.scan.specs.declared.Counted.{Counted}
 use Rattle.scan.specs.declared.Counted.the-variants.{Refused, Tokens}
 

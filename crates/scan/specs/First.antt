@@ -1,15 +1,15 @@
--- The first token of a text (document 01, "Tokens", one token at a place).
+-- The first token of a text (docs/RULES.md, "Tokens", one token at a place).
 use Prim.Native.Nat.{ℕ}
 use mathlib.Core.List.{List, [], _∷_}
 use Rattle.utf8.specs.declared.Step.{Step}
 use Rattle.utf8.specs.declared.Step.the-variants as step
 use Rattle.utf8.specs.Head.{stepOf}
 use Rattle.utf8.specs.Text.{Character}
-use Rattle.division.specs.Scan.{Tok}
-use Rattle.division.specs.Grammar.{Kind}
-use Rattle.division.specs.Kinds.{kindNumber}
-use Rattle.division.specs.Record.{tokenWidth}
-use Rattle.division.specs.Reading.{tokensOf}
+use Rattle.grammar.specs.Scan.{Tok}
+use Rattle.grammar.specs.Grammar.{Kind}
+use Rattle.grammar.specs.Kinds.{kindNumber}
+use Rattle.grammar.specs.Record.{tokenWidth}
+use Rattle.grammar.specs.Reading.{tokensOf}
 use Rattle.scan.specs.declared.First.{First}
 use Rattle.scan.specs.declared.First.the-variants.{Nothing, IllFormed, NoToken, Token}
 

@@ -4,10 +4,10 @@ use mathlib.Core.Bool.{Bool}
 use mathlib.Core.List.{List}
 use lib.ListN.{drop}
 use Rattle.utf8.specs.Text.{Character, decode, widthOf}
-use Rattle.division.specs.Scan.{Reading, walk}
-use Rattle.division.specs.Grammar.{Kind}
-use Rattle.division.specs.Kinds.{continuesFirst}
-use Rattle.division.specs.Reading.{meaningOf, rulesOf}
+use Rattle.grammar.specs.Scan.{Reading, walk}
+use Rattle.grammar.specs.Grammar.{Kind}
+use Rattle.grammar.specs.Kinds.{continuesFirst}
+use Rattle.grammar.specs.Reading.{meaningOf, rulesOf}
 use Rattle.scan.specs.Traits.{kindNamed}
 
 unfoldable pub restOf : List ℕ → List ℕ → ℕ → ℕ → Reading Character Kind

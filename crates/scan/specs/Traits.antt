@@ -1,13 +1,13 @@
--- The rules of tokens on numbers: a kind or 0 for none, and the traits of a character (document 01, "Tokens").
+-- The rules of tokens on numbers: a kind or 0 for none, and the traits of a character (docs/RULES.md, "Tokens").
 -- `proofs/TraitLaws.antt` joins them to the rules of `division`.
 use Prim.Native.Nat.{ℕ, zero, suc, _%_}
-use mathlib.Core.Bool.{Bool, true, false, _&&_, _||_}
+use mathlib.Core.Bool.{Bool, true, false, _&&_, _||_, cond}
 use mathlib.Core.List.{List, [], _∷_}
 use mathlib.Core.Option.{Option, none, some}
 use lib.Dec.{leb}
 use Rattle.image.specs.Class.{Class, classNamed}
-use Rattle.division.specs.Grammar.{Kind, identifier, syntax, whitespace}
-use Rattle.division.specs.Kinds.{kindNumber, isContinue, isWhite, kindOfClass}
+use Rattle.grammar.specs.Grammar.{Kind, identifier, syntax, whitespace}
+use Rattle.grammar.specs.Kinds.{kindNumber, isContinue, isWhite, kindOfClass}
 
 -- the kind with a number; 0 is none
 abbrev pub kindNamed : ℕ → Option Kind
@@ -45,10 +45,6 @@ goesBy (some whitespace) a m follows = isWhite a
 unfoldable pub goesOn : ℕ → ℕ → Bool → Bool
 goesOn k t follows = goesBy (kindNamed k) (classIn t) (medialIn t) follows
 
-abbrev pub pickN : Bool → ℕ → ℕ → ℕ
-pickN true a b = a
-pickN false a b = b
-
 -- a token begins, 1, or what the kind 0 says takes a closer look, 2
 abbrev pub begunBy : ℕ → ℕ
 begunBy zero = 2
@@ -56,11 +52,11 @@ begunBy (suc k) = 1
 
 -- what is known without a look at what follows: the token goes on, 0, or another begins, 1; else 2
 unfoldable pub turnOf : ℕ → ℕ → ℕ
-turnOf k t = pickN (goesOn k t false) 0 (pickN (goesOn k t true) 2 (begunBy (kindFor t)))
+turnOf k t = cond (goesOn k t false) 0 (cond (goesOn k t true) 2 (begunBy (kindFor t)))
 
 -- the kind of the token that a character is in, where that is known so
 abbrev pub afterBy : Class → ℕ
-afterBy a = pickN (isContinue a) 1 (numberBy (kindOfClass a))
+afterBy a = cond (isContinue a) 1 (numberBy (kindOfClass a))
 
 unfoldable pub afterOf : ℕ → ℕ
 afterOf t = afterBy (classIn t)

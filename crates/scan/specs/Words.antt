@@ -1,10 +1,10 @@
--- The words still to be written, where a token may be under way (document 01, "Tokens").
+-- The words still to be written, where a token may be under way (docs/RULES.md, "Tokens").
 use Prim.Native.Nat.{ℕ, zero, suc, _+_}
 use mathlib.Core.List.{List, [], _∷_, _++_}
 use Rattle.utf8.specs.Text.{Character, widthOf}
-use Rattle.division.specs.Scan.{Reading}
-use Rattle.division.specs.Grammar.{Kind}
-use Rattle.division.specs.Record.{recordsFrom, wordsOf}
+use Rattle.grammar.specs.Scan.{Reading}
+use Rattle.grammar.specs.Grammar.{Kind}
+use Rattle.grammar.specs.Record.{recordsFrom, wordsOf}
 
 -- the words of a token: none where there is none
 abbrev pub tokenWords : ℕ → ℕ → ℕ → List ℕ

@@ -15,12 +15,12 @@ use Rattle.image.specs.declared.Answer.the-variants as answer
 use Rattle.image.specs.declared.Checked.{Checked}
 use Rattle.image.proofs.ImageLaws.{says}
 use Rattle.character.specs.Opened.{Opened}
-use Rattle.division.specs.Scan.{Tok}
-use Rattle.division.specs.Grammar.{Kind}
-use Rattle.division.specs.Outcome.{Outcome, given, refused, unless, outcomeMap}
-use Rattle.division.specs.Record.{recordSize, listedWords}
-use Rattle.division.specs.Reading.{maxText, readingOf, tokensOf, lengthRefusal, formRefusal, judged, outcomeOf, countOf, roomed, writtenOf, listOf, listWords}
-use Rattle.division.proofs.AnswerLaws.{counts-given, counts-refused, roomed-in, roomed-out}
+use Rattle.grammar.specs.Scan.{Tok}
+use Rattle.grammar.specs.Grammar.{Kind}
+use Rattle.refusal.specs.Outcome.{Outcome, given, refused, unless, outcomeMap}
+use Rattle.grammar.specs.Record.{recordSize, listedWords}
+use Rattle.grammar.specs.Reading.{maxText, readingOf, tokensOf, lengthRefusal, formRefusal, judged, outcomeOf, countOf, roomed, writtenOf, listOf, listWords}
+use Rattle.grammar.proofs.AnswerLaws.{counts-given, counts-refused, roomed-in, roomed-out}
 use Rattle.scan.specs.declared.Counted.the-variants as counted
 use Rattle.scan.specs.Counted.{countedBy, readThrough, countThrough}
 

@@ -17,12 +17,12 @@ use Rattle.image.specs.Check.{refusalOf, checkOf}
 use Rattle.image.specs.declared.Answer.the-variants as answer
 use Rattle.image.specs.declared.Checked.{Checked}
 use Rattle.image.proofs.ImageLaws.{says as check-says}
-use Rattle.division.specs.Scan.{Tok, unitsOf, reading}
-use Rattle.division.specs.Grammar.{Kind}
-use Rattle.division.specs.Record.{tokenWidth, tokensWidth}
-use Rattle.division.specs.Reading.{maxText, rulesOf, readingOf, tokensOf, lengthRefusal}
-use Rattle.division.proofs.ScanLaws.{reading-covers}
-use Rattle.division.proofs.RecordLaws.{width-append, tokens-width}
+use Rattle.grammar.specs.Scan.{Tok, unitsOf, reading}
+use Rattle.grammar.specs.Grammar.{Kind}
+use Rattle.grammar.specs.Record.{tokenWidth, tokensWidth}
+use Rattle.grammar.specs.Reading.{maxText, rulesOf, readingOf, tokensOf, lengthRefusal}
+use Rattle.grammar.proofs.ScanLaws.{reading-covers}
+use Rattle.grammar.proofs.RecordLaws.{width-append, tokens-width}
 use Rattle.scan.specs.declared.First.{First}
 use Rattle.scan.specs.declared.First.the-variants as first
 use Rattle.scan.specs.First.{firstIn, firstBy, firstOf}

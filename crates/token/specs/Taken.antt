@@ -1,6 +1,6 @@
--- One token at a place (document 01, "Tokens" and "Named refusals").
+-- One token at a place (docs/RULES.md, "Tokens" and "Named refusals").
 use Prim.Native.Nat.{ℕ, _+_, _-_}
-use mathlib.Core.Bool.{Bool, true, false, not, _&&_}
+use mathlib.Core.Bool.{Bool, true, false, not, _&&_, cond}
 use mathlib.Core.List.{List, [], _∷_}
 use mathlib.Core.Option.{Option, none, some}
 use lib.ListN.{length, take, drop}
@@ -11,18 +11,14 @@ use Rattle.utf8.specs.declared.Text.{Text}
 use Rattle.utf8.specs.declared.Text.the-variants.{WellFormed, IllFormed}
 use Rattle.utf8.specs.Text.{Character, textOf}
 use Rattle.image.specs.Check.{refusalOf}
-use Rattle.division.specs.Scan.{Tok}
-use Rattle.division.specs.Grammar.{Kind}
-use Rattle.division.specs.Kinds.{kindNumber}
-use Rattle.division.specs.Outcome.{refusedIf}
-use Rattle.division.specs.Record.{tokenWidth}
-use Rattle.division.specs.Reading.{lengthRefusal, tokensOf}
+use Rattle.grammar.specs.Scan.{Tok}
+use Rattle.grammar.specs.Grammar.{Kind}
+use Rattle.grammar.specs.Kinds.{kindNumber}
+use Rattle.refusal.specs.Outcome.{refusedIf}
+use Rattle.grammar.specs.Record.{tokenWidth}
+use Rattle.grammar.specs.Reading.{lengthRefusal, tokensOf}
 use Rattle.token.specs.declared.Taken.{Taken}
 use Rattle.token.specs.declared.Taken.the-variants.{Refused, Done, Token}
-
-abbrev pub pickTaken : Bool → Taken → Taken → Taken
-pickTaken true a b = a
-pickTaken false a b = b
 
 abbrev pub unlessTaken : Option Refusal → Taken → Taken
 unlessTaken none t = t
@@ -50,8 +46,8 @@ firstAt place (t ∷ ts) = Token (kindNumber (t .kind)) place (place + tokenWidt
 unfoldable pub tokenAt : List ℕ → List ℕ → ℕ → Taken
 tokenAt s text place =
     let q = stopOf text place in
-    pickTaken (eqb place q && not (eqb place (length text))) (Refused (refusal.IllFormed place))
-    (pickTaken (eqb place (length text)) Done (firstAt place (tokensOf s (take (q - place) (drop place text)))))
+    cond (eqb place q && not (eqb place (length text))) (Refused (refusal.IllFormed place))
+    (cond (eqb place (length text)) Done (firstAt place (tokensOf s (take (q - place) (drop place text)))))
 
 -- 1 to 4 of the image, then 5, then 13 for the place; else what stands there
 unfoldable pub takenOf : List ℕ → List ℕ → ℕ → Taken

@@ -2,7 +2,7 @@
 -- Assumes nothing.
 use Prim.Native.Nat.{ℕ, suc, _≤_, _<_}
 use mathlib.Core.Path.{_≡_, refl, sym, ap, _∙_}
-use mathlib.Core.Bool.{Bool, true, false, _&&_}
+use mathlib.Core.Bool.{Bool, true, false, _&&_, cond}
 use mathlib.Core.List.{List, [], _∷_, _++_}
 use native.Mathlib.Omega.{arith}
 use lib.Dec.{leb, ltb}
@@ -12,8 +12,8 @@ use Rattle.lists.proofs.BoolLaws.{and-left, and-right}
 use Rattle.utf8.specs.declared.Lead.{Lead}
 use Rattle.utf8.specs.declared.Step.the-variants.{Scalar, IllFormed, End}
 use Rattle.utf8.specs.Table.{Bytes, _to_, Row, table, inside, fits, codePoint}
-use Rattle.utf8.specs.Head.{pickStep, stepIn, stepOf}
-use Rattle.utf8.specs.Lead.{pickLead, leadOfRow, leads, leadIn, leadOf, trailOf, stepAs, stepBy, byteFits, stepLength}
+use Rattle.utf8.specs.Head.{stepIn, stepOf}
+use Rattle.utf8.specs.Lead.{leadOfRow, leads, leadIn, leadOf, trailOf, stepAs, stepBy, byteFits, stepLength}
 use Rattle.utf8.proofs.TableLaws.{inside-in, inside-out, inside-above, inside-below, fits-in, fits-out, one-byte}
 
 -- every row's first byte is below k; at k or above
@@ -64,8 +64,8 @@ module _ (l : Lead) (s : List ℕ) where
   as-long n e = ap (λ (k : ℕ). stepAs k (trailOf k (l .low) (l .high)) s) e
 
   judged : (n : ℕ) (t : Bool) (q : List ℕ) → l .len ≡ suc n → fits (trailOf (suc n) (l .low) (l .high)) (drop 1 s) ≡ t → take (suc n) s ≡ q →
-      stepBy l s ≡ pickStep t (Scalar (codePoint q) (suc n)) IllFormed
-  judged n t q e f g = as-long (suc n) e ∙ (λ i. pickStep (f i) (Scalar (codePoint (g i)) (suc n)) IllFormed)
+      stepBy l s ≡ cond t (Scalar (codePoint q) (suc n)) IllFormed
+  judged n t q e f g = as-long (suc n) e ∙ (λ i. cond (f i) (Scalar (codePoint (g i)) (suc n)) IllFormed)
 
   whole : (n : ℕ) → l .len ≡ suc n → fits (trailOf (suc n) (l .low) (l .high)) (drop 1 s) ≡ true → suc n ≡ stepLength (stepBy l s)
   whole n e f = sym (ap stepLength (judged n true (take (suc n) s) e f refl))
@@ -143,7 +143,7 @@ unfolding stepBy
 row-here g [] rs b s e f a = simp e
 row-here g (h ∷ gs) rs b s e f a =
     let q : List ℕ = take (suc (suc (length gs))) (b ∷ s) in
-    simp (e, f) (ap (λ (r : Row). pickStep (fits r s) (Scalar (codePoint q) (suc (suc (length gs)))) IllFormed) a)
+    simp (e, f) (ap (λ (r : Row). cond (fits r s) (Scalar (codePoint q) (suc (suc (length gs)))) IllFormed) a)
 
 by-rows : (rs : List Row) (m b : ℕ) (s : List ℕ) → rising m rs ≡ true → Shaped rs → stepIn rs (b ∷ s) ≡ stepBy (leadIn rs b) (b ∷ s)
 unfolding leadIn
@@ -175,7 +175,7 @@ unfolding leadIn
 lead-short [] b h = omega arith
 lead-short (r ∷ rs) b h = go (leads r b) (lead-short rs b (h .1))
   where
-    go : (t : Bool) → leadIn rs b .len ≤ 4 → pickLead t (leadOfRow r) (leadIn rs b) .len ≤ 4
+    go : (t : Bool) → leadIn rs b .len ≤ 4 → cond t (leadOfRow r) (leadIn rs b) .len ≤ 4
     go true l = h .0
     go false l = l
 

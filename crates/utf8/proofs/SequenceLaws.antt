@@ -2,7 +2,7 @@
 -- Assumes nothing.
 use Prim.Native.Nat.{ℕ, suc, _+_, _≤_, _<_}
 use mathlib.Core.Path.{_≡_, refl, sym, ap, _∙_}
-use mathlib.Core.Bool.{Bool, true, false, false≢true}
+use mathlib.Core.Bool.{Bool, true, false, false≢true, cond}
 use mathlib.Core.List.{List, [], _∷_, _++_}
 use mathlib.Core.Logic.{inl, inr}
 use native.Mathlib.Omega.{arith}
@@ -13,7 +13,7 @@ use Rattle.utf8.specs.declared.Step.{Step}
 use Rattle.utf8.specs.declared.Step.the-variants.{Scalar, IllFormed, End}
 use Rattle.utf8.specs.Scalar.{isScalar}
 use Rattle.utf8.specs.Table.{Bytes, _to_, Row, table, inside, fits, Fills, FillsOne, Sequence, codePoint}
-use Rattle.utf8.specs.Head.{pickStep, stepIn, stepOf}
+use Rattle.utf8.specs.Head.{stepIn, stepOf}
 use Rattle.utf8.proofs.TableLaws.{inside-in, inside-out, inside-above}
 use Rattle.utf8.proofs.LeadLaws.{rising, rising-parts}
 
@@ -47,7 +47,7 @@ found : (rs : List Row) (s : List ℕ) → Found rs s (stepIn rs s)
 found [] s = tt
 found (r ∷ rs) s = go (found rs s) (fits r s) refl
   where
-    go : Found rs s (stepIn rs s) → (t : Bool) → fits r s ≡ t → Found (r ∷ rs) s (pickStep t (Scalar (codePoint (take (length r) s)) (length r)) (stepIn rs s))
+    go : Found rs s (stepIn rs s) → (t : Bool) → fits r s ≡ t → Found (r ∷ rs) s (cond t (Scalar (codePoint (take (length r) s)) (length r)) (stepIn rs s))
     go ih true e = let h = fits-fills r s e in (inl (h .0), refl, h .1)
     go ih false e = later-row r rs s (stepIn rs s) ih
 

@@ -1,20 +1,16 @@
 -- What stands at the head of a text, by the rows of Table 3-7.
 use Prim.Native.Nat.{ℕ}
-use mathlib.Core.Bool.{Bool, true, false}
+use mathlib.Core.Bool.{Bool, true, false, cond}
 use mathlib.Core.List.{List, [], _∷_}
 use lib.ListN.{length, take}
 use Rattle.utf8.specs.declared.Step.{Step}
 use Rattle.utf8.specs.declared.Step.the-variants.{Scalar, IllFormed, End}
 use Rattle.utf8.specs.Table.{Row, table, fits, codePoint}
 
-abbrev pub pickStep : Bool → Step → Step → Step
-pickStep true a b = a
-pickStep false a b = b
-
 -- the first row whose bytes begin the text gives the sequence; no row: ill-formed
 abbrev pub stepIn : List Row → List ℕ → Step
 stepIn [] s = IllFormed
-stepIn (r ∷ rs) s = pickStep (fits r s) (Scalar (codePoint (take (length r) s)) (length r)) (stepIn rs s)
+stepIn (r ∷ rs) s = cond (fits r s) (Scalar (codePoint (take (length r) s)) (length r)) (stepIn rs s)
 
 -- the code point and length of the sequence at the head of a text, or that none begins there, or that nothing is left
 unfoldable pub stepOf : List ℕ → Step

@@ -1,6 +1,6 @@
 -- What the first byte of a sequence decides: the reader's form of Table 3-7. `proofs/LeadLaws.antt` joins the two.
 use Prim.Native.Nat.{ℕ, zero, suc, _+_, _*_}
-use mathlib.Core.Bool.{Bool, true, false, _&&_}
+use mathlib.Core.Bool.{Bool, true, false, _&&_, cond}
 use mathlib.Core.List.{List, [], _∷_}
 use lib.Dec.{ltb}
 use lib.ListN.{length, take, drop, getD, replicate}
@@ -8,11 +8,6 @@ use Rattle.utf8.specs.declared.Lead.{Lead}
 use Rattle.utf8.specs.declared.Step.{Step}
 use Rattle.utf8.specs.declared.Step.the-variants.{Scalar, IllFormed, End}
 use Rattle.utf8.specs.Table.{Bytes, _to_, Row, table, inside, fits, codePoint}
-use Rattle.utf8.specs.Head.{pickStep}
-
-abbrev pub pickLead : Bool → Lead → Lead → Lead
-pickLead true a b = a
-pickLead false a b = b
 
 -- the length of a row, and the bounds of its second byte, 0 where it has none
 abbrev pub leadOfRow : Row → Lead
@@ -28,7 +23,7 @@ leads (g ∷ gs) b = inside g b
 -- the row whose first range has the byte; length 0 where no row has it
 unfoldable pub leadIn : List Row → ℕ → Lead
 leadIn [] b = leadOfRow []
-leadIn (r ∷ rs) b = pickLead (leads r b) (leadOfRow r) (leadIn rs b)
+leadIn (r ∷ rs) b = cond (leads r b) (leadOfRow r) (leadIn rs b)
 
 unfoldable pub leadOf : ℕ → Lead
 leadOf b = leadIn table b
@@ -42,7 +37,7 @@ trailOf (suc (suc n)) low high = low to high ∷ replicate n (0x80 to 0xBF)
 -- the sequence at the head of a text whose first byte has this lead
 abbrev pub stepAs : ℕ → Row → List ℕ → Step
 stepAs zero gs s = IllFormed
-stepAs (suc n) gs s = pickStep (fits gs (drop 1 s)) (Scalar (codePoint (take (suc n) s)) (suc n)) IllFormed
+stepAs (suc n) gs s = cond (fits gs (drop 1 s)) (Scalar (codePoint (take (suc n) s)) (suc n)) IllFormed
 
 unfoldable pub stepBy : Lead → List ℕ → Step
 stepBy l s = stepAs (l .len) (trailOf (l .len) (l .low) (l .high)) s

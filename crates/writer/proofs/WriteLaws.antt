@@ -2,7 +2,7 @@
 use Prim.Native.Nat.{ℕ, _%_, _≤_}
 use mathlib.Core.Path.{_≡_, refl, sym, ap, subst, _∙_}
 use mathlib.Core.List.{List}
-use mathlib.Core.Bool.{Bool, true, false}
+use mathlib.Core.Bool.{Bool, true, false, cond}
 use mathlib.Core.Logic.{inl, inr}
 use mathlib.Core.Option.{Option, none, some}
 use native.Mathlib.Omega.{arith}
@@ -19,7 +19,7 @@ use Rattle.image.specs.Limits.{maxRanges, maxEntries}
 use Rattle.image.specs.Ranges.{rangeIn, goodRange, firstBadRange}
 use Rattle.image.specs.Profile.{pointIn, roleIn, goodEntry, firstBadEntry}
 use Rattle.image.specs.Image.{imageOf}
-use Rattle.image.specs.Check.{pickRefusal, refuseAt}
+use Rattle.image.specs.Check.{refuseAt}
 use Rattle.writer.specs.declared.Written.{Written}
 use Rattle.writer.specs.declared.Written.the-variants as written
 use Rattle.writer.specs.Writable.{Counted, Writable, Because}
@@ -34,7 +34,7 @@ module _ (words : List ℕ) (p : Profile) (room : ℕ) where
 
   -- what is left to refuse after the entries, the ranges, each count and the shape
   abbrev afterEntries : Option Refusal
-  afterEntries = pickRefusal (leb (bytesNeeded words p) room) none (some (refusal.Buffer (bytesNeeded words p)))
+  afterEntries = cond (leb (bytesNeeded words p) room) none (some (refusal.Buffer (bytesNeeded words p)))
 
   abbrev afterRanges : Option Refusal
   afterRanges = refuseAt refusal.Entry badEntry (p .used) afterEntries
@@ -43,39 +43,39 @@ module _ (words : List ℕ) (p : Profile) (room : ℕ) where
   afterCounts = refuseAt refusal.Range badRange (rangesIn words) afterRanges
 
   abbrev afterFirst : Option Refusal
-  afterFirst = pickRefusal (leb (p .used) maxEntries) afterCounts (some refusal.Header)
+  afterFirst = cond (leb (p .used) maxEntries) afterCounts (some refusal.Header)
 
   abbrev afterShape : Option Refusal
-  afterShape = pickRefusal (leb (rangesIn words) maxRanges) afterFirst (some refusal.Header)
+  afterShape = cond (leb (rangesIn words) maxRanges) afterFirst (some refusal.Header)
 
-  because-buffer : Writable words p → (b : Bool) → leb (bytesNeeded words p) room ≡ b → Because words p room (pickRefusal b none (some (refusal.Buffer (bytesNeeded words p))))
+  because-buffer : Writable words p → (b : Bool) → leb (bytesNeeded words p) room ≡ b → Because words p room (cond b none (some (refusal.Buffer (bytesNeeded words p))))
   because-buffer w true e = (w, leb-true _ _ e)
   because-buffer w false e = (w, refl, leb-false _ _ e)
 
   because-entries :
       Counted words p → AllGood (goodRange (rangeIn words)) (rangesIn words) → (b : Bool) → ltb badEntry (p .used) ≡ b
-      → Because words p room (pickRefusal b (some (refusal.Entry badEntry)) afterEntries)
+      → Because words p room (cond b (some (refusal.Entry badEntry)) afterEntries)
   unfolding firstBadEntry
   because-entries h g true e = (h, g, first-bad (goodEntry (pointIn p) (roleIn p)) (p .used) (ltb-true _ _ e))
   because-entries h g false e =
       because-buffer (record { counted = h; ranges = g; entries = all-good (goodEntry (pointIn p) (roleIn p)) (p .used) (ltb-false _ _ e) }) _ refl
 
-  because-ranges : Counted words p → (b : Bool) → ltb badRange (rangesIn words) ≡ b → Because words p room (pickRefusal b (some (refusal.Range badRange)) afterRanges)
+  because-ranges : Counted words p → (b : Bool) → ltb badRange (rangesIn words) ≡ b → Because words p room (cond b (some (refusal.Range badRange)) afterRanges)
   unfolding firstBadRange
   because-ranges h true e = (h, first-bad (goodRange (rangeIn words)) (rangesIn words) (ltb-true _ _ e))
   because-ranges h false e = because-entries h (all-good (goodRange (rangeIn words)) (rangesIn words) (ltb-false _ _ e)) _ refl
 
   because-used :
       length words % 3 ≡ 0 → rangesIn words ≤ maxRanges → (b : Bool) → leb (p .used) maxEntries ≡ b
-      → Because words p room (pickRefusal b afterCounts (some refusal.Header))
+      → Because words p room (cond b afterCounts (some refusal.Header))
   because-used t n true e = because-ranges (record { thirds = t; few-ranges = n; few-entries = leb-true _ _ e }) _ refl
   because-used t n false e = (t, inr (leb-false _ _ e))
 
-  because-count : length words % 3 ≡ 0 → (b : Bool) → leb (rangesIn words) maxRanges ≡ b → Because words p room (pickRefusal b afterFirst (some refusal.Header))
+  because-count : length words % 3 ≡ 0 → (b : Bool) → leb (rangesIn words) maxRanges ≡ b → Because words p room (cond b afterFirst (some refusal.Header))
   because-count t true e = because-used t (leb-true _ _ e) _ refl
   because-count t false e = (t, inl (leb-false _ _ e))
 
-  because-shape : (b : Bool) → eqb (length words % 3) 0 ≡ b → Because words p room (pickRefusal b afterShape (some refusal.Shape))
+  because-shape : (b : Bool) → eqb (length words % 3) 0 ≡ b → Because words p room (cond b afterShape (some refusal.Shape))
   because-shape true e = because-count (eqb-true _ _ e) _ refl
   because-shape false e = eqb-false _ _ e
 
@@ -113,7 +113,7 @@ module _ (words : List ℕ) (p : Profile) (room : ℕ) where
   decides (some refusal.Header) (t, inl l) = past-shape t ∙ simp (lt-leb _ _ l)
   decides (some refusal.Header) (t, inr l) = past-shape t ∙ go (leb (rangesIn words) maxRanges)
     where
-      go : (b : Bool) → pickRefusal b afterFirst (some refusal.Header) ≡ some refusal.Header
+      go : (b : Bool) → cond b afterFirst (some refusal.Header) ≡ some refusal.Header
       go true = simp (lt-leb _ _ l)
       go false = refl
   decides (some (refusal.Range i)) (h, f) =

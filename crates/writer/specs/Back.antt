@@ -1,4 +1,4 @@
--- What reading gives back of what was written (demand 2; document 01, "The class image").
+-- What reading gives back of what was written (demand 2; docs/RULES.md, "The class image").
 use Prim.Native.Nat.{ℕ, _≤_, _<_}
 use mathlib.Core.Path.{_≡_}
 use mathlib.Core.List.{List}

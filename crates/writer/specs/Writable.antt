@@ -1,4 +1,4 @@
--- What may be written as an image, and what each of the writer's refusals says (document 01, "Named refusals").
+-- What may be written as an image, and what each of the writer's refusals says (docs/RULES.md, "Named refusals").
 -- `proofs/WriteLaws.antt` joins this to the answers of `Write.antt`.
 use Prim.Native.Nat.{ℕ, _%_, _≤_, _<_}
 use mathlib.Core.Path.{_≡_}

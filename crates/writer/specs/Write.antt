@@ -1,4 +1,5 @@
--- What writing an image gives (document 01, "Named refusals": the writer checks 13, then 2 for counts, 3, 4, 12).
+-- What writing an image gives (docs/RULES.md, "Named refusals": the writer checks 13, then 2 for counts, 3, 4, 12).
+use mathlib.Core.Bool.{cond}
 use Prim.Native.Nat.{ℕ, _/_, _%_}
 use mathlib.Core.List.{List}
 use mathlib.Core.Option.{Option, none, some}
@@ -13,7 +14,7 @@ use Rattle.image.specs.Header.{imageEnd}
 use Rattle.image.specs.Ranges.{rangeIn, firstBadRange}
 use Rattle.image.specs.Profile.{pointIn, roleIn, firstBadEntry}
 use Rattle.image.specs.Image.{imageOf}
-use Rattle.image.specs.Check.{pickRefusal, refuseAt}
+use Rattle.image.specs.Check.{refuseAt}
 use Rattle.writer.specs.declared.Written.{Written}
 use Rattle.writer.specs.declared.Written.the-variants as written
 
@@ -33,12 +34,12 @@ valueAt l i = getD l i 0
 -- 12: the buffer of `room` bytes is too short. Entries past the used length are not looked at.
 unfoldable pub writeRefusal : List ℕ → Profile → ℕ → Option Refusal
 writeRefusal words p room =
-    pickRefusal (eqb (length words % 3) 0)
-    (pickRefusal (leb (rangesIn words) maxRanges)
-    (pickRefusal (leb (p .used) maxEntries)
+    cond (eqb (length words % 3) 0)
+    (cond (leb (rangesIn words) maxRanges)
+    (cond (leb (p .used) maxEntries)
     (refuseAt refusal.Range (firstBadRange (rangeIn words) (rangesIn words)) (rangesIn words)
     (refuseAt refusal.Entry (firstBadEntry (pointIn p) (roleIn p) (p .used)) (p .used)
-    (pickRefusal (leb (bytesNeeded words p) room) none (some (refusal.Buffer (bytesNeeded words p))))))
+    (cond (leb (bytesNeeded words p) room) none (some (refusal.Buffer (bytesNeeded words p))))))
     (some refusal.Header))
     (some refusal.Header))
     (some refusal.Shape)

@@ -1,4 +1,4 @@
-// Writes image M of document 01, reads it back, and gives the writer what it refuses.
+// Writes image M of docs/RULES.md, reads it back, and gives the writer what it refuses.
 ghost use Prim.Native.Nat.{_≤_};
 ghost use lib.ListN.{length};
 use image::Answer;

@@ -1,6 +1,6 @@
 -- `image::judge` meets its contract. Assumes nothing.
 use mathlib.Core.Path.{sym, _∙_}
-use Rattle.image.proofs.ImageLaws.{long-enough, refuses, decides}
+use Rattle.image.proofs.ImageLaws.{long-enough, refuses, header-refused, length-refused}
 use borrow.Author.Needs.{needs}
 use Rattle.image.proofs.judge.Statement.{statement}
 use Rattle.image.proofs.judge.Tie as tie
@@ -18,10 +18,10 @@ returns : tie.Need-returns
 returns c = search needs
 
 returns-2 : tie.Need-returns-2
-returns-2 c = refuses _ _ (decides _ _ (sym (c .before .before .before .is-length-right .ensures) ∙ c .before .before .if1 .taken, sym (c .before .is-header-right .ensures) ∙ c .if2 .left))
+returns-2 c = refuses _ _ (header-refused _ (sym (c .before .before .before .is-length-right .ensures) ∙ c .before .before .if1 .taken) (sym (c .before .is-header-right .ensures) ∙ c .if2 .left))
 
 returns-3 : tie.Need-returns-3
-returns-3 c = refuses _ _ (decides _ _ (sym (c .before .is-length-right .ensures) ∙ c .if1 .left))
+returns-3 c = refuses _ _ (length-refused _ (sym (c .before .is-length-right .ensures) ∙ c .if1 .left))
 
 pub judge-spec : {M : Type 1} → statement M
 judge-spec =

@@ -15,14 +15,14 @@ read-full-requires c κs = search needs
 array-share-prefix-input : tie.Need-array-share-prefix-input
 array-share-prefix-input c = search needs
 
-slice-aggregate-list-input : tie.Need-slice-aggregate-list-input
-slice-aggregate-list-input c = search needs
+slice-aggregate-list-read : tie.Need-slice-aggregate-list-read
+slice-aggregate-list-read c = search needs
 
-slice-aggregate-list-input-2 : tie.Need-slice-aggregate-list-input-2
-slice-aggregate-list-input-2 c = search needs
+slice-aggregate-list-read-2 : tie.Need-slice-aggregate-list-read-2
+slice-aggregate-list-read-2 c = search needs
 
-list-input-requires : tie.Need-list-input-requires
-list-input-requires c κs = search needs
+list-read-requires : tie.Need-list-read-requires
+list-read-requires c κs = search needs
 
 enum-known-counted : tie.Need-enum-known-counted
 enum-known-counted c = search needs
@@ -37,7 +37,7 @@ slice-aggregate-print-tokens : tie.Need-slice-aggregate-print-tokens
 slice-aggregate-print-tokens c = search needs
 
 print-tokens-requires : tie.Need-print-tokens-requires
-print-tokens-requires c κs = omega (arith, listed-fits _ _ _ (sym (c .before .before .counted2 .given .1) ∙ c .before .before .before .before .before .list-input .ensures .0))
+print-tokens-requires c κs = omega (arith, listed-fits _ _ _ (sym (c .before .before .counted2 .given .1) ∙ c .before .before .before .before .before .list-read .ensures .0))
 
 returns : tie.Need-returns
 returns c = search needs
@@ -52,9 +52,9 @@ main-spec =
     slice-aggregate-read-full
     read-full-requires
     array-share-prefix-input
-    slice-aggregate-list-input
-    slice-aggregate-list-input-2
-    list-input-requires
+    slice-aggregate-list-read
+    slice-aggregate-list-read-2
+    list-read-requires
     enum-known-counted
     print-refusal-requires
     enum-known-counted-2

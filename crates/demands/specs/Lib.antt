@@ -1,0 +1,5 @@
+pub mod Firm
+pub mod Divided
+pub mod Promise
+pub mod Cases
+pub mod Yes

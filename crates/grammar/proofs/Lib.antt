@@ -1,0 +1,5 @@
+pub mod ScanLaws
+pub mod DivisionLaws
+pub mod GrammarLaws
+pub mod RecordLaws
+pub mod AnswerLaws

@@ -1,0 +1,31 @@
+-- The bytes of tokens and the number of words in their list. Assumes nothing.
+use Prim.Native.Nat.{ℕ, _+_, _*_}
+use mathlib.Core.Path.{_≡_, refl, sym, ap, _∙_}
+use mathlib.Core.List.{List, [], _∷_, _++_}
+use native.Mathlib.Nat.{add-assoc, zero-add}
+use native.Mathlib.Omega.{arith}
+use lib.ListN.{length}
+use Rattle.utf8.specs.Text.{Character, widthOf}
+use Rattle.grammar.specs.Scan.{Tok, unitsOf}
+use Rattle.grammar.specs.Grammar.{Kind}
+use Rattle.grammar.specs.Record.{Record, recordSize, tokenWidth, tokensWidth, recordsFrom, wordsOf, listedWords}
+
+pub width-append : (u v : List Character) → widthOf (u ++ v) ≡ widthOf u + widthOf v
+width-append [] v = sym (zero-add (widthOf v))
+width-append (c ∷ u) v = rw (width-append u v, add-assoc (c .width) (widthOf u) (widthOf v))
+
+-- the bytes of tokens are those of their characters
+pub tokens-width : (ts : List (Tok Character Kind)) → tokensWidth ts ≡ widthOf (unitsOf ts)
+tokens-width [] = refl
+tokens-width (t ∷ ts) = rw (width-append (t .units) (unitsOf ts), tokens-width ts)
+
+pub length-records : (p : ℕ) (ts : List (Tok Character Kind)) → length (recordsFrom p ts) ≡ length ts
+length-records p [] = refl
+length-records p (t ∷ ts) = let h = length-records (p + tokenWidth t) ts in omega arith
+
+pub length-words : (rs : List Record) → length (wordsOf rs) ≡ recordSize * length rs
+length-words [] = refl
+length-words (r ∷ rs) = let h = length-words rs in omega arith
+
+pub length-listed : (ts : List (Tok Character Kind)) → length (listedWords ts) ≡ recordSize * length ts
+length-listed ts = length-words (recordsFrom 0 ts) ∙ ap (λ (n : ℕ). recordSize * n) (length-records 0 ts)

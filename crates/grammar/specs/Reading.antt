@@ -1,0 +1,92 @@
+-- What counting a text's tokens and writing their list answer under an image (docs/RULES.md, "Tokens" and "Named refusals").
+-- An image and a text are lists of bytes.
+use Prim.Native.Nat.{ℕ}
+use mathlib.Core.List.{List, [], _∷_}
+use mathlib.Core.Option.{Option, none, some}
+use lib.ListN.{length}
+use lib.Dec.{ltb}
+use Rattle.lists.specs.Laid.{laid}
+use Rattle.refusal.specs.declared.Refusal.{Refusal}
+use Rattle.refusal.specs.declared.Refusal.the-variants as refusal
+use Rattle.utf8.specs.declared.Text.{Text}
+use Rattle.utf8.specs.declared.Text.the-variants.{WellFormed, IllFormed}
+use Rattle.utf8.specs.Text.{Character, decode, textOf}
+use Rattle.image.specs.Class.{classNamed}
+use Rattle.image.specs.Check.{refusalOf, classOf, medialOf}
+use Rattle.grammar.specs.Scan.{Tok, Reading, Rules, reading}
+use Rattle.grammar.specs.Meaning.{Meaning}
+use Rattle.grammar.specs.Grammar.{Kind}
+use Rattle.grammar.specs.Kinds.{rules}
+use Rattle.refusal.specs.Outcome.{Outcome, given, refused, unless, refusedIf, outcomeMap}
+use Rattle.grammar.specs.Record.{roomOf, tokensWidth, listedWords}
+
+-- a text has at most so many bytes
+abbrev pub maxText : ℕ
+maxText = 1048576
+
+-- the class after the profile of a character, and whether it is a medial, under the image s
+unfoldable pub meaningOf : List ℕ → Meaning Character
+meaningOf s = record { class = λ (c : Character). classNamed (classOf s (c .code)); medial = λ (c : Character). medialOf s (c .code) }
+
+abbrev pub rulesOf : List ℕ → Rules Character Kind
+rulesOf s = rules (meaningOf s)
+
+-- the reading of a text's characters under the image s
+unfoldable pub readingOf : List ℕ → List ℕ → Reading Character Kind
+readingOf s text = reading (rulesOf s) (decode text .characters)
+
+abbrev pub tokensOf : List ℕ → List ℕ → List (Tok Character Kind)
+tokensOf s text = readingOf s text .tokens
+
+-- 5: the text is too long
+unfoldable pub lengthRefusal : List ℕ → Option Refusal
+lengthRefusal text = refusedIf (ltb maxText (length text)) refusal.TextLength
+
+-- 6: the first place in the whole text at which no well-formed sequence begins
+abbrev pub formRefusalBy : Text → Option Refusal
+formRefusalBy WellFormed = none
+formRefusalBy (IllFormed p) = some (refusal.IllFormed p)
+
+abbrev pub formRefusal : List ℕ → Option Refusal
+formRefusal text = formRefusalBy (textOf text)
+
+-- 7: characters are left, and no token begins where the tokens end
+abbrev pub judged : List (Tok Character Kind) → List Character → Outcome (List (Tok Character Kind))
+judged ts [] = given ts
+judged ts (c ∷ r) = refused (refusal.Characters (tokensWidth ts))
+
+-- 1 to 4 of the image, then 5, then 6, then 7; else the text's tokens
+unfoldable pub outcomeOf : List ℕ → List ℕ → Outcome (List (Tok Character Kind))
+outcomeOf s text =
+    unless (refusalOf s)
+    (unless (lengthRefusal text)
+    (unless (formRefusal text) (judged (readingOf s text .tokens) (readingOf s text .left))))
+
+-- the answer of counting
+unfoldable pub countOf : List ℕ → List ℕ → Outcome ℕ
+countOf s text = outcomeMap length (outcomeOf s text)
+
+-- 8: the tokens need more room than a buffer of so many words has
+abbrev pub roomRefusal : ℕ → List (Tok Character Kind) → Option Refusal
+roomRefusal words ts = refusedIf (ltb (roomOf words) (length ts)) (refusal.Room (length ts))
+
+abbrev pub roomed : ℕ → Outcome (List (Tok Character Kind)) → Outcome (List (Tok Character Kind))
+roomed words (given ts) = unless (roomRefusal words ts) (given ts)
+roomed words (refused r) = refused r
+
+-- the tokens that are written into a buffer of so many words
+unfoldable pub writtenOf : List ℕ → List ℕ → ℕ → Outcome (List (Tok Character Kind))
+writtenOf s text words = roomed words (outcomeOf s text)
+
+-- the answer of writing the list
+unfoldable pub listOf : List ℕ → List ℕ → ℕ → Outcome ℕ
+listOf s text words = outcomeMap length (writtenOf s text words)
+
+-- what the buffer holds after writing the list: the records' words from the first word on, and past them what was there;
+-- after a refusal, what was there
+abbrev pub laidBy : List ℕ → Outcome (List (Tok Character Kind)) → List ℕ
+laidBy out (given ts) = laid out 0 (listedWords ts)
+laidBy out (refused r) = out
+
+unfoldable pub listWords : List ℕ → List ℕ → List ℕ → List ℕ
+listWords s text out = laidBy out (writtenOf s text (length out))

@@ -1,0 +1,22 @@
+-- `luffinarc::luffinarc_list` meets its contract. Assumes nothing.
+use mathlib.Core.Path.{sym}
+use Rattle.luffinarc.proofs.ReplyLaws.{told}
+use Rattle.luffinarc.specs.TokenReply.{countedReply}
+use borrow.Author.Needs.{needs}
+use Rattle.luffinarc.proofs.luffinarc_list.Statement.{statement}
+use Rattle.luffinarc.proofs.luffinarc_list.Tie as tie
+
+list-requires : tie.Need-list-requires
+list-requires c κs = search needs
+
+tell-counted-requires : tie.Need-tell-counted-requires
+tell-counted-requires c κs = search needs
+
+same-length : tie.Need-same-length
+same-length c = search needs
+
+returns : tie.Need-returns
+returns c = (told countedReply (sym (c .before .before .before .before .list .ensures .0)) (c .tell-counted .ensures), c .before .before .before .before .list .ensures .1)
+
+pub luffinarc-list-spec : {M : Type 1} → statement M
+luffinarc-list-spec = tie.close (tie.spec list-requires tell-counted-requires same-length returns)

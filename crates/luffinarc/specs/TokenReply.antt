@@ -1,0 +1,35 @@
+-- The replies of the calls on tokens (docs/RULES.md, "Tokens").
+use Prim.Native.Nat.{ℕ, _-_}
+use mathlib.Core.List.{List, [], _∷_}
+use mathlib.Core.Option.{Option, none, some}
+use lib.ListN.{getD, take, drop}
+use Rattle.refusal.specs.declared.Refusal.{Refusal}
+use Rattle.scan.specs.declared.Counted.{Counted}
+use Rattle.scan.specs.declared.Counted.the-variants as counted
+use Rattle.token.specs.declared.Taken.{Taken}
+use Rattle.token.specs.declared.Taken.the-variants as taken
+use Rattle.luffinarc.specs.Reply.{Reply, gives, refuses}
+
+-- counting and writing the list: the number of tokens
+abbrev pub countedReply : Counted → Reply
+countedReply (counted.Refused r) = refuses r
+countedReply (counted.Tokens n) = gives (n ∷ [])
+
+-- the result where a place is the text's end; no refusal has it
+abbrev pub done : ℕ
+done = 255
+
+-- taking one token: its kind, its first byte, and one past its last
+abbrev pub takenReply : Taken → Reply
+takenReply (taken.Refused r) = refuses r
+takenReply taken.Done = record { number = done; values = 0 ∷ 0 ∷ 0 ∷ 0 ∷ [] }
+takenReply (taken.Token kind start end) = gives (kind ∷ start ∷ end ∷ [])
+
+-- handing back a part: its first byte and its number of bytes
+abbrev pub partReply : Option Refusal → ℕ → ℕ → Reply
+partReply (some r) start end = refuses r
+partReply none start end = gives (start ∷ (end - start) ∷ [])
+
+-- the bytes that an answer array tells of: from the first number on, as many as the second
+abbrev pub toldPart : List ℕ → List ℕ → List ℕ
+toldPart text answer = take (getD answer 1 0) (drop (getD answer 0 0) text)

@@ -1,0 +1,378 @@
+// The functions of the static library, for callers in C and Rust: numbers, slices and arrays of a fixed length only.
+// The result is 0 where the call gives no refusal, else the refusal's number. The values of the answer, or what the
+// refusal carries, go into `answer`, with zeros past them. A function whose name ends in `_checked` is given an image
+// that was checked, with what its check gave: number of ranges, profile, number of profile entries.
+ghost use mathlib.Core.Path.{_≡_};
+ghost use mathlib.Core.List.{[], _∷_};
+ghost use lib.ListN.{length, getD};
+ghost use Rattle.image.specs.Profile.{profileBy};
+ghost use Rattle.image.specs.Check.{checkOf, readOf, wordsAfter};
+ghost use Rattle.writer.specs.Write.{writeOf, bytesAfter};
+ghost use Rattle.lookup.specs.Lookup.{lookupOf};
+ghost use Rattle.pair.specs.Pair.{pairOf};
+ghost use Rattle.character.specs.Opened.{Opened};
+ghost use Rattle.grammar.specs.Reading.{countOf, listOf, listWords};
+ghost use Rattle.scan.specs.Counted.{countedBy};
+ghost use Rattle.token.specs.Taken.{takenOf};
+ghost use Rattle.part.specs.Part.{partRefusal, partBytes};
+ghost use Rattle.luffinarc.specs.Reply.{Tells, refusesOf};
+ghost use Rattle.luffinarc.specs.ImageReply.{TellsChecked, foundReply, writtenReply, pairReply};
+ghost use Rattle.luffinarc.specs.TokenReply.{countedReply, takenReply, partReply, toldPart};
+use image::Answer;
+use image::Checked;
+use image::MAX_ENTRIES;
+use image::Profile;
+use lookup::Found;
+use pair::Pair;
+use refusal::Refusal;
+use scan::Counted;
+use token::Taken;
+use writer::Written;
+
+// The result where a place is the text's end.
+const DONE: u32 = 255;
+
+// Fills the answer array.
+fn put(answer: &mut [u64; 4], a: u64, b: u64, c: u64, d: u64)
+    ensures { λ _. ⌜ now (answer .exit) ≡ a ∷ b ∷ c ∷ d ∷ [] ⌝ }
+{
+    *answer = [a, b, c, d];
+}
+
+// Tells a refusal, and which image it is of, where a call has two.
+fn refuse(r: Refusal, which: u64, answer: &mut [u64; 4]) -> u32
+    ensures { λ n. ⌜ Tells (refusesOf which r) n (now (answer .exit)) ⌝ }
+{
+    put(answer, refusal::carried(r) as u64, 0, which, 0);
+    refusal::number(r)
+}
+
+// Tells what checking or reading an image gave.
+fn tell_checked(
+    checked: Checked,
+    points: &mut [u32; MAX_ENTRIES],
+    roles: &mut [u32; MAX_ENTRIES],
+    answer: &mut [u64; 4],
+) -> u32
+    ensures { λ n. ⌜ TellsChecked checked (now (points .entry)) (now (roles .entry)) n (now (answer .exit)) (now (points .exit)) (now (roles .exit)) ⌝ }
+{
+    let a = checked.answer;
+    match a {
+        Answer::Refused(r) => refuse(r, 0, answer),
+        Answer::Accepted { version, ranges } => {
+            let profile = checked.profile;
+            let new_points = profile.points;
+            let new_roles = profile.roles;
+            *points = new_points;
+            *roles = new_roles;
+            put(
+                answer,
+                version as u64,
+                ranges as u64,
+                profile.used as u64,
+                0,
+            );
+            0
+        }
+    }
+}
+
+// Tells what a lookup gave.
+fn tell_found(f: Found, answer: &mut [u64; 4]) -> u32
+    ensures { λ n. ⌜ Tells (foundReply f) n (now (answer .exit)) ⌝ }
+{
+    match f {
+        Found::Refused(r) => refuse(r, 0, answer),
+        Found::Class { class, count } => {
+            put(answer, class as u64, count as u64, 0, 0);
+            0
+        }
+    }
+}
+
+// Tells what the writer gave.
+fn tell_written(w: Written, answer: &mut [u64; 4]) -> u32
+    ensures { λ n. ⌜ Tells (writtenReply w) n (now (answer .exit)) ⌝ }
+{
+    match w {
+        Written::Refused(r) => refuse(r, 0, answer),
+        Written::Image { len } => {
+            put(answer, len as u64, 0, 0, 0);
+            0
+        }
+    }
+}
+
+// Checks an image. Answer: version, number of ranges, number of profile entries.
+#[no_mangle]
+pub extern "C" fn luffinarc_check(
+    image: &[u8],
+    points: &mut [u32; MAX_ENTRIES],
+    roles: &mut [u32; MAX_ENTRIES],
+    answer: &mut [u64; 4],
+) -> u32
+    ensures { λ n. ⌜ TellsChecked (checkOf (now (image .entry))) (now (points .entry)) (now (roles .entry)) n (now (answer .exit)) (now (points .exit)) (now (roles .exit)) ⌝ }
+{
+    let checked = image::check(image);
+    tell_checked(checked, points, roles, answer)
+}
+
+// Reads an image: its ranges go into `words`, three each. Answer: version, number of ranges, number of profile entries.
+#[no_mangle]
+pub extern "C" fn luffinarc_read(
+    image: &[u8],
+    words: &mut [u32],
+    points: &mut [u32; MAX_ENTRIES],
+    roles: &mut [u32; MAX_ENTRIES],
+    answer: &mut [u64; 4],
+) -> u32
+    ensures { λ n. ⌜ TellsChecked (readOf (now (image .entry)) (length (now (words .entry)))) (now (points .entry)) (now (roles .entry)) n (now (answer .exit)) (now (points .exit)) (now (roles .exit)) ⌝ }
+    ensures { λ _. ⌜ now (words .exit) ≡ wordsAfter (now (image .entry)) (now (words .entry)) ⌝ }
+{
+    let checked = image::read(image, words);
+    tell_checked(checked, points, roles, answer)
+}
+
+// Writes the image with this version, these ranges, three words each, and this profile. Answer: bytes of the image.
+#[no_mangle]
+pub extern "C" fn luffinarc_write<'a>(
+    version: u32,
+    words: &[u32],
+    points: &'a [u32; MAX_ENTRIES],
+    roles: &'a [u32; MAX_ENTRIES],
+    used: usize,
+    out: &mut [u8],
+    answer: &mut [u64; 4],
+) -> u32
+    ensures { λ n. ⌜ Tells (writtenReply (writeOf (now (words .entry)) (profileBy (now (points .entry)) (now (roles .entry)) used) (length (now (out .entry))))) n (now (answer .exit)) ⌝ }
+    ensures { λ _. ⌜ now (out .exit) ≡ bytesAfter version (now (words .entry)) (profileBy (now (points .entry)) (now (roles .entry)) used) (now (out .entry)) ⌝ }
+{
+    let profile = Profile {
+        points: *points,
+        roles: *roles,
+        used,
+    };
+    let written = writer::write(version, words, profile, out);
+    tell_written(written, answer)
+}
+
+// The class of a number after the profile of an image. Answer: class, number of ranges looked at.
+#[no_mangle]
+pub extern "C" fn luffinarc_lookup(image: &[u8], number: u32, answer: &mut [u64; 4]) -> u32
+    ensures { λ n. ⌜ Tells (foundReply (lookupOf (now (image .entry)) number)) n (now (answer .exit)) ⌝ }
+{
+    let found = lookup::lookup(image, number);
+    tell_found(found, answer)
+}
+
+// The lookup in an image that was checked, with what its check gave.
+fn look_up<'a>(
+    image: &'a [u8],
+    n: usize,
+    points: &'a [u32; MAX_ENTRIES],
+    roles: &'a [u32; MAX_ENTRIES],
+    used: usize,
+    x: u32,
+) -> Found
+    requires { ⌜ Opened (now image) n (now points) (now roles) used ⌝ }
+    ensures { λ r. ⌜ r ≡ lookupOf (now (image .entry)) x ⌝ }
+{
+    if utf8::is_scalar(x) {
+        let role = lookup::role_of(points, roles, used, x);
+        let probe = lookup::find(image, n, x);
+        return Found::Class {
+            class: lookup::after_role(role, probe.class),
+            count: probe.count,
+        };
+    }
+    Found::Refused(Refusal::NotScalar(x as usize))
+}
+
+// As `luffinarc_lookup`, in an image that was checked.
+#[no_mangle]
+pub extern "C" fn luffinarc_lookup_checked<'a>(
+    image: &'a [u8],
+    n: usize,
+    points: &'a [u32; MAX_ENTRIES],
+    roles: &'a [u32; MAX_ENTRIES],
+    used: usize,
+    number: u32,
+    answer: &mut [u64; 4],
+) -> u32
+    requires { ⌜ Opened (now image) n (now points) (now roles) used ⌝ }
+    ensures { λ k. ⌜ Tells (foundReply (lookupOf (now (image .entry)) number)) k (now (answer .exit)) ⌝ }
+{
+    let found = look_up(image, n, points, roles, used, number);
+    tell_found(found, answer)
+}
+
+// Tells what the pair check gave.
+fn tell_pair(p: Pair, answer: &mut [u64; 4]) -> u32
+    ensures { λ n. ⌜ Tells (pairReply p) n (now (answer .exit)) ⌝ }
+{
+    match p {
+        Pair::Older(r) => refuse(r, 1, answer),
+        Pair::Newer(r) => refuse(r, 2, answer),
+        Pair::Refused(r) => refuse(r, 0, answer),
+        Pair::Permitted => {
+            put(answer, 0, 0, 0, 0);
+            0
+        }
+    }
+}
+
+// Whether the newer image differs from the older only by permitted changes. Answer: zeros. A refusal tells at index 2
+// which image it is of: 1 the older, 2 the newer, 0 the pair.
+#[no_mangle]
+pub extern "C" fn luffinarc_pair(older: &[u8], newer: &[u8], answer: &mut [u64; 4]) -> u32
+    ensures { λ n. ⌜ Tells (pairReply (pairOf (now (older .entry)) (now (newer .entry)))) n (now (answer .exit)) ⌝ }
+{
+    let pair = pair::check_pair(older, newer);
+    tell_pair(pair, answer)
+}
+
+// Tells what counting or writing the list gave.
+fn tell_counted(counted: Counted, answer: &mut [u64; 4]) -> u32
+    ensures { λ n. ⌜ Tells (countedReply counted) n (now (answer .exit)) ⌝ }
+{
+    match counted {
+        Counted::Refused(r) => refuse(r, 0, answer),
+        Counted::Tokens(count) => {
+            put(answer, count as u64, 0, 0, 0);
+            0
+        }
+    }
+}
+
+// Tells what taking one token gave.
+fn tell_taken(taken: Taken, answer: &mut [u64; 4]) -> u32
+    ensures { λ n. ⌜ Tells (takenReply taken) n (now (answer .exit)) ⌝ }
+{
+    match taken {
+        Taken::Refused(r) => refuse(r, 0, answer),
+        Taken::Done => {
+            put(answer, 0, 0, 0, 0);
+            DONE
+        }
+        Taken::Token { kind, start, end } => {
+            put(answer, kind as u64, start as u64, end as u64, 0);
+            0
+        }
+    }
+}
+
+// Counts the tokens of a text. Answer: their number.
+#[no_mangle]
+pub extern "C" fn luffinarc_count<'a>(image: &'a [u8], text: &'a [u8], answer: &mut [u64; 4]) -> u32
+    ensures { λ n. ⌜ Tells (countedReply (countedBy (countOf (now (image .entry)) (now (text .entry))))) n (now (answer .exit)) ⌝ }
+{
+    let counted = token::count(image, text);
+    tell_counted(counted, answer)
+}
+
+// As `luffinarc_count`, under an image that was checked.
+#[no_mangle]
+pub extern "C" fn luffinarc_count_checked<'a>(
+    image: &'a [u8],
+    n: usize,
+    points: &'a [u32; MAX_ENTRIES],
+    roles: &'a [u32; MAX_ENTRIES],
+    used: usize,
+    text: &'a [u8],
+    answer: &mut [u64; 4],
+) -> u32
+    requires { ⌜ Opened (now image) n (now points) (now roles) used ⌝ }
+    ensures { λ k. ⌜ Tells (countedReply (countedBy (countOf (now (image .entry)) (now (text .entry))))) k (now (answer .exit)) ⌝ }
+{
+    let counted = token::count_checked(image, n, points, roles, used, text);
+    tell_counted(counted, answer)
+}
+
+// Writes the list of a text's tokens, three words each. Answer: their number.
+#[no_mangle]
+pub extern "C" fn luffinarc_list<'a>(
+    image: &'a [u8],
+    text: &'a [u8],
+    words: &mut [u32],
+    answer: &mut [u64; 4],
+) -> u32
+    ensures { λ n. ⌜ Tells (countedReply (countedBy (listOf (now (image .entry)) (now (text .entry)) (length (now (words .entry)))))) n (now (answer .exit)) ⌝ }
+    ensures { λ _. ⌜ now (words .exit) ≡ listWords (now (image .entry)) (now (text .entry)) (now (words .entry)) ⌝ }
+{
+    let counted = token::list(image, text, words);
+    tell_counted(counted, answer)
+}
+
+// As `luffinarc_list`, under an image that was checked.
+#[no_mangle]
+pub extern "C" fn luffinarc_list_checked<'a>(
+    image: &'a [u8],
+    n: usize,
+    points: &'a [u32; MAX_ENTRIES],
+    roles: &'a [u32; MAX_ENTRIES],
+    used: usize,
+    text: &'a [u8],
+    words: &mut [u32],
+    answer: &mut [u64; 4],
+) -> u32
+    requires { ⌜ Opened (now image) n (now points) (now roles) used ⌝ }
+    ensures { λ k. ⌜ Tells (countedReply (countedBy (listOf (now (image .entry)) (now (text .entry)) (length (now (words .entry)))))) k (now (answer .exit)) ⌝ }
+    ensures { λ _. ⌜ now (words .exit) ≡ listWords (now (image .entry)) (now (text .entry)) (now (words .entry)) ⌝ }
+{
+    let counted = token::list_checked(image, n, points, roles, used, text, words);
+    tell_counted(counted, answer)
+}
+
+// Takes one token at a place of a text. Answer: kind, first byte, one past the last byte. The result is 255 where the
+// place is the text's end.
+#[no_mangle]
+pub extern "C" fn luffinarc_token<'a>(
+    image: &'a [u8],
+    text: &'a [u8],
+    place: usize,
+    answer: &mut [u64; 4],
+) -> u32
+    ensures { λ n. ⌜ Tells (takenReply (takenOf (now (image .entry)) (now (text .entry)) place)) n (now (answer .exit)) ⌝ }
+{
+    let taken = token::take_token(image, text, place);
+    tell_taken(taken, answer)
+}
+
+// As `luffinarc_token`, under an image that was checked.
+#[no_mangle]
+pub extern "C" fn luffinarc_token_checked<'a>(
+    image: &'a [u8],
+    n: usize,
+    points: &'a [u32; MAX_ENTRIES],
+    roles: &'a [u32; MAX_ENTRIES],
+    used: usize,
+    text: &'a [u8],
+    place: usize,
+    answer: &mut [u64; 4],
+) -> u32
+    requires { ⌜ Opened (now image) n (now points) (now roles) used ⌝ }
+    ensures { λ k. ⌜ Tells (takenReply (takenOf (now (image .entry)) (now (text .entry)) place)) k (now (answer .exit)) ⌝ }
+{
+    let taken = token::take_checked(image, n, points, roles, used, text, place);
+    tell_taken(taken, answer)
+}
+
+// Hands back the part of a text from `start` to `end`. Answer: its first byte and its number of bytes.
+#[no_mangle]
+pub extern "C" fn luffinarc_part(
+    text: &[u8],
+    start: usize,
+    end: usize,
+    answer: &mut [u64; 4],
+) -> u32
+    ensures { λ n. ⌜ Tells (partReply (partRefusal (now (text .entry)) start end) start end) n (now (answer .exit)) ⌝ }
+    ensures { λ _. ⌜ toldPart (now (text .entry)) (now (answer .exit)) ≡ partBytes (now (text .entry)) start end ⌝ }
+{
+    let refused = part::check(text, start, end);
+    if refused != 0 {
+        put(answer, 0, 0, 0, 0);
+        return refused;
+    }
+    put(answer, start as u64, (end - start) as u64, 0, 0);
+    0
+}
