@@ -5,6 +5,7 @@ use mathlib.Core.List.{List, [], _∷_, append-nil}
 use mathlib.Core.Logic.{_↔_, _⊎_, inl, inr}
 use native.Mathlib.Omega.{arith}
 use lib.ListN.{length, drop, length-drop}
+use Rattle.lists.proofs.BoolLaws.{impossible}
 use Rattle.lists.specs.Laid.{laid}
 use Rattle.refusal.specs.declared.Refusal.{Refusal}
 use Rattle.refusal.specs.declared.Refusal.the-variants as refusal
@@ -34,7 +35,7 @@ use Rattle.demands.proofs.OutcomeLaws.{
 
 judged-given : (ts : List (Tok Character Kind)) (left : List Character) (us : List (Tok Character Kind)) → judged ts left ≡ given us → (ts ≡ us) × (left ≡ [])
 judged-given ts [] us e = (cc, refl)
-judged-given ts (c ∷ r) us e = let z : _≡_ {A = ℕ} 0 1 = cc in absurd (omega arith)
+judged-given ts (c ∷ r) us e = impossible (cc)
 
 module _ (s text : List ℕ) where
   -- the reading of a text that is none of 1 to 6 divides it
@@ -73,7 +74,7 @@ module _ (s text : List ℕ) where
   refused-iff p = (to, from)
     where
       stops : (ts : List (Tok Character Kind)) (left : List Character) → judged ts left ≡ refused (refusal.Characters p) → Divided s text ts left → Stopped s text p
-      stops ts [] e d = let z : _≡_ {A = ℕ} 0 1 = cc in absurd (omega arith)
+      stops ts [] e d = impossible (cc)
       stops ts (c ∷ r) e d = record { tokens = ts; first = c; others = r; divided = d; place = cc }
 
       to : outcomeOf s text ≡ refused (refusal.Characters p) → Stopped s text p
@@ -95,8 +96,7 @@ module _ (s text : List ℕ) where
       to e ts d =
           let f = given-iff ts .1 d in
           let g = e .1 in
-          let z : _≡_ {A = ℕ} 0 1 = cc in
-          omega arith
+          impossible (cc)
 
       from : Passed s text → NoDivision s text → (ts : List (Tok Character Kind)) (left : List Character) → Divided s text ts left →
           outcomeOf s text ≡ judged ts left → (p : ℕ) × (outcomeOf s text ≡ refused (refusal.Characters p))

@@ -8,6 +8,7 @@ use mathlib.Core.Option.{Option, none, some}
 use native.Mathlib.Omega.{arith}
 use lib.ListN.{length, take, drop}
 use lib.Seq.{drop-drop, take-at}
+use Rattle.lists.proofs.BoolLaws.{impossible}
 use Rattle.refusal.specs.declared.Refusal.{Refusal}
 use Rattle.refusal.specs.declared.Refusal.the-variants.{Characters}
 use Rattle.refusal.specs.Refusal.{numberOf}
@@ -47,12 +48,10 @@ first-step s c r e = go (stepOf s) refl
         f ∙ (λ i. Scalar (h i .code) (h i .width))
     go IllFormed f =
         let g = ap (λ d. d .characters) (decode-ill s f) in
-        let z : _≡_ {A = ℕ} 0 1 = cc in
-        absurd (omega arith)
+        impossible (cc)
     go End f =
         let g = ap (λ d. d .characters) (decode-end s f) in
-        let z : _≡_ {A = ℕ} 0 1 = cc in
-        absurd (omega arith)
+        impossible (cc)
 
 -- and the others are those of the bytes after it
 next-characters : (s : List ℕ) (c : Character) (r : List Character) → decode s .characters ≡ c ∷ r → decode (drop (c .width) s) .characters ≡ r
@@ -145,7 +144,7 @@ module _ (older newer text : List ℕ) (L : Later older newer) where
       go (inr k) =
           let e = handed (Characters (k .0)) (k .1) in
           record {
-            accepted = λ n f. let z : _≡_ {A = ℕ} 0 1 = cc in absurd (omega arith);
+            accepted = λ n f. impossible (cc);
             characters = λ p f. let q : k .0 ≡ p = cc in inr (rw q at (k .2));
             others = λ r f n. let q : Characters (k .0) ≡ r = cc in absurd (n (ap numberOf (sym q)));
           }
@@ -160,7 +159,7 @@ module _ (older newer text : List ℕ) (L : Later older newer) where
     where
       go : Kept → outcomeOf newer text ≡ given ts
       go (inl f) = f ∙ e
-      go (inr k) = let f = k .1 in let z : _≡_ {A = ℕ} 0 1 = cc in absurd (omega arith)
+      go (inr k) = let f = k .1 in impossible (cc)
 
   stopped-same : (p : ℕ) → outcomeOf older text ≡ refused (Characters p) → (outcomeOf newer text ≡ refused (Characters p)) ⊎ Excepted older newer text p
   stopped-same p e = go kept

@@ -6,7 +6,7 @@ use mathlib.Core.Option.{Option, none, some}
 use mathlib.Core.Logic.{_⊎_, inl, inr}
 use Prim.Native.Nat.{ℕ, suc}
 use native.Mathlib.Omega.{arith}
-use Rattle.lists.proofs.BoolLaws.{or-cases, and-left, and-right, and-in, or-left, or-right, or-false}
+use Rattle.lists.proofs.BoolLaws.{or-cases, and-left, and-right, and-in, or-left, or-right, or-false, impossible}
 use Rattle.image.specs.Class.{Class, class-discrete}
 use Rattle.grammar.specs.All.{All}
 use Rattle.grammar.specs.Scan.{Tok, Reading, opened, stopped, goes, walk, reading}
@@ -58,7 +58,7 @@ keeps-first other-nonstart k e = cc
 keeps-first nonstart-start k e = cc
 
 none-some : {k : Kind} → _≡_ {A = Option Kind} none (some k) → ⊥
-none-some e = let z : _≡_ {A = ℕ} 0 1 = cc in omega arith
+none-some e = impossible (cc)
 
 module _ {A : Type 0} (older newer : Meaning A) where
   abbrev AllAllowed : List A → Type 0

@@ -10,6 +10,7 @@ use lib.ListN.{length, drop, length-append}
 use lib.Seq.{take-append-seam, drop-append-seam}
 use lib.Dec.{ltb}
 use borrow.Author.Tests.{ltb-false, le-ltb}
+use Rattle.lists.proofs.BoolLaws.{impossible}
 use Rattle.refusal.specs.declared.Refusal.{Refusal}
 use Rattle.refusal.specs.declared.Refusal.the-variants as refusal
 use Rattle.refusal.specs.Refusal.{numberOf}
@@ -63,7 +64,7 @@ module _ (s text : List ℕ) where
       go none e none f none g = record { image = e; short = f; form = g }
 
   pub given-passed : (ts : List (Tok Character Kind)) → outcomeOf s text ≡ given ts → Passed s text
-  given-passed ts e = passed-if (λ r h f. let z : _≡_ {A = ℕ} 0 1 = cc in omega arith)
+  given-passed ts e = passed-if (λ r h f. impossible (cc))
 
   pub characters-passed : (p : ℕ) → outcomeOf s text ≡ refused (refusal.Characters p) → Passed s text
   characters-passed p e =
@@ -73,7 +74,7 @@ module _ (s text : List ℕ) where
       omega arith)
 
 judged-number : (ts : List (Tok Character Kind)) (left : List Character) (r : Refusal) → judged ts left ≡ refused r → numberOf r ≤ 7
-judged-number ts [] r e = let z : _≡_ {A = ℕ} 0 1 = cc in absurd (omega arith)
+judged-number ts [] r e = impossible (cc)
 judged-number ts (c ∷ left) r e = let f : refusal.Characters (tokensWidth ts) ≡ r = cc in rw (← f) (omega arith)
 
 -- 1 to 7 are the only refusals before the room is looked at
@@ -88,7 +89,7 @@ outcome-number s text r e = go (decLe (numberOf r) 6)
 
 -- none of 5 and 6: within the limit, and well-formed to the end
 short-le : (b : Bool) (text : List ℕ) → ltb maxText (length text) ≡ b → refusedIf b refusal.TextLength ≡ none → length text ≤ maxText
-short-le true text e f = let z : _≡_ {A = ℕ} 0 1 = cc in absurd (omega arith)
+short-le true text e f = impossible (cc)
 short-le false text e f = ltb-false maxText (length text) e
 
 form-rest : (p : ℕ) (rest : List ℕ) → formRefusalBy (textBy p rest) ≡ none → rest ≡ []

@@ -8,6 +8,7 @@ use native.Mathlib.Omega.{arith}
 use lib.ListN.{length}
 use lib.Dec.{ltb}
 use borrow.Author.Tests.{ltb-true, ltb-false, lt-ltb, le-ltb}
+use Rattle.lists.proofs.BoolLaws.{impossible}
 use Rattle.refusal.specs.declared.Refusal.{Refusal}
 use Rattle.refusal.specs.declared.Refusal.the-variants as refusal
 use Rattle.utf8.specs.Text.{Character}
@@ -22,10 +23,10 @@ Tokens = List (Tok Character Kind)
 
 pub counts-given : (o : Outcome Tokens) (n : ℕ) → outcomeMap length o ≡ given n → (ts : Tokens) × (o ≡ given ts) × (length ts ≡ n)
 counts-given (given ts) n e = (ts, refl, cc)
-counts-given (refused r) n e = let z : _≡_ {A = ℕ} 0 1 = cc in absurd (omega arith)
+counts-given (refused r) n e = impossible (cc)
 
 pub counts-refused : (o : Outcome Tokens) (r : Refusal) → outcomeMap length o ≡ refused r → o ≡ refused r
-counts-refused (given ts) r e = let z : _≡_ {A = ℕ} 0 1 = cc in absurd (omega arith)
+counts-refused (given ts) r e = impossible (cc)
 counts-refused (refused q) r e = let f : q ≡ r = cc in ap refused f
 
 -- tokens are written where there is room for them

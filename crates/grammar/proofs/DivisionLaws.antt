@@ -6,6 +6,7 @@ use mathlib.Core.Option.{Option, none, some}
 use Prim.Native.Nat.{ℕ, suc, _≤_}
 use native.Mathlib.Omega.{arith}
 use lib.ListN.{length}
+use Rattle.lists.proofs.BoolLaws.{impossible}
 use Rattle.grammar.specs.Scan.{Rules, Tok, Reading, unitsOf, goes, walk, reading}
 use Rattle.grammar.specs.Division.{Longest, NoToken, Division, ends, takes}
 use Rattle.grammar.proofs.ScanLaws.{walk-nil, walk-more, walk-stop, walk-open, run-none}
@@ -63,16 +64,14 @@ module _ {A K : Type 0} (Token : K → List A → Type 0) where
     none-at-end : NoToken Token []
     none-at-end j v w e t =
         let q = begins j v w e t .3 in
-        let z : _≡_ {A = ℕ} 0 1 = cc in
-        omega arith
+        impossible (cc)
 
     none-without-kind : (c : A) (r : List A) → R .kindOf c ≡ none → NoToken Token (c ∷ r)
     none-without-kind c r f j v w e t =
         let b = begins j v w e t in
         let q = b .3 in
         let g = b .4 in
-        let z : _≡_ {A = ℕ} 0 1 = cc in
-        omega arith
+        impossible (cc)
 
     within : (k j : K) (c d : A) (r x w : List A) → R .kindOf c ≡ some k → c ∷ r ≡ d ∷ (x ++ w) → R .kindOf d ≡ some j → Token j (d ∷ x) →
         length x ≤ length (walk R (some k) r .run)

@@ -1,4 +1,4 @@
--- The tests of ranges and profile entries say what document 01 says, each way. Assumes nothing.
+-- The tests of ranges and profile entries say what docs/RULES.md says, each way. Assumes nothing.
 use Prim.Native.Nat.{ℕ, _+_, _-_, _≤_, _<_}
 use mathlib.Core.Path.{_≡_, refl, sym, ap, _∙_}
 use mathlib.Core.Bool.{Bool, true, false, not, true≢false, _&&_, _||_}

@@ -12,7 +12,7 @@ use borrow.Author.Tests.{leb-true, eqb-true, ltb-true, ltb-false, le-leb, eq-eqb
 use Rattle.lists.specs.First.{AllGood}
 use Rattle.lists.specs.Each.{each}
 use Rattle.lists.specs.Laid.{laid}
-use Rattle.lists.proofs.BoolLaws.{and-left, and-right}
+use Rattle.lists.proofs.BoolLaws.{and-left, and-right, impossible}
 use Rattle.lists.proofs.EachLaws.{column-at, column-past}
 use Rattle.lists.proofs.FirstLaws.{first-bad, all-good, first-is-bad, first-is-none}
 use Rattle.refusal.specs.declared.Refusal.{Refusal}
@@ -332,8 +332,7 @@ module _ (s out : List ℕ) where
       (accepted s e, ltb-true _ _ f, sym z)
   room-by none e false f k h =
       let g : _≡_ {A = Option Refusal} none (some (refusal.Room k)) = simp f at h in
-      let z : _≡_ {A = ℕ} 0 1 = cc in
-      absurd (omega arith)
+      impossible (cc)
   room-by (some r) e b f k h = absurd (why s (some (refusal.Room k)) (e ∙ h))
 
   no-room : Accepted s → length out / 3 < rangeCount s → readRefusal s (length out) (refusalOf s) ≡ some (refusal.Room (rangeCount s))
@@ -359,7 +358,7 @@ image-numbers false b c d i j r e = let f : refusal.Length ≡ r = cc in rw (←
 image-numbers true false c d i j r e = let f : refusal.Header ≡ r = cc in rw (← f) (omega arith)
 image-numbers true true true d i j r e = let f : refusal.Range i ≡ r = cc in rw (← f) (omega arith)
 image-numbers true true false true i j r e = let f : refusal.Entry j ≡ r = cc in rw (← f) (omega arith)
-image-numbers true true false false i j r e = let z : _≡_ {A = ℕ} 0 1 = cc in absurd (omega arith)
+image-numbers true true false false i j r e = impossible (cc)
 
 pub image-refused : (s : List ℕ) (r : Refusal) → refusalOf s ≡ some r → numberOf r ≤ 4
 unfolding refusalOf

@@ -1,4 +1,4 @@
--- Good ranges and good profile entries in the words of document 01, "The class image".
+-- Good ranges and good profile entries in the words of docs/RULES.md, "The class image".
 -- `proofs/GoodLaws.antt` joins this to the tests `goodRange` and `goodEntry`.
 use Prim.Native.Nat.{ℕ, _+_, _-_, _≤_, _<_}
 use mathlib.Core.Path.{_≡_}

@@ -8,7 +8,7 @@ use native.Mathlib.Omega.{arith}
 use lib.ListN.{length, take, drop}
 use lib.Dec.{leb, ltb}
 use borrow.Author.Tests.{lt-ltb, le-ltb, le-leb, lt-leb, leb-true}
-use Rattle.lists.proofs.BoolLaws.{and-left, and-right}
+use Rattle.lists.proofs.BoolLaws.{and-left, and-right, impossible}
 use Rattle.lists.proofs.LaidLaws.{rest}
 use Rattle.refusal.specs.declared.Refusal.{Refusal}
 use Rattle.refusal.specs.declared.Refusal.the-variants as refusal
@@ -132,7 +132,7 @@ past (some r) o x e = cc
 
 written-fits : (input : List ℕ) (words : ℕ) (ts : List (Tok Character Kind)) (b : Bool) → writtenBy b input words ≡ given ts → recordSize * length ts ≤ words
 unfolding writtenWithin writtenOf
-written-fits input words ts false e = let z : _≡_ {A = ℕ} 0 1 = cc in absurd (omega arith)
+written-fits input words ts false e = impossible (cc)
 written-fits input words ts true e =
     let image = take (totalOf input) input in
     let text = drop (totalOf input) input in
@@ -141,7 +141,7 @@ written-fits input words ts true e =
 
 listed-by : (o : Outcome (List (Tok Character Kind))) (n : ℕ) → counted.Tokens n ≡ countedBy (outcomeMap length o) → (ts : List (Tok Character Kind)) × (o ≡ given ts) × (n ≡ length ts)
 listed-by (given ts) n e = (ts, refl, cc)
-listed-by (refused r) n e = let z : _≡_ {A = ℕ} 0 1 = cc in absurd (omega arith)
+listed-by (refused r) n e = impossible (cc)
 
 pub listed-fits : (input : List ℕ) (words n : ℕ) → counted.Tokens n ≡ countedBy (listedFrom input words) → recordSize * n ≤ words
 unfolding listedFrom writtenFrom

@@ -1,7 +1,13 @@
--- Laws of Boolean tests. Assumes nothing.
+-- Laws of Boolean tests, and of what cannot be. Assumes nothing.
+use Prim.Native.Nat.{ℕ}
 use mathlib.Core.Path.{_≡_, refl}
 use mathlib.Core.Bool.{Bool, true, false, false≢true, true≢false, _&&_, _||_}
 use mathlib.Core.Logic.{_⊎_, inl, inr}
+use native.Mathlib.Omega.{arith}
+
+-- anything follows where 0 is 1; `cc` proves that from two different constructors that are equal
+pub impossible : {T : Type 0} → _≡_ {A = ℕ} 0 1 → T
+impossible e = absurd (omega arith)
 
 pub and-left : (a b : Bool) → (a && b) ≡ true → a ≡ true
 and-left true b e = refl

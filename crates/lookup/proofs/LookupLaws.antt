@@ -7,6 +7,7 @@ use mathlib.Core.Option.{Option, none, some}
 use native.Mathlib.Omega.{arith}
 use lib.Dec.{eqb}
 use lib.ListN.{length}
+use Rattle.lists.proofs.BoolLaws.{impossible}
 use Rattle.utf8.specs.Scalar.{isScalar}
 use Rattle.refusal.specs.declared.Refusal.{Refusal}
 use Rattle.refusal.specs.declared.Refusal.the-variants as refusal
@@ -84,11 +85,11 @@ module _ (s : List ℕ) (x : ℕ) where
       let a = accepted s e .header .few-ranges in
       let z : seekOf (rangeAt s) 0 (rangeCount s) x .count ≡ k = cc in
       omega (arith, seek-thirteen (rangeAt s) x (rangeCount s) a)
-  thirteen-in c k e false f = let z : _≡_ {A = ℕ} 0 1 = cc in absurd (omega arith)
+  thirteen-in c k e false f = impossible (cc)
 
   thirteen-by : (c k : ℕ) (o : Option Refusal) → refusalOf s ≡ o → lookupBy s x o ≡ found.Class c k → k ≤ 13
   thirteen-by c k none e f = thirteen-in c k e (isScalar x) f
-  thirteen-by c k (some r) e f = let z : _≡_ {A = ℕ} 0 1 = cc in absurd (omega arith)
+  thirteen-by c k (some r) e f = impossible (cc)
 
   -- at most 13 ranges are looked at
   pub lookup-thirteen : (c k : ℕ) → lookupOf s x ≡ found.Class c k → k ≤ 13

@@ -9,6 +9,7 @@ use native.Mathlib.Omega.{arith}
 use lib.ListN.{length, take, drop, set, length-append, length-take, length-drop}
 use lib.Seq.{take-at, drop-at}
 use borrow.Rule.Slice.PartMut.{putMid}
+use Rattle.lists.proofs.BoolLaws.{impossible}
 use Rattle.lists.specs.Laid.{laid}
 use Rattle.lists.proofs.LaidLaws.{laid-none, laid-step, length-laid, lent}
 use Rattle.utf8.specs.Text.{Character, widthOf}
@@ -189,7 +190,7 @@ listed-begins s text out h = record { before = 0; writing = writing-begins s tex
 
 no-kind : (kind traits : ℕ) (follows : Bool) → goesOn kind traits follows ≡ true → kind ≡ 0 → ⊥
 unfolding goesOn
-no-kind zero traits follows e z = let q : _≡_ {A = ℕ} 0 1 = cc in absurd (omega arith)
+no-kind zero traits follows e z = impossible (cc)
 no-kind (suc kind) traits follows e z = absurd (omega arith)
 
 module _ (s text out₀ out : List ℕ) where

@@ -6,6 +6,7 @@ use mathlib.Core.Option.{Option, none, some}
 use native.Mathlib.Omega.{arith}
 use lib.ListN.{length}
 use borrow.Author.Tests.{lt-ltb, le-ltb}
+use Rattle.lists.proofs.BoolLaws.{impossible}
 use Rattle.lists.specs.Laid.{laid}
 use Rattle.refusal.specs.declared.Refusal.{Refusal}
 use Rattle.refusal.specs.declared.Refusal.the-variants as refusal
@@ -67,12 +68,12 @@ module _ (s text : List ℕ) where
       count-through = ap (λ o. countedBy (outcomeMap length o)) (sym outcome-through)
 
       by-refused : (o : Outcome ℕ) (r : Refusal) → counted.Refused r ≡ countedBy o → o ≡ refused r
-      by-refused (given n) r e = let z : _≡_ {A = ℕ} 0 1 = cc in absurd (omega arith)
+      by-refused (given n) r e = impossible (cc)
       by-refused (refused q) r e = let f : q ≡ r = cc in ap refused f
 
       by-tokens : (o : Outcome ℕ) (n : ℕ) → counted.Tokens n ≡ countedBy o → o ≡ given n
       by-tokens (given m) n e = let f : m ≡ n = cc in ap given f
-      by-tokens (refused r) n e = let z : _≡_ {A = ℕ} 0 1 = cc in absurd (omega arith)
+      by-tokens (refused r) n e = impossible (cc)
 
       -- 6 or 7: nothing is written
       pub list-stopped : (out : List ℕ) (r : Refusal) → counted.Refused r ≡ countThrough s text →

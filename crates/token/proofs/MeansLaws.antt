@@ -6,6 +6,7 @@ use mathlib.Core.Option.{Option, none, some}
 use native.Mathlib.Omega.{arith}
 use native.Mathlib.Decide.{decLt}
 use lib.ListN.{length, take, drop, length-drop, drop-of-length-le, take-append-drop}
+use Rattle.lists.proofs.BoolLaws.{impossible}
 use Rattle.utf8.specs.declared.Step.{Step}
 use Rattle.utf8.specs.declared.Step.the-variants as step
 use Rattle.utf8.specs.Head.{stepOf}
@@ -35,7 +36,7 @@ use Rattle.token.proofs.TakenLaws.{takenBy, taken-long, taken-past, tak
 module _ (s text : List ℕ) (place : ℕ) where
   there-by : (ts : List (Tok Character Kind)) (left : List Character) (t : Step) (n w : ℕ) →
       Division (TokenOf (meaningOf s)) (decode (drop place text) .characters) ts left → firstBy ts t ≡ first.Token n w → TokenThere s text place n (place + w)
-  there-by [] left (step.Scalar x l) n w d e = let z : _≡_ {A = ℕ} 0 1 = cc in absurd (omega arith)
+  there-by [] left (step.Scalar x l) n w d e = impossible (cc)
   there-by (t ∷ ts) left (step.Scalar x l) n w (takes {k = k} {u = u} {rest = r} L d) e =
       record {
         characters = decode (drop place text) .characters;
@@ -48,8 +49,8 @@ module _ (s text : List ℕ) (place : ℕ) where
         numbered = cc;
         ends = ap (λ (m : ℕ). place + m) cc;
       }
-  there-by ts left step.IllFormed n w d e = let z : _≡_ {A = ℕ} 0 1 = cc in absurd (omega arith)
-  there-by ts left step.End n w d e = let z : _≡_ {A = ℕ} 0 1 = cc in absurd (omega arith)
+  there-by ts left step.IllFormed n w d e = impossible (cc)
+  there-by ts left step.End n w d e = impossible (cc)
 
   first-there : (n w : ℕ) → firstOf s (drop place text) ≡ first.Token n w → TokenThere s text place n (place + w)
   unfolding firstOf readingOf
@@ -60,7 +61,7 @@ module _ (s text : List ℕ) (place : ℕ) where
   none-by : (ts : List (Tok Character Kind)) (left cs : List Character) (x l : ℕ) → Division (TokenOf (meaningOf s)) cs ts left →
       firstBy ts (step.Scalar x l) ≡ first.NoToken → NoToken (TokenOf (meaningOf s)) cs
   none-by [] left cs x l (ends n) e = n
-  none-by (t ∷ ts) left cs x l d e = let z : _≡_ {A = ℕ} 0 1 = cc in absurd (omega arith)
+  none-by (t ∷ ts) left cs x l d e = impossible (cc)
 
   first-none : firstOf s (drop place text) ≡ first.NoToken → NoTokenThere s text place
   unfolding firstOf readingOf
@@ -80,8 +81,8 @@ module _ (s text : List ℕ) (place : ℕ) where
             encoded = encodes part;
             none = none-by (readingOf s part .tokens) (readingOf s part .left) (decode part .characters) x l (tokens-divide (meaningOf s) (decode part .characters)) f;
           }
-      go step.IllFormed q f = let z : _≡_ {A = ℕ} 0 1 = cc in absurd (omega arith)
-      go step.End q f = let z : _≡_ {A = ℕ} 0 1 = cc in absurd (omega arith)
+      go step.IllFormed q f = impossible (cc)
+      go step.End q f = impossible (cc)
 
   -- 1 to 4
   early : (r : Refusal) → refusalOf s ≡ some r → Means s text place (Refused r)

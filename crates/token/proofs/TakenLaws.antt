@@ -6,6 +6,7 @@ use mathlib.Core.Option.{none}
 use native.Mathlib.Omega.{arith}
 use lib.ListN.{length, take, drop, length-drop}
 use borrow.Author.Tests.{lt-ltb, le-ltb, eq-eqb, ne-eqb}
+use Rattle.lists.proofs.BoolLaws.{impossible}
 use Rattle.refusal.specs.declared.Refusal.{Refusal}
 use Rattle.refusal.specs.declared.Refusal.the-variants as refusal
 use Rattle.utf8.specs.declared.Step.{Step}
@@ -94,10 +95,10 @@ module _ (s text : List ℕ) (place : ℕ) (within : place ≤ length text) wher
 
 -- a first token ends within the text
 first-within-by : (ts : List (Tok Character Kind)) (t : Step) (k e : ℕ) → firstBy ts t ≡ first.Token k e → e ≤ tokensWidth ts
-first-within-by [] (step.Scalar x n) k e f = let z : _≡_ {A = ℕ} 0 1 = cc in absurd (omega arith)
+first-within-by [] (step.Scalar x n) k e f = impossible (cc)
 first-within-by (t ∷ ts) (step.Scalar x n) k e f = let z : tokenWidth t ≡ e = cc in omega arith
-first-within-by ts step.IllFormed k e f = let z : _≡_ {A = ℕ} 0 1 = cc in absurd (omega arith)
-first-within-by ts step.End k e f = let z : _≡_ {A = ℕ} 0 1 = cc in absurd (omega arith)
+first-within-by ts step.IllFormed k e f = impossible (cc)
+first-within-by ts step.End k e f = impossible (cc)
 
 pub first-within : (s text : List ℕ) (k e : ℕ) → firstOf s text ≡ first.Token k e → e ≤ length text
 unfolding firstOf readingOf

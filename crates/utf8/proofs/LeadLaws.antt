@@ -8,7 +8,7 @@ use native.Mathlib.Omega.{arith}
 use lib.Dec.{leb, ltb}
 use lib.ListN.{length, take, drop, getD, replicate, take-append-drop}
 use borrow.Author.Tests.{leb-true, ltb-true}
-use Rattle.lists.proofs.BoolLaws.{and-left, and-right}
+use Rattle.lists.proofs.BoolLaws.{and-left, and-right, impossible}
 use Rattle.utf8.specs.declared.Lead.{Lead}
 use Rattle.utf8.specs.declared.Step.the-variants.{Scalar, IllFormed, End}
 use Rattle.utf8.specs.Table.{Bytes, _to_, Row, table, inside, fits, codePoint}
@@ -35,7 +35,7 @@ skip ((g ∷ gs) ∷ rs) ss k b t h =
     let l = leb-true (g .low) (g .high) (and-left (leb (g .low) (g .high)) (ltb (g .high) k) u) in
     let m = ltb-true (g .high) k (and-right (leb (g .low) (g .high)) (ltb (g .high) k) u) in
     simp (inside-above g b l (omega arith)) (skip rs ss k b (and-right (leb (g .low) (g .high) && ltb (g .high) k) (below k rs) t) h)
-skip ([] ∷ rs) ss k b t h = let z : _≡_ {A = ℕ} 0 1 = cc in absurd (omega arith)
+skip ([] ∷ rs) ss k b t h = impossible (cc)
 
 -- a byte from k on is looked for from row i on, where the rows before end below k
 pub past : (i k b : ℕ) → below k (take i table) ≡ true → k ≤ b → leadOf b ≡ leadIn (drop i table) b
@@ -52,7 +52,7 @@ nowhere [] k b t h = refl
 nowhere ((g ∷ gs) ∷ rs) k b t h =
     let l = leb-true k (g .low) (and-left (leb k (g .low)) (above k rs) t) in
     simp (inside-below g b (omega arith)) (nowhere rs k b (and-right (leb k (g .low)) (above k rs) t) h)
-nowhere ([] ∷ rs) k b t h = let z : _≡_ {A = ℕ} 0 1 = cc in absurd (omega arith)
+nowhere ([] ∷ rs) k b t h = impossible (cc)
 
 -- the sequence that a lead asks for, byte by byte
 abbrev pub later : Bytes
@@ -131,7 +131,7 @@ rising-parts m g gs rs t =
 
 none-below : (rs : List Row) (m b : ℕ) (s : List ℕ) → rising m rs ≡ true → b < m → stepIn rs (b ∷ s) ≡ IllFormed
 none-below [] m b s t h = refl
-none-below ([] ∷ rs) m b s t h = let z : _≡_ {A = ℕ} 0 1 = cc in absurd (omega arith)
+none-below ([] ∷ rs) m b s t h = impossible (cc)
 none-below ((g ∷ gs) ∷ rs) m b s t h =
     let p = rising-parts m g gs rs t in
     simp (inside-below g b (omega arith)) (none-below rs (suc (g .high)) b s (p .2) (omega arith))
@@ -148,7 +148,7 @@ row-here g (h ∷ gs) rs b s e f a =
 by-rows : (rs : List Row) (m b : ℕ) (s : List ℕ) → rising m rs ≡ true → Shaped rs → stepIn rs (b ∷ s) ≡ stepBy (leadIn rs b) (b ∷ s)
 unfolding leadIn
 by-rows [] m b s t a = no-lead (leadOfRow []) (b ∷ s) refl
-by-rows ([] ∷ rs) m b s t a = let z : _≡_ {A = ℕ} 0 1 = cc in absurd (omega arith)
+by-rows ([] ∷ rs) m b s t a = impossible (cc)
 by-rows ((g ∷ gs) ∷ rs) m b s t a =
     let p = rising-parts m g gs rs t in
     go (by-rows rs (suc (g .high)) b s (p .2) (a .1)) (inside g b) refl

@@ -8,7 +8,7 @@ use mathlib.Core.Logic.{inl, inr}
 use native.Mathlib.Omega.{arith}
 use lib.ListN.{length, take}
 use borrow.Author.Tests.{lt-ltb, le-ltb, le-leb}
-use Rattle.lists.proofs.BoolLaws.{and-left, and-right}
+use Rattle.lists.proofs.BoolLaws.{and-left, and-right, impossible}
 use Rattle.utf8.specs.declared.Step.{Step}
 use Rattle.utf8.specs.declared.Step.the-variants.{Scalar, IllFormed, End}
 use Rattle.utf8.specs.Scalar.{isScalar}
@@ -53,12 +53,12 @@ found (r ∷ rs) s = go (found rs s) (fits r s) refl
 
 -- the first byte of what fills a later row is above this row's first bytes
 rises : (rs : List Row) (m b : ℕ) (q : List ℕ) → rising m rs ≡ true → FillsOne rs (b ∷ q) → m ≤ b
-rises ([] ∷ rs) m b q t f = let z : _≡_ {A = ℕ} 0 1 = cc in absurd (omega arith)
+rises ([] ∷ rs) m b q t f = impossible (cc)
 rises ((g ∷ gs) ∷ rs) m b q t (inl f) = let p = rising-parts m g gs rs t in omega arith
 rises ((g ∷ gs) ∷ rs) m b q t (inr f) = let p = rising-parts m g gs rs t in omega (arith, rises rs (suc (g .high)) b q (p .2) f)
 
 finds : (rs : List Row) (m b : ℕ) (q t : List ℕ) → rising m rs ≡ true → FillsOne rs (b ∷ q) → stepIn rs (b ∷ (q ++ t)) ≡ Scalar (codePoint (b ∷ q)) (length (b ∷ q))
-finds ([] ∷ rs) m b q t r f = let z : _≡_ {A = ℕ} 0 1 = cc in absurd (omega arith)
+finds ([] ∷ rs) m b q t r f = impossible (cc)
 finds ((g ∷ gs) ∷ rs) m b q t r (inl f) =
     let h = fills-fits (g ∷ gs) (b ∷ q) t f in
     rw (h .0) (λ i. Scalar (codePoint (b ∷ take (length gs) (q ++ t))) (suc (length gs))) ∙ (λ i. Scalar (codePoint (h .2 i)) (h .1 i))
@@ -67,7 +67,7 @@ finds ((g ∷ gs) ∷ rs) m b q t r (inr f) =
     rw (inside-above g b (p .1) (rises rs (suc (g .high)) b q (p .2) f)) (finds rs (suc (g .high)) b q t (p .2) f)
 
 nothing-fills : (rs : List Row) (m : ℕ) → rising m rs ≡ true → FillsOne rs [] → ⊥
-nothing-fills ([] ∷ rs) m r f = let z : _≡_ {A = ℕ} 0 1 = cc in absurd (omega arith)
+nothing-fills ([] ∷ rs) m r f = impossible (cc)
 nothing-fills ((g ∷ gs) ∷ rs) m r (inl f) = f
 nothing-fills ((g ∷ gs) ∷ rs) m r (inr f) = let p = rising-parts m g gs rs r in nothing-fills rs (suc (g .high)) (p .2) f
 
@@ -93,7 +93,7 @@ sequence-found s x n e = let f : Found table s (Scalar x n) = rw e at (found tab
 
 pub sequence-of-step : (s : List ℕ) (x n : ℕ) → stepOf s ≡ Scalar x n → IsSequence s x n
 unfolding stepOf
-sequence-of-step [] x n e = let z : _≡_ {A = ℕ} 0 1 = cc in absurd (omega arith)
+sequence-of-step [] x n e = impossible (cc)
 sequence-of-step (b ∷ s) x n e = sequence-found (b ∷ s) x n e
 
 -- decoding looks at no more bytes than it takes
@@ -107,8 +107,7 @@ pub no-sequence-at : (s : List ℕ) → stepOf s ≡ IllFormed → (q r : List �
 no-sequence-at s e q r p f =
     let g = step-of-sequence q r f in
     let h = ap stepOf p in
-    let z : _≡_ {A = ℕ} 0 1 = cc in
-    omega arith
+    impossible (cc)
 
 pub end-empty : (s : List ℕ) → stepOf s ≡ End → s ≡ []
 unfolding stepOf
@@ -116,11 +115,11 @@ end-empty [] e = refl
 end-empty (b ∷ s) e = absurd (go table e)
   where
     go : (rs : List Row) → stepIn rs (b ∷ s) ≡ End → ⊥
-    go [] f = let z : _≡_ {A = ℕ} 0 1 = cc in omega arith
+    go [] f = impossible (cc)
     go (r ∷ rs) f = pick (go rs) (fits r (b ∷ s)) refl
       where
         pick : (stepIn rs (b ∷ s) ≡ End → ⊥) → (t : Bool) → fits r (b ∷ s) ≡ t → ⊥
-        pick ih true g = let h : Scalar (codePoint (take (length r) (b ∷ s))) (length r) ≡ End = rw (g, stepIn) at f in let z : _≡_ {A = ℕ} 0 1 = cc in omega arith
+        pick ih true g = let h : Scalar (codePoint (take (length r) (b ∷ s))) (length r) ≡ End = rw (g, stepIn) at f in impossible (cc)
         pick ih false g = ih (rw (g, stepIn) at f)
 
 -- every sequence has one to four bytes and stands for a scalar value

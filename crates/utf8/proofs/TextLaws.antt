@@ -10,6 +10,7 @@ use native.Mathlib.Decide.{decLt}
 use borrow.Author.Tests.{le-ltb, leb-true}
 use lib.ListN.{length, take, drop, getD, length-take, length-drop, take-append-drop, drop-of-length-le}
 use lib.Seq.{drop-drop, drop-append-seam, take-add, getD-drop}
+use Rattle.lists.proofs.BoolLaws.{impossible}
 use Rattle.utf8.specs.declared.Step.{Step}
 use Rattle.utf8.specs.declared.Step.the-variants.{Scalar, IllFormed, End}
 use Rattle.utf8.specs.declared.Text.{Text}
@@ -182,7 +183,7 @@ Says s End = (s ≡ []) × (decode s ≡ ended s)
 
 ill-not-empty : (s : List ℕ) → stepOf s ≡ IllFormed → 0 < length s
 unfolding stepOf
-ill-not-empty [] e = let z : _≡_ {A = ℕ} 0 1 = cc in absurd (omega arith)
+ill-not-empty [] e = impossible (cc)
 ill-not-empty (b ∷ s) e = omega arith
 
 pub says : (s : List ℕ) (t : Step) → t ≡ stepOf s → Says s t
@@ -256,7 +257,7 @@ encodes-scalar s x n e d =
 
 none-at-end : (s : List ℕ) → s ≡ [] → NoSequence s
 none-at-end s e [] r p f = not-empty f
-none-at-end s e (b ∷ q) r p f = let z : _≡_ {A = ℕ} 0 1 = cc in omega arith
+none-at-end s e (b ∷ q) r p f = impossible (cc)
 
 pub encodes : (s : List ℕ) → Encoded s (decode s .characters) (decode s .rest)
 encodes =
