@@ -16,7 +16,7 @@ use Rattle.utf8.specs.declared.Text.the-variants as text
 use Rattle.utf8.specs.Scalar.{isScalar}
 use Rattle.utf8.specs.Table.{codePoint}
 use Rattle.utf8.specs.Head.{stepOf, NoSequence}
-use Rattle.utf8.specs.Lead.{stepLength, packed}
+use Rattle.utf8.specs.Lead.{packed}
 use Rattle.utf8.specs.Text.{
   Character,
   Decoded,
@@ -86,48 +86,6 @@ unpacked-by s End e h = let l = ap length (end-empty s e) in absurd (omega arith
 
 pub unpacked : (s : List ℕ) (d : ℕ) → d ≡ packed (stepOf s) → 0 < length s → Unpacked s d
 unpacked s d e h = subst (λ (k : ℕ). Unpacked s k) (sym e) (unpacked-by s (stepOf s) refl h)
-
--- the length of the sequence at the head tells what stands there
-length-by : (s : List ℕ) (t : Step) → stepOf s ≡ t → (stepLength t ≤ length s) × (stepLength t ≤ 4)
-length-by s (Scalar x n) e = let t = step-bounds s x n e in (t .within, t .short)
-length-by s IllFormed e = (omega arith, omega arith)
-length-by s End e = (omega arith, omega arith)
-
-pub measured : (s : List ℕ) (n : ℕ) → n ≡ stepLength (stepOf s) → (n ≤ length s) × (n ≤ 4)
-measured s n e = let l = length-by s (stepOf s) refl in (omega arith, omega arith)
-
-none-by : (s : List ℕ) (t : Step) → stepOf s ≡ t → 0 < length s → stepLength t ≡ 0 → IllFormed ≡ t
-none-by s (Scalar x n) e h z = let t = step-bounds s x n e in absurd (omega arith)
-none-by s IllFormed e h z = refl
-none-by s End e h z = let l = ap length (end-empty s e) in absurd (omega arith)
-
-pub none-measured : (s : List ℕ) → 0 < length s → 0 ≡ stepLength (stepOf s) → IllFormed ≡ stepOf s
-none-measured s h e = none-by s (stepOf s) refl h (sym e)
-
--- no length, no packed sequence
-pub none-packed : (s : List ℕ) → 0 ≡ stepLength (stepOf s) → 0 ≡ packed (stepOf s)
-none-packed s e = go (stepOf s) refl e
-  where
-    go : (t : Step) → stepOf s ≡ t → 0 ≡ stepLength t → 0 ≡ packed t
-    go (Scalar x n) f z = let t = step-bounds s x n f in absurd (omega (arith, t .some-bytes))
-    go IllFormed f z = refl
-    go End f z = refl
-
-step-by : (s : List ℕ) (t : Step) → stepOf s ≡ t → (stepLength t ≡ 0 → ⊥) → (x : ℕ) × (stepOf s ≡ Scalar x (stepLength t))
-step-by s (Scalar x n) e f = (x, e)
-step-by s IllFormed e f = absurd (f refl)
-step-by s End e f = absurd (f refl)
-
-pub found-step : (s : List ℕ) (n : ℕ) → n ≡ stepLength (stepOf s) → (n ≡ 0 → ⊥) → (x : ℕ) × (stepOf s ≡ Scalar x n)
-found-step s n e f = let t = step-by s (stepOf s) refl (λ z. f (e ∙ z)) in (t .0, t .1 ∙ ap (Scalar (t .0)) (sym e))
-
--- the code point of the bytes of that length
-pub found : (s q : List ℕ) (x n k : ℕ) → n ≡ suc k → n ≡ stepLength (stepOf s) → x ≡ codePoint q → take (suc k) s ≡ q → Scalar x n ≡ stepOf s
-found s q x n k e f c t =
-    let g = found-step s n f (λ z. absurd (omega arith)) in
-    let i = sequence-of-step s (g .0) n (g .1) in
-    let y : x ≡ g .0 = c ∙ ap codePoint (sym t) ∙ ap (λ (m : ℕ). codePoint (take m s)) (sym e) ∙ sym (i .code) in
-    ap (λ (v : ℕ). Scalar v n) y ∙ sym (g .1)
 
 -- more steps than bytes change nothing
 none-left : (f : List ℕ → Decoded) (s : List ℕ) (t : Step) → stepOf s ≡ t → length s ≤ 0 → decodeBy f s t ≡ ended s
