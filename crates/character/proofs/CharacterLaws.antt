@@ -1,4 +1,4 @@
--- What an opened image gives the inner calls, and that a memo and a table hold the traits of their code points.
+-- The traits of a code point by a search; a memo and a table hold the traits of their code points.
 -- Assumes nothing.
 use Prim.Native.Nat.{ℕ, _+_, _*_, _%_, _≤_, _<_, _/_}
 use mathlib.Core.Path.{_≡_, refl, sym, ap, _∙_}
@@ -11,76 +11,45 @@ use lib.Dec.{eqb}
 use lib.ListN.{length, getD, set, drop, length-set, length-drop}
 use lib.Seq.{getD-set-same, getD-set-other, getD-drop}
 use Rattle.image.specs.Header.{rangeCount}
-use Rattle.image.specs.Ranges.{rangeAt, classIn}
-use Rattle.image.specs.Profile.{profileBy, roleOf, afterRole, isMedial, profileOf}
-use Rattle.image.specs.Check.{refusalOf, rangeClass, classOf, medialOf}
-use Rattle.image.specs.declared.Profile.{Profile}
-use Rattle.image.proofs.ImageLaws.{accepted}
-use Rattle.lookup.specs.declared.Stretch.{Stretch}
-use Rattle.lookup.specs.declared.Reach.{Reach}
-use Rattle.lookup.specs.Stretch.{GoodRanges, StretchOf}
-use Rattle.lookup.specs.Reach.{ReachOf}
-use Rattle.lookup.proofs.LookupLaws.{class-of-known}
+use Rattle.image.specs.Ranges.{rangeAt}
+use Rattle.image.specs.Profile.{roleOf, afterRole, isMedial, profileOf}
+use Rattle.image.specs.Check.{refusalOf, classOf, medialOf}
+use Rattle.lookup.specs.declared.Probe.{Probe}
+use Rattle.lookup.specs.Halving.{seekOf}
+use Rattle.lookup.proofs.LookupLaws.{class-found, class-of-known}
 use Rattle.utf8.specs.declared.Step.the-variants.{Scalar}
 use Rattle.utf8.specs.Head.{stepOf}
 use Rattle.utf8.proofs.LeadLaws.{ascii}
 use Rattle.character.specs.Traits.{medialPart, traitsOf}
-use Rattle.character.specs.Opened.{Opened}
 use Rattle.utf8.proofs.TextLaws.{Unpacked}
 use Rattle.character.specs.Read.{MemoOf, MemoAt, Filled, Settled, ReadAs}
 use Rattle.character.specs.declared.Character.{Character}
 use Rattle.character.specs.declared.Memo.{Memo}
 
-module _ {s ps rs : List ℕ} {n m : ℕ} (o : Opened s n ps rs m) where
-  -- the ranges lie within the bytes, and are good
-  pub opened-fits : 32 + 12 * n ≤ length s
-  opened-fits = let a = accepted s (o .accepted) in let h = a .header .size in let r = o .ranges in omega arith
-
-  pub opened-good : GoodRanges (rangeAt s) n
-  opened-good i l = let a = accepted s (o .accepted) in let r = o .ranges in a .ranges i (omega arith)
-
-  -- the lent arrays are the profile
-  pub opened-profile : profileBy ps rs m ≡ profileOf s
-  opened-profile = λ i. record { points = o .points i; roles = o .roles i; used = o .used i }
-
-  pub opened-used : m ≤ 64
-  unfolding profileOf
-  opened-used = let a = accepted s (o .accepted) in let h = a .header .few-entries in let u = o .used in omega arith
-
-  pub opened-traits : (x : ℕ) → traitsOf s x ≤ 13
+module _ (s : List ℕ) (x : ℕ) (a : refusalOf s ≡ none) where
+  -- traits fit a byte
+  pub traits-small : traitsOf s x ≤ 13
   unfolding traitsOf
-  opened-traits x = go (medialOf s x)
+  traits-small = go (medialOf s x)
     where
       go : (m : Bool) → classOf s x + medialPart m ≤ 13
-      go true = omega (arith, class-of-known s x (o .accepted))
-      go false = omega (arith, class-of-known s x (o .accepted))
+      go true = omega (arith, class-of-known s x a)
+      go false = omega (arith, class-of-known s x a)
 
-  module _ (x : ℕ) (t : Stretch) (r : Reach) (a : StretchOf (rangeAt s) n x t) (b : ReachOf (profileBy ps rs m) x t r) where
-    role-at : (y : ℕ) → r .first ≤ y → y ≤ r .last → roleOf (profileOf s) y ≡ r .role
-    role-at y h l = ap (λ (p : Profile). roleOf p y) (sym opened-profile) ∙ b .role y h l
-
-    class-at : (y : ℕ) → r .first ≤ y → y ≤ r .last → classOf s y ≡ r .class
-    unfolding classOf rangeClass
-    class-at y h l =
-        let c = a .same y (omega (arith, b .begins)) (omega (arith, b .ends)) in
-        let e : classIn (rangeAt s) (rangeCount s) y ≡ t .class = ap (λ (k : ℕ). classIn (rangeAt s) k y) (sym (o .ranges)) ∙ c in
-        (λ i. afterRole (role-at y h l i) (e i)) ∙ sym (b .class)
-
-    -- around x the traits are those of the reach
-    pub memo-of-reach : (m : Memo) → m .first ≡ r .first → m .last ≡ r .last → m .traits ≡ r .class % 8 + medialPart (eqb (r .role) 3) → MemoAt s x m
-    unfolding traitsOf medialOf isMedial
-    memo-of-reach m f g e =
-        record {
-          from = omega (arith, b .from);
-          to = omega (arith, b .to);
-          all = λ y h l.
-              let h' : r .first ≤ y = omega arith in
-              let l' : y ≤ r .last = omega arith in
-              let c = class-at y h' l' in
-              let k = class-of-known s y (o .accepted) in
-              let z : r .class % 8 ≡ r .class = omega arith in
-              (λ i. class-at y h' l' i + medialPart (eqb (role-at y h' l' i) 3)) ∙ sym (e ∙ ap (λ (v : ℕ). v + medialPart (eqb (r .role) 3)) z);
-        }
+  pub memo-one :
+      (role : ℕ) (q : Probe) (c t : ℕ) → role ≡ roleOf (profileOf s) x → q ≡ seekOf (rangeAt s) 0 (rangeCount s) x
+      → c ≡ afterRole role (q .class) → t ≡ c % 8 + medialPart (eqb role 3) → MemoAt s x (record { first = x; last = x; traits = t })
+  unfolding traitsOf classOf medialOf isMedial
+  memo-one role q c t e f g h =
+      let u = ap (λ (z : Probe). z .class) f ∙ class-found s x a in
+      let v : c ≡ classOf s x = g ∙ (λ d. afterRole (e d) (u d)) in
+      let k = class-of-known s x a in
+      let w : c % 8 ≡ classOf s x = omega (arith, v, k) in
+      record {
+        from = omega arith;
+        to = omega arith;
+        all = λ y l m. let z : y ≡ x = omega arith in rw z (sym (h ∙ (λ d. w d + medialPart (eqb (e d) 3))));
+      }
 
 -- one more place of the table
 pub filled-more : (s t : List ℕ) (k v : ℕ) → k < 128 → Filled s t k → v ≡ traitsOf s k → Filled s (set t k v) (k + 1)
@@ -112,5 +81,6 @@ read-settled s text at d r u t =
       none = λ z. u .none (sym (t .len) ∙ z);
       some = λ z.
           let e = t .len in
-          (d / 8, u .some (omega arith) ∙ ap (Scalar (d / 8)) (sym (t .len)), t .traits);
+          let c = t .code in
+          (u .some (omega arith) ∙ sym (λ i. Scalar (c i) (e i)), t .traits ∙ ap (traitsOf s) (sym c));
     }

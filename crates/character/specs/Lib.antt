@@ -1,3 +1,2 @@
 pub mod Traits
-pub mod Opened
 pub mod Read

@@ -1,14 +1,14 @@
 // The characters of a text with their classes: a table for ASCII, and a memo of the last stretch of code points.
 ghost use mathlib.Core.Path.{_≡_};
 ghost use mathlib.Core.List.{List};
+ghost use mathlib.Core.Option.{none};
 ghost use Prim.Native.Nat.{ℕ, _+_, _/_, _%_, _<_};
 ghost use lib.ListN.{length};
 ghost use mathlib.Core.Bool.{_&&_};
 ghost use lib.Dec.{eqb, leb};
+ghost use Rattle.image.specs.Check.{refusalOf};
 ghost use Rattle.character.specs.Traits.{medialPart};
-ghost use Rattle.character.specs.Opened.{Opened};
 ghost use Rattle.character.specs.Read.{MemoOf, MemoAt, TableOf, Settled, ReadAs};
-use image::MAX_ENTRIES;
 
 // Code points from `first` to `last` that have the same traits: the class after the profile, and 8 more for a medial.
 pub struct Memo {
@@ -17,9 +17,10 @@ pub struct Memo {
     pub traits: u32,
 }
 
-// The character at a place: its length in bytes, its traits, and the memo for the next one. Length 0: ill-formed.
+// The character at a place: its length in bytes, its code point and traits, and the memo for the next one. Length 0: ill-formed.
 pub struct Character {
     pub len: usize,
+    pub code: u32,
     pub traits: u32,
     pub memo: Memo,
 }
@@ -46,23 +47,16 @@ fn join_traits(role: u32, class: u32) -> u32
 }
 
 // The code points around `x` that have the traits of `x`, by a search in the image.
-fn search<'a>(
-    image: &'a [u8],
-    n: usize,
-    points: &'a [u32; MAX_ENTRIES],
-    roles: &'a [u32; MAX_ENTRIES],
-    used: usize,
-    x: u32,
-) -> Memo
-    requires { ⌜ Opened (now image) n (now points) (now roles) used ⌝ }
+fn search(image: &[u8], x: u32) -> Memo
+    requires { ⌜ refusalOf (now image) ≡ none ⌝ }
     ensures { λ r. ⌜ MemoAt (now (image .entry)) x r ⌝ }
 {
-    let s = lookup::find_stretch(image, n, x);
-    let r = lookup::narrow(points, roles, used, x, s);
+    let role = lookup::role_in(image, x);
+    let probe = lookup::find(image, x);
     Memo {
-        first: r.first,
-        last: r.last,
-        traits: join_traits(r.role, r.class),
+        first: x,
+        last: x,
+        traits: join_traits(role, lookup::after_role(role, probe.class)),
     }
 }
 
@@ -77,41 +71,27 @@ fn is_known(memo: Memo, x: u32) -> bool
 }
 
 // The memo, if `x` is in it; else a search.
-fn recall<'a>(
-    image: &'a [u8],
-    n: usize,
-    points: &'a [u32; MAX_ENTRIES],
-    roles: &'a [u32; MAX_ENTRIES],
-    used: usize,
-    memo: Memo,
-    x: u32,
-) -> Memo
-    requires { ⌜ Opened (now image) n (now points) (now roles) used ⌝ }
+fn recall(image: &[u8], memo: Memo, x: u32) -> Memo
+    requires { ⌜ refusalOf (now image) ≡ none ⌝ }
     requires { ⌜ MemoOf (now image) memo ⌝ }
     ensures { λ r. ⌜ MemoAt (now (image .entry)) x r ⌝ }
 {
     if is_known(memo, x) {
         return memo;
     }
-    search(image, n, points, roles, used, x)
+    search(image, x)
 }
 
 // The traits of the ASCII code points.
-pub fn fill_table<'a>(
-    image: &'a [u8],
-    n: usize,
-    points: &'a [u32; MAX_ENTRIES],
-    roles: &'a [u32; MAX_ENTRIES],
-    used: usize,
-) -> [u8; 128]
-    requires { ⌜ Opened (now image) n (now points) (now roles) used ⌝ }
+pub fn fill_table(image: &[u8]) -> [u8; 128]
+    requires { ⌜ refusalOf (now image) ≡ none ⌝ }
     ensures { λ r. ⌜ TableOf (now (image .entry)) r ⌝ }
 {
     let mut table = [0u8; 128];
     let mut memo = no_memo();
     let mut i = 0;
     while i < 128 {
-        memo = recall(image, n, points, roles, used, memo, i as u32);
+        memo = recall(image, memo, i as u32);
         table[i] = memo.traits as u8;
         i += 1;
     }
@@ -119,16 +99,8 @@ pub fn fill_table<'a>(
 }
 
 // The character of a packed sequence: 8 times its code point, and its length.
-fn settle<'a>(
-    image: &'a [u8],
-    n: usize,
-    points: &'a [u32; MAX_ENTRIES],
-    roles: &'a [u32; MAX_ENTRIES],
-    used: usize,
-    memo: Memo,
-    packed: usize,
-) -> Character
-    requires { ⌜ Opened (now image) n (now points) (now roles) used ⌝ }
+fn settle(image: &[u8], memo: Memo, packed: usize) -> Character
+    requires { ⌜ refusalOf (now image) ≡ none ⌝ }
     requires { ⌜ MemoOf (now image) memo ⌝ }
     requires { ⌜ packed / 8 < 0x110000 ⌝ }
     ensures { λ r. ⌜ Settled (now (image .entry)) packed r ⌝ }
@@ -137,51 +109,40 @@ fn settle<'a>(
     if is_known(memo, code) {
         return Character {
             len: packed % 8,
+            code,
             traits: memo.traits,
             memo,
         };
     }
-    let m = search(image, n, points, roles, used, code);
+    let m = search(image, code);
     Character {
         len: packed % 8,
+        code,
         traits: m.traits,
         memo: m,
     }
 }
 
 // The character of `text` at a place before its end, by decoding it.
-pub fn read_decoded<'a>(
-    image: &'a [u8],
-    n: usize,
-    points: &'a [u32; MAX_ENTRIES],
-    roles: &'a [u32; MAX_ENTRIES],
-    used: usize,
-    memo: Memo,
-    text: &'a [u8],
-    at: usize,
-) -> Character
-    requires { ⌜ Opened (now image) n (now points) (now roles) used ⌝ }
+pub fn read_decoded<'a>(image: &'a [u8], memo: Memo, text: &'a [u8], at: usize) -> Character
+    requires { ⌜ refusalOf (now image) ≡ none ⌝ }
     requires { ⌜ MemoOf (now image) memo ⌝ }
     requires { ⌜ at < length (now text) ⌝ }
     ensures { λ r. ⌜ ReadAs (now (image .entry)) (now (text .entry)) at r ⌝ }
 {
     let packed = utf8::decode_packed(text, at);
-    settle(image, n, points, roles, used, memo, packed)
+    settle(image, memo, packed)
 }
 
 // The character of `text` at a place before its end: ASCII by the table.
 pub fn read<'a>(
     image: &'a [u8],
-    n: usize,
-    points: &'a [u32; MAX_ENTRIES],
-    roles: &'a [u32; MAX_ENTRIES],
-    used: usize,
     table: &'a [u8; 128],
     memo: Memo,
     text: &'a [u8],
     at: usize,
 ) -> Character
-    requires { ⌜ Opened (now image) n (now points) (now roles) used ⌝ }
+    requires { ⌜ refusalOf (now image) ≡ none ⌝ }
     requires { ⌜ TableOf (now image) (now table) ⌝ }
     requires { ⌜ MemoOf (now image) memo ⌝ }
     requires { ⌜ at < length (now text) ⌝ }
@@ -191,10 +152,11 @@ pub fn read<'a>(
     if b < 0x80 {
         return Character {
             len: 1,
+            code: b as u32,
             traits: table[b as usize] as u32,
             memo,
         };
     }
     let packed = utf8::decode_packed(text, at);
-    settle(image, n, points, roles, used, memo, packed)
+    settle(image, memo, packed)
 }

@@ -29,32 +29,6 @@ use Rattle.lookup.specs.Lookup.{lookupBy, lookupOf}
 use Rattle.lookup.proofs.HalvingLaws.{seek-thirteen}
 use Rattle.lookup.proofs.ClassLaws.{seek-class, class-known}
 
--- an image that a check accepted, with n ranges, and the profile that the check gave
-pub record Opened (s : List ℕ) (n : ℕ) (p : Profile) : Type 0 where
-  pub accepts : refusalOf s ≡ none
-  pub count : n ≡ rangeCount s
-  pub whole : p ≡ profileOf s
-  pub room : p .used ≤ maxEntries
-  pub bytes : headerBytes + rangeBytes * n ≤ length s
-  pub good : GoodRanges (rangeAt s) n
-
-pub opened : (s : List ℕ) (k : Checked) → k ≡ checkOf s → (v n : ℕ) → k .answer ≡ answer.Accepted v n → Opened s n (k .profile)
-unfolding profileOf
-opened s k e v n f =
-    let t = says s k e (answer.Accepted v n) f in
-    let a = accepted s (t .0) in
-    let h = a .header in
-    let c = t .2 in
-    let u = ap (λ (p : Profile). p .used) (t .3) in
-    record {
-      accepts = t .0;
-      count = c;
-      whole = t .3;
-      room = omega (arith, h .few-entries);
-      bytes = omega (arith, h .size);
-      good = λ i l. a .ranges i (omega arith);
-    }
-
 pub refused-check : (s : List ℕ) (x : ℕ) (k : Checked) → k ≡ checkOf s → (r : Refusal) → k .answer ≡ answer.Refused r → found.Refused r ≡ lookupOf s x
 unfolding lookupOf
 refused-check s x k e r f = simp (says s k e (answer.Refused r) f .0)
@@ -70,15 +44,13 @@ module _ (s : List ℕ) (x : ℕ) where
   class-found e = seek-class (rangeAt s) (rangeCount s) (accepted s e .ranges) x
 
   pub found-class :
-      (n : ℕ) (p : Profile) (role : ℕ) (q : Probe) (c : ℕ) → Opened s n p → isScalar x ≡ true → role ≡ roleOf p x
-      → q ≡ seekOf (rangeAt s) 0 n x → c ≡ afterRole role (q .class) → found.Class c (q .count) ≡ lookupOf s x
+      (role : ℕ) (q : Probe) (c : ℕ) → refusalOf s ≡ none → isScalar x ≡ true → role ≡ roleOf (profileOf s) x
+      → q ≡ seekOf (rangeAt s) 0 (rangeCount s) x → c ≡ afterRole role (q .class) → found.Class c (q .count) ≡ lookupOf s x
   unfolding lookupOf classOf
-  found-class n p role q c o h i j k =
-      let t = j ∙ ap (λ (m : ℕ). seekOf (rangeAt s) 0 m x) (o .count) in
-      let u = ap (λ (z : Probe). z .class) t ∙ class-found (o .accepts) in
-      let w = i ∙ ap (λ (z : Profile). roleOf z x) (o .whole) in
-      let v = k ∙ (λ d. afterRole (w d) (u d)) in
-      (λ d. found.Class (v d) (t d .count)) ∙ simp (o .accepts, h)
+  found-class role q c o h i j k =
+      let u = ap (λ (z : Probe). z .class) j ∙ class-found o in
+      let v = k ∙ (λ d. afterRole (i d) (u d)) in
+      (λ d. found.Class (v d) (j d .count)) ∙ simp (o, h)
 
   thirteen-in : (c k : ℕ) → refusalOf s ≡ none → (b : Bool) → cond b (found.Class (classOf s x) (seekOf (rangeAt s) 0 (rangeCount s) x .count)) (found.Refused (refusal.NotScalar x)) ≡ found.Class c k → k ≤ 13
   thirteen-in c k e true f =

@@ -1,4 +1,3 @@
 pub mod Halving
 pub mod Lookup
 pub mod Stretch
-pub mod Reach

@@ -1,29 +1,23 @@
--- `character::search` meets its contract: the stretch of x in the ranges, narrowed to one role. Assumes nothing.
-use mathlib.Core.Path.{_≡_, refl, _∙_}
-use Rattle.lookup.specs.Stretch.{StretchOf}
-use Rattle.image.specs.Ranges.{rangeAt}
-use Rattle.character.proofs.CharacterLaws.{opened-fits, opened-good, opened-used, memo-of-reach}
+-- `character::search` meets its contract: the traits of x. Assumes nothing.
+use Rattle.character.proofs.CharacterLaws.{memo-one}
 use borrow.Author.Needs.{needs}
 use Rattle.character.proofs.search.Statement.{statement}
 use Rattle.character.proofs.search.Tie as tie
 
--- the stretch that was found
-around : (c : tie.After-find-stretch) → StretchOf (rangeAt (c .before .before .args .image .now)) (c .before .before .args .n) (c .before .before .args .x) (c .find-stretch .result)
-around c = c .find-stretch .ensures (opened-good (c .before .before .pre))
+role-in-requires : tie.Need-role-in-requires
+role-in-requires c κs = search needs
 
-find-stretch-requires : tie.Need-find-stretch-requires
-find-stretch-requires c κs = opened-fits (c .before .pre)
+find-requires : tie.Need-find-requires
+find-requires c κs = search needs
 
-narrow-requires : tie.Need-narrow-requires
-narrow-requires c κs = (opened-used (c .before .before .pre), (around c .from, around c .to))
+after-role-requires : tie.Need-after-role-requires
+after-role-requires c κs = search needs
 
 join-traits-requires : tie.Need-join-traits-requires
 join-traits-requires c κs = search needs
 
 returns : tie.Need-returns
-returns c =
-    memo-of-reach (c .before .before .before .before .pre) _ _ _ (around (c .before .before)) (c .before .narrow .ensures) _ refl refl (c .join-traits .ensures)
+returns c = memo-one _ _ (c .before .before .before .before .before .pre) _ _ _ _ (c .before .before .before .role-in .ensures) (c .before .before .find .ensures) (c .before .after-role .ensures) (c .join-traits .ensures)
 
 pub search-spec : {M : Type 1} → statement M
-search-spec =
-    tie.close (tie.spec find-stretch-requires narrow-requires join-traits-requires returns)
+search-spec = tie.close (tie.spec role-in-requires find-requires after-role-requires join-traits-requires returns)
