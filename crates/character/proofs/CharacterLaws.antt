@@ -1,30 +1,38 @@
--- The traits of a code point by a search; a memo and a table hold the traits of their code points.
+-- Stretches of one class, and the traits of their code points: a memo and a table hold the traits of their code points.
 -- Assumes nothing.
-use Prim.Native.Nat.{ℕ, _+_, _*_, _%_, _≤_, _<_, _/_}
+use Prim.Native.Nat.{ℕ, _+_, _-_, _/_, _≤_, _<_}
 use mathlib.Core.Path.{_≡_, refl, sym, ap, _∙_}
 use mathlib.Core.Bool.{Bool, true, false}
 use mathlib.Core.List.{List, [], _∷_}
 use mathlib.Core.Option.{none}
 use native.Mathlib.Omega.{arith}
 use native.Mathlib.Decide.{decLt}
-use lib.Dec.{eqb}
 use lib.ListN.{length, getD, set, drop, length-set, length-drop}
 use lib.Seq.{getD-set-same, getD-set-other, getD-drop}
-use Rattle.image.specs.Header.{rangeCount}
-use Rattle.image.specs.Ranges.{rangeAt}
-use Rattle.image.specs.Profile.{roleOf, afterRole, isMedial, profileOf}
+use Rattle.image.specs.Profile.{afterRole, isMedial}
 use Rattle.image.specs.Check.{refusalOf, classOf, medialOf}
-use Rattle.lookup.specs.declared.Probe.{Probe}
-use Rattle.lookup.specs.Halving.{seekOf}
-use Rattle.lookup.proofs.LookupLaws.{class-found, class-of-known}
+use Rattle.image.specs.declared.Range.{Range}
+use Rattle.lookup.specs.declared.Section.{Section}
+use Rattle.lookup.specs.declared.Section.the-variants.{Ranges, Entries}
+use Rattle.lookup.specs.Records.{recordAt, recordCount, sectionClass}
+use Rattle.lookup.proofs.RisingLaws.{class-held, class-gap}
+use Rattle.lookup.proofs.RecordLaws.{records-rise, class-by-sections, medial-by-sections}
+use Rattle.lookup.proofs.LookupLaws.{class-of-known}
 use Rattle.utf8.specs.declared.Step.the-variants.{Scalar}
 use Rattle.utf8.specs.Head.{stepOf}
 use Rattle.utf8.proofs.LeadLaws.{ascii}
 use Rattle.character.specs.Traits.{medialPart, traitsOf}
 use Rattle.utf8.proofs.TextLaws.{Unpacked}
+use Rattle.character.specs.Stretch.{StretchOf}
 use Rattle.character.specs.Read.{MemoOf, MemoAt, Filled, Settled, ReadAs}
 use Rattle.character.specs.declared.Character.{Character}
 use Rattle.character.specs.declared.Memo.{Memo}
+use Rattle.character.specs.declared.Stretch.{Stretch}
+
+-- traits by the classes in the two sections
+traits-by : (s : List ℕ) (x : ℕ) → traitsOf s x ≡ afterRole (sectionClass s Entries x) (sectionClass s Ranges x) + medialPart (isMedial (sectionClass s Entries x))
+unfolding traitsOf
+traits-by s x = λ i. class-by-sections s x i + medialPart (medial-by-sections s x i)
 
 module _ (s : List ℕ) (x : ℕ) (a : refusalOf s ≡ none) where
   -- traits fit a byte
@@ -36,20 +44,37 @@ module _ (s : List ℕ) (x : ℕ) (a : refusalOf s ≡ none) where
       go true = omega (arith, class-of-known s x a)
       go false = omega (arith, class-of-known s x a)
 
-  pub memo-one :
-      (role : ℕ) (q : Probe) (c t : ℕ) → role ≡ roleOf (profileOf s) x → q ≡ seekOf (rangeAt s) 0 (rangeCount s) x
-      → c ≡ afterRole role (q .class) → t ≡ c % 8 + medialPart (eqb role 3) → MemoAt s x (record { first = x; last = x; traits = t })
-  unfolding traitsOf classOf medialOf isMedial
-  memo-one role q c t e f g h =
-      let u = ap (λ (z : Probe). z .class) f ∙ class-found s x a in
-      let v : c ≡ classOf s x = g ∙ (λ d. afterRole (e d) (u d)) in
-      let k = class-of-known s x a in
-      let w : c % 8 ≡ classOf s x = omega (arith, v, k) in
-      record {
-        from = omega arith;
-        to = omega arith;
-        all = λ y l m. let z : y ≡ x = omega arith in rw z (sym (h ∙ (λ d. w d + medialPart (eqb (e d) 3))));
-      }
+  module _ (section : Section) (i : ℕ) where
+    -- the stretch of x between neighbours, and the one of the record that holds it
+    pub stretch-gap :
+        (first last : ℕ) → i ≤ recordCount s section → first ≤ x → x ≤ last → (0 < i → recordAt s section (i - 1) .last < first)
+        → (i < recordCount s section → last < recordAt s section i .first) → StretchOf s section x (record { first = first; last = last; class = 0 })
+    stretch-gap first last n l u f g =
+        record {
+          from = l;
+          to = u;
+          same = λ y b c. class-gap _ _ (records-rise s a section) i y n (λ h. let k = f h in omega arith) (λ h. let k = g h in omega arith);
+        }
+
+    pub stretch-record :
+        (r : Range) → r ≡ recordAt s section i → i < recordCount s section → r .first ≤ x → x ≤ recordAt s section i .last
+        → StretchOf s section x (record { first = r .first; last = r .last; class = r .class })
+    stretch-record r e n l u = rw e (record { from = rw e at l; to = u; same = λ y b c. class-held _ _ (records-rise s a section) i y n b c })
+
+-- around x the traits are those of both stretches
+pub memo-of :
+    (s : List ℕ) (x : ℕ) (c r : Stretch) (m : Memo) → StretchOf s Ranges x c → StretchOf s Entries x r
+    → (c .first ≤ m .first) × (r .first ≤ m .first) × (m .first ≤ x) → (m .last ≤ c .last) × (m .last ≤ r .last) × (x ≤ m .last)
+    → m .traits ≡ afterRole (r .class) (c .class) + medialPart (isMedial (r .class)) → MemoAt s x m
+memo-of s x c r m f g h l e =
+    record {
+      from = h .2;
+      to = l .2;
+      all = λ y a b.
+          let p = f .same y (omega (arith, h .0)) (omega (arith, l .0)) in
+          let q = g .same y (omega (arith, h .1)) (omega (arith, l .1)) in
+          traits-by s y ∙ (λ i. afterRole (q i) (p i) + medialPart (isMedial (q i))) ∙ sym e;
+    }
 
 -- one more place of the table
 pub filled-more : (s t : List ℕ) (k v : ℕ) → k < 128 → Filled s t k → v ≡ traitsOf s k → Filled s (set t k v) (k + 1)

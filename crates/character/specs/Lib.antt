@@ -1,2 +1,3 @@
 pub mod Traits
+pub mod Stretch
 pub mod Read

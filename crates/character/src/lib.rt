@@ -2,15 +2,30 @@
 ghost use mathlib.Core.Path.{_≡_};
 ghost use mathlib.Core.List.{List};
 ghost use mathlib.Core.Option.{none};
-ghost use Prim.Native.Nat.{ℕ, _+_, _/_, _%_, _<_};
+ghost use Prim.Native.Nat.{ℕ, _+_, _-_, _/_, _≤_, _<_};
 ghost use lib.ListN.{length};
 ghost use mathlib.Core.Bool.{_&&_};
-ghost use lib.Dec.{eqb, leb};
+ghost use lib.Dec.{leb};
+ghost use Rattle.image.specs.Profile.{afterRole, isMedial};
 ghost use Rattle.image.specs.Check.{refusalOf};
+ghost use Rattle.lookup.specs.Records.{recordAt, recordCount};
+ghost use Rattle.lookup.specs.Placed.{Passed, Placed};
 ghost use Rattle.character.specs.Traits.{medialPart};
+ghost use Rattle.character.specs.Stretch.{StretchOf};
 ghost use Rattle.character.specs.Read.{MemoOf, MemoAt, TableOf, Settled, ReadAs};
+use lookup::Section;
 
-// Code points from `first` to `last` that have the same traits: the class after the profile, and 8 more for a medial.
+// What traits have more for a medial.
+const MEDIAL: u32 = 8;
+
+// Code points from `first` to `last` that have one class in a section of an image.
+pub struct Stretch {
+    pub first: u32,
+    pub last: u32,
+    pub class: u32,
+}
+
+// Code points from `first` to `last` that have the same traits: the class after the profile, and `MEDIAL` more for a medial.
 pub struct Memo {
     pub first: u32,
     pub last: u32,
@@ -36,27 +51,87 @@ pub fn no_memo() -> Memo
     }
 }
 
-// The traits of a code point with a role and a class after it.
+// The traits of a code point with a role and a class in the ranges.
 fn join_traits(role: u32, class: u32) -> u32
-    ensures { λ r. ⌜ r ≡ class % 8 + medialPart (eqb role 3) ⌝ }
+    requires { ⌜ class ≤ 5 ⌝ }
+    ensures { λ r. ⌜ r ≡ afterRole role class + medialPart (isMedial role) ⌝ }
 {
-    if role == 3 {
-        return class % 8 + 8;
+    let after = lookup::after_role(role, class);
+    if lookup::is_medial(role) {
+        return after + MEDIAL;
     }
-    class % 8
+    after
 }
 
-// The code points around `x` that have the traits of `x`, by a search in the image.
+// The first number after record i - 1 of a section, where that record ends before x.
+fn gap_start(image: &[u8], section: Section, i: usize, x: u32) -> u32
+    requires { ⌜ refusalOf (now image) ≡ none ⌝ }
+    requires { ⌜ Passed (recordAt (now image) section) (recordCount (now image) section) i x ⌝ }
+    ensures { λ r. ⌜ (r ≤ x) × (0 < i → recordAt (now (image .entry)) section (i - 1) .last < r) ⌝ }
+{
+    if i == 0 {
+        return 0;
+    }
+    let r = lookup::record_at(image, section, i - 1);
+    r.last + 1
+}
+
+// The stretch of x in a section, of which the place of x is i.
+fn stretch_at(image: &[u8], section: Section, i: usize, x: u32) -> Stretch
+    requires { ⌜ refusalOf (now image) ≡ none ⌝ }
+    requires { ⌜ Placed (recordAt (now image) section) (recordCount (now image) section) i x ⌝ }
+    ensures { λ r. ⌜ StretchOf (now (image .entry)) section x r ⌝ }
+{
+    if lookup::count_records(image, section) <= i {
+        return Stretch {
+            first: gap_start(image, section, i, x),
+            last: 0xFFFFFFFF,
+            class: 0,
+        };
+    }
+    let r = lookup::record_at(image, section, i);
+    if x < r.first {
+        return Stretch {
+            first: gap_start(image, section, i, x),
+            last: r.first - 1,
+            class: 0,
+        };
+    }
+    Stretch {
+        first: r.first,
+        last: r.last,
+        class: r.class,
+    }
+}
+
+// The stretch of x in a section of an accepted image.
+fn find_stretch(image: &[u8], section: Section, x: u32) -> Stretch
+    requires { ⌜ refusalOf (now image) ≡ none ⌝ }
+    ensures { λ r. ⌜ StretchOf (now (image .entry)) section x r ⌝ }
+{
+    let probe = lookup::find(image, section, x);
+    stretch_at(image, section, probe.place, x)
+}
+
+// The code points around `x` that have its class in the ranges and its role.
 fn search(image: &[u8], x: u32) -> Memo
     requires { ⌜ refusalOf (now image) ≡ none ⌝ }
     ensures { λ r. ⌜ MemoAt (now (image .entry)) x r ⌝ }
 {
-    let role = lookup::role_in(image, x);
-    let probe = lookup::find(image, x);
+    let class = find_stretch(image, Section::Ranges, x);
+    let role = find_stretch(image, Section::Entries, x);
+    let mut first = class.first;
+    if first < role.first {
+        first = role.first;
+    }
+    let mut last = class.last;
+    if role.last < last {
+        last = role.last;
+    }
     Memo {
-        first: x,
-        last: x,
-        traits: join_traits(role, lookup::after_role(role, probe.class)),
+        first,
+        last,
+        traits: join_traits(role.class, class.class),
     }
 }
 

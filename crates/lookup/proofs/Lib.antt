@@ -1,4 +1,5 @@
 pub mod HalvingLaws
+pub mod RisingLaws
 pub mod ClassLaws
-pub mod RoleLaws
+pub mod RecordLaws
 pub mod LookupLaws

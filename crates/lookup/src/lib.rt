@@ -1,22 +1,44 @@
 // Looking up the class of a code point in a class image.
 ghost use mathlib.Core.Path.{_≡_};
 ghost use mathlib.Core.Option.{none};
-ghost use Prim.Native.Nat.{_+_, _*_, _≤_};
-ghost use lib.ListN.{length};
-ghost use Rattle.image.specs.Limits.{headerBytes, rangeBytes};
-ghost use Rattle.image.specs.Header.{rangeCount};
-ghost use Rattle.image.specs.Ranges.{rangeAt};
-ghost use Rattle.image.specs.Profile.{profileOf, roleOf, afterRole};
+ghost use Prim.Native.Nat.{_≤_, _<_};
+ghost use Rattle.image.specs.Header.{entryCount};
+ghost use Rattle.image.specs.Profile.{pointAt, roleAt, afterRole, isMedial};
 ghost use Rattle.image.specs.Check.{refusalOf};
-ghost use Rattle.lookup.specs.Halving.{seekOf};
+ghost use Rattle.lookup.specs.Records.{entryRange, recordAt, recordCount};
+ghost use Rattle.lookup.specs.Halving.{more, seekOf};
 ghost use Rattle.lookup.specs.Lookup.{lookupOf};
 use image::Answer;
+use image::Range;
 use refusal::Refusal;
 
-// The class that the search finds in the ranges, and how many ranges it looked at.
+// The roles of profile entries, and the classes that they make.
+const START_ROLE: u32 = 1;
+
+const NONSTART_ROLE: u32 = 2;
+
+const MEDIAL_ROLE: u32 = 3;
+
+const OTHER_ROLE: u32 = 4;
+
+const START: u32 = 1;
+
+const NONSTART: u32 = 2;
+
+const OTHER: u32 = 5;
+
+// The records of an image that the search goes through.
+pub enum Section {
+    Ranges,
+    Entries,
+}
+
+// What the search finds: the class of the range that holds the code point, or 0; how many ranges it looked at; and the index
+// of that range or, where none holds the code point, of the first one after it.
 pub struct Probe {
     pub class: u32,
     pub count: usize,
+    pub place: usize,
 }
 
 // The answer of a lookup: the class after the profile, and how many ranges were looked at.
@@ -25,62 +47,90 @@ pub enum Found {
     Class { class: u32, count: usize },
 }
 
-// The halving search for x in the ranges lo to hi of an image.
-fn seek(image: &[u8], lo: usize, hi: usize, x: u32) -> Probe
-    requires { ⌜ headerBytes + rangeBytes * hi ≤ length (now image) ⌝ }
-    ensures { λ r. ⌜ r ≡ seekOf (rangeAt (now (image .entry))) lo hi x ⌝ }
+// The number of records in a section of an accepted image.
+pub fn count_records(image: &[u8], section: Section) -> usize
+    requires { ⌜ refusalOf (now image) ≡ none ⌝ }
+    ensures { λ r. ⌜ r ≡ recordCount (now (image .entry)) section ⌝ }
+{
+    match section {
+        Section::Ranges => image::word(image, 12) as usize,
+        Section::Entries => image::word(image, 20) as usize,
+    }
+}
+
+// Profile entry i of an accepted image, as a range of its one code point with its role for the class.
+fn entry_at(image: &[u8], i: usize) -> Range
+    requires { ⌜ refusalOf (now image) ≡ none ⌝ }
+    requires { ⌜ i < entryCount (now image) ⌝ }
+    ensures { λ r. ⌜ r ≡ entryRange (pointAt (now (image .entry))) (roleAt (now (image .entry))) i ⌝ }
+{
+    let at = 32 + 12 * (image::word(image, 12) as usize) + 8 * i;
+    let point = image::word(image, at);
+    Range {
+        first: point,
+        last: point,
+        class: image::word(image, at + 4),
+    }
+}
+
+// Record i of a section of an accepted image.
+pub fn record_at(image: &[u8], section: Section, i: usize) -> Range
+    requires { ⌜ refusalOf (now image) ≡ none ⌝ }
+    requires { ⌜ i < recordCount (now image) section ⌝ }
+    ensures { λ r. ⌜ r ≡ recordAt (now (image .entry)) section i ⌝ }
+{
+    match section {
+        Section::Ranges => image::range_at(image, i),
+        Section::Entries => entry_at(image, i),
+    }
+}
+
+// One more step of the search.
+fn add_step(p: Probe) -> Probe
+    requires { ⌜ p .count ≤ 64 ⌝ }
+    ensures { λ r. ⌜ r ≡ more p ⌝ }
+{
+    Probe {
+        class: p.class,
+        count: p.count + 1,
+        place: p.place,
+    }
+}
+
+// The halving search for x in the records lo to hi of a section.
+fn seek(image: &[u8], section: Section, lo: usize, hi: usize, x: u32) -> Probe
+    requires { ⌜ refusalOf (now image) ≡ none ⌝ }
+    requires { ⌜ hi ≤ recordCount (now image) section ⌝ }
+    ensures { λ r. ⌜ r ≡ seekOf (recordAt (now (image .entry)) section) lo hi x ⌝ }
 {
     if hi <= lo {
-        return Probe { class: 0, count: 0 };
+        return Probe {
+            class: 0,
+            count: 0,
+            place: lo,
+        };
     }
     let mid = (lo + hi) / 2;
-    let range = image::range_at(image, mid);
+    let range = record_at(image, section, mid);
     if x < range.first {
-        let p = seek(image, lo, mid, x);
-        return Probe {
-            class: p.class,
-            count: p.count + 1,
-        };
+        return add_step(seek(image, section, lo, mid, x));
     }
     if range.last < x {
-        let p = seek(image, mid + 1, hi, x);
-        return Probe {
-            class: p.class,
-            count: p.count + 1,
-        };
+        return add_step(seek(image, section, mid + 1, hi, x));
     }
     Probe {
         class: range.class,
         count: 1,
+        place: mid,
     }
 }
 
-// The search in all ranges of an accepted image.
-pub fn find(image: &[u8], x: u32) -> Probe
+// The search in a whole section of an accepted image.
+pub fn find(image: &[u8], section: Section, x: u32) -> Probe
     requires { ⌜ refusalOf (now image) ≡ none ⌝ }
-    ensures { λ r. ⌜ r ≡ seekOf (rangeAt (now (image .entry))) 0 (rangeCount (now (image .entry))) x ⌝ }
+    ensures { λ r. ⌜ r ≡ seekOf (recordAt (now (image .entry)) section) 0 (recordCount (now (image .entry)) section) x ⌝ }
 {
-    let n = image::word(image, 12) as usize;
-    seek(image, 0, n, x)
-}
-
-// The role of x in the profile of an accepted image; 0 where it has none.
-pub fn role_in(image: &[u8], x: u32) -> u32
-    requires { ⌜ refusalOf (now image) ≡ none ⌝ }
-    ensures { λ r. ⌜ r ≡ roleOf (profileOf (now (image .entry))) x ⌝ }
-{
-    let n = image::word(image, 12) as usize;
-    let m = image::word(image, 20) as usize;
-    let base = 32 + 12 * n;
-    let mut i = 0;
-    while i < m {
-        let at = base + 8 * i;
-        if image::word(image, at) == x {
-            return image::word(image, at + 4);
-        }
-        i += 1;
-    }
-    0
+    seek(image, section, 0, count_records(image, section), x)
 }
 
 // The class after the profile of a code point with a role and a class in the ranges.
@@ -88,11 +138,18 @@ pub fn after_role(role: u32, class: u32) -> u32
     ensures { λ r. ⌜ r ≡ afterRole role class ⌝ }
 {
     match role {
-        1 => 1,
-        2 => 2,
-        4 => 5,
+        START_ROLE => START,
+        NONSTART_ROLE => NONSTART,
+        OTHER_ROLE => OTHER,
         _ => class,
     }
+}
+
+// Whether a role marks a medial.
+pub fn is_medial(role: u32) -> bool
+    ensures { λ r. ⌜ r ≡ isMedial role ⌝ }
+{
+    role == MEDIAL_ROLE
 }
 
 // The class of x after the profile of an image that was checked, and how many ranges the search looked at.
@@ -101,8 +158,8 @@ pub fn lookup_checked(image: &[u8], x: u32) -> Found
     ensures { λ r. ⌜ r ≡ lookupOf (now (image .entry)) x ⌝ }
 {
     if utf8::is_scalar(x) {
-        let role = role_in(image, x);
-        let probe = find(image, x);
+        let role = find(image, Section::Entries, x).class;
+        let probe = find(image, Section::Ranges, x);
         return Found::Class {
             class: after_role(role, probe.class),
             count: probe.count,

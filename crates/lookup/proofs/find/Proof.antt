@@ -1,25 +1,23 @@
 -- `lookup::find` meets its contract. Assumes nothing.
-use mathlib.Core.Path.{ap, _∙_}
 use Prim.Native.Nat.{ℕ}
+use mathlib.Core.Path.{ap, _∙_}
 use native.Mathlib.Omega.{arith}
-use Rattle.image.specs.Ranges.{rangeAt}
-use Rattle.image.proofs.ImageLaws.{accepted}
+use Rattle.lookup.specs.Records.{recordAt}
 use Rattle.lookup.specs.Halving.{seekOf}
 use borrow.Author.Needs.{needs}
 use Rattle.lookup.proofs.find.Statement.{statement}
 use Rattle.lookup.proofs.find.Tie as tie
 
-word-requires : tie.Need-word-requires
-word-requires c κs = let h = accepted _ (c .before .pre) .header in omega arith
-
-cast-n : tie.Need-cast-n
-cast-n c = search needs
+count-records-requires : tie.Need-count-records-requires
+count-records-requires c κs = search needs
 
 seek-requires : tie.Need-seek-requires
-seek-requires c κs = let h = accepted _ (c .before .before .pre) .header in omega arith
+seek-requires c κs = search needs
 
 returns : tie.Need-returns
-returns c = c .seek .ensures ∙ ap (λ (n : ℕ). seekOf (rangeAt (c .before .before .before .args .image .now)) 0 n (c .before .before .before .args .x)) (c .before .word .ensures)
+returns c =
+    let a = c .before .before .before .args in
+    c .seek .ensures ∙ ap (λ (n : ℕ). seekOf (recordAt (a .image .now) (a .section)) 0 n (a .x)) (c .before .count-records .ensures)
 
 pub find-spec : {M : Type 1} → statement M
-find-spec = tie.close (tie.spec word-requires cast-n seek-requires returns)
+find-spec = tie.close (tie.spec count-records-requires seek-requires returns)

@@ -1,6 +1,7 @@
 -- `lookup::lookup` meets its contract. Assumes nothing.
+use mathlib.Core.Path.{sym}
 use Rattle.image.proofs.ImageLaws.{says}
-use Rattle.lookup.proofs.LookupLaws.{refused-check}
+use Rattle.lookup.proofs.LookupLaws.{refused}
 use borrow.Author.Needs.{needs}
 use Rattle.lookup.proofs.lookup.Statement.{statement}
 use Rattle.lookup.proofs.lookup.Tie as tie
@@ -18,7 +19,7 @@ lookup-checked-requires : tie.Need-lookup-checked-requires
 lookup-checked-requires c κs = says _ _ (c .before .before .check .ensures) _ (c .enum-told .given .1) .0
 
 returns : tie.Need-returns
-returns c = refused-check _ _ _ (c .before .before .before .check .ensures) _ (c .before .answer .given .1)
+returns c = sym (refused _ _ _ (says _ _ (c .before .before .before .check .ensures) _ (c .before .answer .given .1) .0))
 
 returns-2 : tie.Need-returns-2
 returns-2 c = search needs
