@@ -11,7 +11,7 @@ use Rattle.refusal.specs.declared.Refusal.{Refusal}
 use Rattle.refusal.specs.declared.Refusal.the-variants as refusal
 use Rattle.image.specs.Header.{versionOf, rangeCount, entryCount, lengthRight, headerRight}
 use Rattle.image.specs.Ranges.{rangeAt, rangeWords, firstBadRange, classIn}
-use Rattle.image.specs.Profile.{pointAt, roleAt, firstBadEntry, profileOf, noProfile, roleOf, afterRole, isMedial}
+use Rattle.image.specs.Profile.{pointAt, roleAt, firstBadEntry, profileOf, noProfile, roleBy, afterRole, isMedial}
 use Rattle.image.specs.declared.Answer.{Answer}
 use Rattle.image.specs.declared.Answer.the-variants as answer
 use Rattle.image.specs.declared.Checked.{Checked}
@@ -62,12 +62,16 @@ wordsBy s out (some r) = out
 unfoldable pub wordsAfter : List ℕ → List ℕ → List ℕ
 wordsAfter s out = wordsBy s out (readRefusal s (length out) (refusalOf s))
 
--- the class of x in the ranges of an image, and its class after the profile; whether it is a medial
+-- the class of x in the ranges of an image, and its role in the profile
 unfoldable pub rangeClass : List ℕ → ℕ → ℕ
 rangeClass s x = classIn (rangeAt s) (rangeCount s) x
 
+unfoldable pub entryRole : List ℕ → ℕ → ℕ
+entryRole s x = roleBy (pointAt s) (roleAt s) (entryCount s) x
+
+-- its class after the profile, and whether it is a medial
 unfoldable pub classOf : List ℕ → ℕ → ℕ
-classOf s x = afterRole (roleOf (profileOf s) x) (rangeClass s x)
+classOf s x = afterRole (entryRole s x) (rangeClass s x)
 
 unfoldable pub medialOf : List ℕ → ℕ → Bool
-medialOf s x = isMedial (profileOf s) x
+medialOf s x = isMedial (entryRole s x)

@@ -1,20 +1,17 @@
--- Stretches of code points that have one class in the ranges (docs/RULES.md, "The class image").
+-- Ranges that rise, and the place of a number among them (docs/RULES.md, "The class image").
 use Prim.Native.Nat.{ℕ, _-_, _≤_, _<_}
-use mathlib.Core.Path.{_≡_}
 use Rattle.lists.specs.First.{AllGood}
-use Rattle.image.specs.Ranges.{goodRange, classIn}
+use Rattle.image.specs.Ranges.{goodRange}
 use Rattle.image.specs.declared.Range.{Range}
-use Rattle.lookup.specs.declared.Stretch.{Stretch}
 
 -- each of the n ranges is good
 abbrev pub GoodRanges : (ℕ → Range) → ℕ → Type 0
 GoodRanges at n = AllGood (goodRange at) n
 
--- x lies in the stretch r, and every number of r has its class in the n ranges
-pub record StretchOf (at : ℕ → Range) (n x : ℕ) (r : Stretch) : Type 0 where
-  pub from : r .first ≤ x
-  pub to : x ≤ r .last
-  pub same : (y : ℕ) → r .first ≤ y → y ≤ r .last → classIn at n y ≡ r .class
+-- none of the n ranges is empty, and each begins after the end of the one before
+pub record Rising (at : ℕ → Range) (n : ℕ) : Type 0 where
+  pub ordered : (i : ℕ) → i < n → at i .first ≤ at i .last
+  pub after : (i : ℕ) → 0 < i → i < n → at (i - 1) .last < at i .first
 
 -- the first i of n ranges are passed on the way to x: the last of them ends before x
 pub record Passed (at : ℕ → Range) (n i x : ℕ) : Type 0 where
