@@ -11,7 +11,7 @@ use Rattle.refusal.specs.declared.Refusal.{Refusal}
 use Rattle.refusal.specs.declared.Refusal.the-variants as refusal
 use Rattle.refusal.specs.Refusal.{numberOf}
 use Rattle.utf8.specs.Text.{Character, decode, widthOf}
-use Rattle.utf8.proofs.TextLaws.{encoded-unique, covers}
+use Rattle.utf8.proofs.TextLaws.{means-decode, decode-covers}
 use Rattle.grammar.specs.Scan.{Tok, unitsOf}
 use Rattle.grammar.specs.Grammar.{Kind, Token}
 use Rattle.refusal.specs.Outcome.{given, refused, outcomeMap}
@@ -106,8 +106,8 @@ module _ (s text : List ℕ) where
   -- the tokens of a text cover it from byte 0 to its end
   pub covers-all : {ts : List (Tok Character Kind)} → Divided s text ts [] → tokensWidth ts ≡ length text
   covers-all {ts} d =
-      let e = encoded-unique (d .readable .wellFormed) in
-      let c = rw e at (covers text) in
+      let e = means-decode (d .readable .wellFormed) in
+      let c = rw e at (decode-covers text) in
       let u : d .characters ≡ unitsOf ts = division-covers (Token (meaningOf s)) (d .division) ∙ append-nil (unitsOf ts) in
       let w : tokensWidth ts ≡ widthOf (d .characters) = tokens-width ts ∙ ap widthOf (sym u) in
       let l = length-drop (widthOf (d .characters)) text in

@@ -17,7 +17,7 @@ use Rattle.utf8.specs.declared.Step.the-variants.{Scalar, IllFormed, End}
 use Rattle.utf8.specs.Scalar.{isScalar}
 use Rattle.utf8.specs.Head.{stepOf}
 use Rattle.utf8.specs.Text.{Character, decode}
-use Rattle.utf8.proofs.TextLaws.{decode-scalar, decode-ill, decode-end, AllScalar, scalars}
+use Rattle.utf8.proofs.TextLaws.{decode-scalar, decode-ill, decode-end, AllScalar, characters-scalar}
 use Rattle.image.specs.Class.{classNamed}
 use Rattle.image.specs.Profile.{profileOf, roleOf, isMedial}
 use Rattle.image.specs.Check.{rangeClass, classOf, medialOf}
@@ -83,7 +83,7 @@ module _ (older newer text : List ℕ) (L : Later older newer) where
 
   reading-same : Firm (meaningOf older) (meaningOf newer) (readingOf older text .left) → readingOf newer text ≡ readingOf older text
   unfolding readingOf
-  reading-same g = reading-stable (meaningOf older) (meaningOf newer) (decode text .characters) (all-allowed (decode text .characters) (scalars text)) g
+  reading-same g = reading-stable (meaningOf older) (meaningOf newer) (decode text .characters) (all-allowed (decode text .characters) (characters-scalar text)) g
 
   -- a character of another class after the profile, as a number
   another : (c : Character) (r : List Character) → Changed (meaningOf older) (meaningOf newer) (c ∷ r) → AnotherClass older newer (c .code)

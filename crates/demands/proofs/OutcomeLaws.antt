@@ -16,8 +16,8 @@ use Rattle.refusal.specs.declared.Refusal.the-variants as refusal
 use Rattle.refusal.specs.Refusal.{numberOf}
 use Rattle.utf8.specs.declared.Text.{Text}
 use Rattle.utf8.specs.declared.Text.the-variants.{WellFormed, IllFormed}
-use Rattle.utf8.specs.Text.{Character, decode, widthOf, textBy, textOf}
-use Rattle.utf8.proofs.TextLaws.{encodes, encoded-unique, splits}
+use Rattle.utf8.specs.Text.{Character, decode, widthOf, textOf, well-formed}
+use Rattle.utf8.proofs.TextLaws.{decode-means, means-decode, means-text, well-rest, decode-at-boundary}
 use Rattle.image.specs.Check.{refusalOf}
 use Rattle.image.proofs.ImageLaws.{image-refused}
 use Rattle.grammar.specs.Scan.{Tok, unitsOf}
@@ -92,13 +92,12 @@ short-le : (b : Bool) (text : List ℕ) → ltb maxText (length text) ≡ b → 
 short-le true text e f = impossible (cc)
 short-le false text e f = ltb-false maxText (length text) e
 
-form-rest : (p : ℕ) (rest : List ℕ) → formRefusalBy (textBy p rest) ≡ none → rest ≡ []
-form-rest p [] e = refl
-form-rest p (b ∷ rest) e = cc
+well-by : (t : Text) → formRefusalBy t ≡ none → t ≡ WellFormed
+well-by WellFormed e = refl
+well-by (IllFormed p) e = cc
 
 rest-empty : (text : List ℕ) → formRefusal text ≡ none → decode text .rest ≡ []
-unfolding textOf
-rest-empty text e = form-rest (widthOf (decode text .characters)) (decode text .rest) e
+rest-empty text e = well-rest text (well-by (textOf text) e)
 
 pub passed-readable : {s text : List ℕ} → Passed s text → Readable s text (decode text .characters)
 unfolding lengthRefusal
@@ -106,26 +105,26 @@ passed-readable {s} {text} h =
     record {
       image = h .image;
       short = short-le (ltb maxText (length text)) text refl (h .short);
-      wellFormed = rw (rest-empty text (h .form)) at (encodes text);
+      wellFormed = rw (rest-empty text (h .form)) at (decode-means text);
     }
 
 pub readable-characters : {s text : List ℕ} {cs : List Character} → Readable s text cs → decode text .characters ≡ cs
-readable-characters h = ap (λ d. d .characters) (encoded-unique (h .wellFormed))
+readable-characters h = ap (λ d. d .characters) (means-decode (h .wellFormed))
 
 pub readable-passed : {s text : List ℕ} {cs : List Character} → Readable s text cs → Passed s text
-unfolding lengthRefusal textOf
+unfolding lengthRefusal
 readable-passed {s} {text} h =
     record {
       image = h .image;
       short = rw (le-ltb maxText (length text) (h .short));
-      form = rw (encoded-unique (h .wellFormed));
+      form = rw (means-text text WellFormed (well-formed (h .wellFormed)));
     }
 
 -- the characters left by a reading are those from the end of its tokens on
 after-units : (text : List ℕ) (u l : List Character) → decode text .characters ≡ u ++ l → decode (drop (widthOf u) text) .characters ≡ l
 after-units text u l e =
     let n : length u ≤ length (decode text .characters) = rw (e, length-append u l) (omega arith) in
-    rw (e, take-append-seam u l, drop-append-seam u l) at (ap (λ d. d .characters) (splits text (length u) n))
+    rw (e, take-append-seam u l, drop-append-seam u l) at (ap (λ d. d .characters) (decode-at-boundary text (length u) n))
 
 pub left-at : (s text : List ℕ) → decode (drop (tokensWidth (readingOf s text .tokens)) text) .characters ≡ readingOf s text .left
 unfolding readingOf
