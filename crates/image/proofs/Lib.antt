@@ -1,2 +1,5 @@
-pub mod ImageLaws
 pub mod GoodLaws
+pub mod RecordsLaws
+pub mod ImageLaws
+pub mod ReadLaws
+pub mod PermittedLaws

@@ -2,47 +2,23 @@
 -- Assumes nothing.
 use Prim.Native.Nat.{ℕ, zero, suc, _+_, _-_, _/_, _≤_, _<_}
 use mathlib.Core.Path.{_≡_, refl, sym, ap, _∙_}
-use mathlib.Core.Bool.{Bool, true, false, true≢false, _&&_, _||_}
+use mathlib.Core.Bool.{Bool, true, false, true≢false}
 use mathlib.Core.Logic.{_⊎_, inl, inr, ⊎-elim}
 use native.Mathlib.Omega.{arith}
 use native.Mathlib.Decide.{decLt}
-use lib.Dec.{leb, ltb, eqb}
-use borrow.Author.Tests.{le-leb, lt-ltb, le-ltb, leb-true, ltb-true, leb-false, eqb-true}
+use lib.Dec.{leb}
+use borrow.Author.Tests.{le-leb, lt-ltb, le-ltb, leb-true, leb-false}
 use Rattle.lists.specs.First.{firstWhere}
-use Rattle.lists.proofs.BoolLaws.{and-left, and-right, and-in, or-cases}
+use Rattle.lists.proofs.BoolLaws.{and-left, and-right, and-in}
 use Rattle.lists.proofs.FirstLaws.{first-is, first-none, first-holds}
 use Rattle.utf8.specs.Scalar.{isScalar}
-use Rattle.image.specs.Ranges.{goodAlone, follows, goodRange, holds, classIn}
+use Rattle.image.specs.Ranges.{holds, classIn}
+use Rattle.image.specs.Good.{GoodRange}
 use Rattle.image.specs.declared.Range.{Range}
 use Rattle.lookup.specs.declared.Probe.{Probe}
 use Rattle.lookup.specs.Halving.{seekOf}
 use Rattle.lookup.specs.Stretch.{GoodRanges}
 use Rattle.lookup.proofs.HalvingLaws.{seek-none, seek-low, seek-high, seek-here}
-
--- what a good range is by itself
-pub record Alone (r : Range) : Type 0 where
-  pub ordered : r .first ≤ r .last
-  pub below : r .last ≤ 0x10FFFF
-  pub outside : (0xE000 ≤ r .first) ⊎ (r .last < 0xD800)
-  pub some : 1 ≤ r .class
-  pub known : r .class ≤ 5
-
-pub alone : (r : Range) → goodAlone r ≡ true → Alone r
-unfolding goodAlone
-alone r e =
-    let named = leb 1 (r .class) && leb (r .class) 5 in
-    let apart = leb 0xE000 (r .first) || ltb (r .last) 0xD800 in
-    let b = and-right (leb (r .first) (r .last)) (leb (r .last) 0x10FFFF && (apart && named)) e in
-    let c = and-right (leb (r .last) 0x10FFFF) (apart && named) b in
-    let d = and-right apart named c in
-    record {
-      ordered = leb-true _ _ (and-left _ (leb (r .last) 0x10FFFF && (apart && named)) e);
-      below = leb-true _ _ (and-left _ (apart && named) b);
-      outside =
-          ⊎-elim (λ t. inl (leb-true _ _ t)) (λ t. inr (ltb-true _ _ t)) (or-cases (leb 0xE000 (r .first)) (ltb (r .last) 0xD800) (and-left apart named c));
-      some = leb-true _ _ (and-left _ (leb (r .class) 5) d);
-      known = leb-true _ _ (and-right (leb 1 (r .class)) _ d);
-    }
 
 -- what it is that a range holds x, or doesn't
 pub held : (r : Range) (x : ℕ) → r .first ≤ x → x ≤ r .last → holds r x ≡ true
@@ -86,15 +62,12 @@ module _ (at : ℕ → Range) (n : ℕ) where
   class-cases x = held-cases x _ refl (decLt _ n)
 
 module _ (at : ℕ → Range) (n : ℕ) (good : GoodRanges at n) where
-  pub good-alone : (i : ℕ) → i < n → Alone (at i)
-  unfolding goodRange
-  good-alone i l = alone (at i) (and-left _ _ (good i l))
+  pub good-alone : (i : ℕ) → i < n → GoodRange at i
+  good-alone i l = good i l
 
   -- a range begins after the end of the one before
   pub good-follows : (i : ℕ) → 0 < i → i < n → at (i - 1) .last < at i .first
-  unfolding goodRange follows
-  good-follows i h l =
-      ⊎-elim (λ t. let z = eqb-true i 0 t in absurd (omega arith)) (λ t. ltb-true _ _ (and-left _ _ t)) (or-cases (eqb i 0) _ (and-right (goodAlone (at i)) _ (good i l)))
+  good-follows i h l = good i l .after h
 
   -- ranges rise
   pub rise : (i j : ℕ) → i < j → j < n → at i .last < at j .first
@@ -194,9 +167,9 @@ module _ (at : ℕ → Range) (n : ℕ) (good : GoodRanges at n) where
     unfolding isScalar
     class-scalar e = class-none at n x (λ i l a b. outside i l a b (good-alone i l) (decLt x 0xD800) (decLt x 0xE000))
       where
-        outside : (i : ℕ) → i < n → at i .first ≤ x → x ≤ at i .last → Alone (at i) → Dec (x < 0xD800) → Dec (x < 0xE000) → ⊥
+        outside : (i : ℕ) → i < n → at i .first ≤ x → x ≤ at i .last → GoodRange at i → Dec (x < 0xD800) → Dec (x < 0xE000) → ⊥
         outside i l a b r (yes s) d = absurd (true≢false (sym (simp (lt-ltb x 0xD800 s)) ∙ e))
-        outside i l a b r (no s) (yes t) = ⊎-elim (λ w. omega arith) (λ w. omega arith) (r .outside)
+        outside i l a b r (no s) (yes t) = r .no-surrogate x a b (omega arith) (omega arith)
         outside i l a b r (no s) (no t) =
             let v : leb x 0x10FFFF ≡ false = simp (le-ltb x 0xD800 (omega arith), le-ltb x 0xE000 (omega arith)) at e in
             let w = leb-false x 0x10FFFF v in
@@ -204,4 +177,4 @@ module _ (at : ℕ → Range) (n : ℕ) (good : GoodRanges at n) where
 
     -- classes go to 5
     pub class-known : classIn at n x ≤ 5
-    class-known = ⊎-elim (λ e. omega arith) (λ h. let e = h .same in let k = good-alone (h .index) (h .within) .known in omega arith) (class-cases at n x)
+    class-known = ⊎-elim (λ e. omega arith) (λ h. let e = h .same in let k = good-alone (h .index) (h .within) .known-class in omega arith) (class-cases at n x)

@@ -1,24 +1,23 @@
 -- The role of a code point: entry by entry, and that it is the role of the one entry with this code point. Assumes nothing.
 use Prim.Native.Nat.{ℕ, zero, suc, _+_, _-_, _≤_, _<_}
 use mathlib.Core.Path.{_≡_, sym, _∙_}
-use mathlib.Core.Bool.{Bool, _&&_}
+use mathlib.Core.Bool.{Bool}
 use mathlib.Core.List.{List}
-use mathlib.Core.Logic.{⊎-elim}
 use mathlib.Core.Option.{none}
 use native.Mathlib.Omega.{arith}
 use native.Mathlib.Decide.{decLt}
-use lib.Dec.{leb, eqb}
+use lib.Dec.{eqb}
 use lib.ListN.{getD}
-use borrow.Author.Tests.{eq-eqb, ne-eqb, lt-ltb, le-ltb, eqb-true, ltb-true}
+use borrow.Author.Tests.{eq-eqb, ne-eqb, lt-ltb, le-ltb}
 use Rattle.lists.specs.First.{firstFrom, firstWhere, AllGood}
-use Rattle.lists.proofs.BoolLaws.{and-right, or-cases}
 use Rattle.lists.proofs.FirstLaws.{first-here, first-next, first-end, first-begins, first-is, first-none}
-use Rattle.utf8.specs.Scalar.{isScalar}
 use Rattle.image.specs.Header.{entryCount}
-use Rattle.image.specs.Profile.{profileBy, pointAt, roleAt, pointIn, roleIn, goodEntry, roleOf, profileOf}
+use Rattle.image.specs.Profile.{profileBy, pointAt, roleAt, pointIn, roleIn, roleOf, profileOf}
+use Rattle.image.specs.Good.{GoodEntry}
 use Rattle.image.specs.Check.{refusalOf}
 use Rattle.image.specs.declared.Profile.{Profile}
-use Rattle.image.proofs.ImageLaws.{accepted, entry-parts, good-entry-same, entry-read}
+use Rattle.image.proofs.GoodLaws.{entry-same}
+use Rattle.image.proofs.ImageLaws.{accepted, entry-read}
 
 -- entry i is that of x
 abbrev pub named : List ℕ → ℕ → ℕ → Bool
@@ -56,11 +55,9 @@ unfolding roleOf
 role-absent p x f = rw (first-none (named (p .points) x) (p .used) (λ i l. ne-eqb _ _ (f i l))) (simp (le-ltb (p .used) (p .used) (omega arith)))
 
 -- good entries rise: one entry at most has a code point, and its role is the code point's
-module _ (point role : ℕ → ℕ) (m : ℕ) (good : AllGood (goodEntry point role) m) where
+module _ (point role : ℕ → ℕ) (m : ℕ) (good : AllGood (GoodEntry point role) m) where
   points-follow : (i : ℕ) → 0 < i → i < m → point (i - 1) < point i
-  points-follow i h l =
-      ⊎-elim (λ t. let z = eqb-true i 0 t in absurd (omega arith)) (λ t. ltb-true _ _ t)
-      (or-cases (eqb i 0) _ (and-right (isScalar (point i) && (leb 1 (role i) && leb (role i) 4)) _ (sym (entry-parts point role i) ∙ good i l)))
+  points-follow i h l = good i l .rises h
 
   pub points-rise : (i j : ℕ) → i < j → j < m → point i < point j
   points-rise i zero h l = absurd (omega arith)
@@ -81,7 +78,7 @@ module _ (point role : ℕ → ℕ) (m : ℕ) (good : AllGood (goodEntry point r
       go (no p) (no q) = omega arith
 
 pub role-held :
-    (p : Profile) → AllGood (goodEntry (pointIn p) (roleIn p)) (p .used) → (i x : ℕ) → i < p .used → pointIn p i ≡ x → roleOf p x ≡ roleIn p i
+    (p : Profile) → AllGood (GoodEntry (pointIn p) (roleIn p)) (p .used) → (i x : ℕ) → i < p .used → pointIn p i ≡ x → roleOf p x ≡ roleIn p i
 unfolding roleOf
 role-held p good i x l e =
     rw (first-is (named (p .points) x) (p .used) i l (eq-eqb _ _ e)
@@ -96,7 +93,7 @@ module _ (s : List ℕ) (a : refusalOf s ≡ none) where
       let g = accepted s a .entries in
       let r = entry-read s in
       role-held (profileOf s)
-      (λ j k. good-entry-same (pointIn (profileOf s)) (pointAt s) (roleIn (profileOf s)) (roleAt s) j (r j k .0) (r (j - 1) (omega arith) .0) (r j k .1) ∙ g j k)
+      (λ j k. entry-same (pointIn (profileOf s)) (pointAt s) (roleIn (profileOf s)) (roleAt s) j (r j k .0) (r (j - 1) (omega arith) .0) (r j k .1) (g j k))
       i x l (r i l .0 ∙ e)
       ∙ r i l .1
 

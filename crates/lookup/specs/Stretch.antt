@@ -2,13 +2,14 @@
 use Prim.Native.Nat.{ℕ, _-_, _≤_, _<_}
 use mathlib.Core.Path.{_≡_}
 use Rattle.lists.specs.First.{AllGood}
-use Rattle.image.specs.Ranges.{goodRange, classIn}
+use Rattle.image.specs.Ranges.{classIn}
+use Rattle.image.specs.Good.{GoodRange}
 use Rattle.image.specs.declared.Range.{Range}
 use Rattle.lookup.specs.declared.Stretch.{Stretch}
 
 -- each of the n ranges is good
 abbrev pub GoodRanges : (ℕ → Range) → ℕ → Type 0
-GoodRanges at n = AllGood (goodRange at) n
+GoodRanges at n = AllGood (GoodRange at) n
 
 -- x lies in the stretch r, and every number of r has its class in the n ranges
 pub record StretchOf (at : ℕ → Range) (n x : ℕ) (r : Stretch) : Type 0 where
