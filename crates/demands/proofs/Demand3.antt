@@ -30,7 +30,7 @@ use Rattle.grammar.specs.Record.{recordSize, roomOf, tokensWidth, listedWords}
 use Rattle.grammar.specs.Reading.{meaningOf, readingOf, lengthRefusal, formRefusal, judged, outcomeOf, countOf, roomed, writtenOf, listOf, laidBy, listWords}
 use Rattle.demands.specs.Divided.{Divided, Stopped}
 use Rattle.demands.specs.Promise.{Later, AnotherClass, NextChanged, Excepted, Promise, listIn, Demand3}
-use Rattle.demands.proofs.RoleLaws.{after-role}
+use Rattle.image.proofs.PermittedLaws.{after-role}
 use Rattle.demands.proofs.KindsStable.{firm-or-touched, reading-stable}
 use Rattle.demands.proofs.OutcomeLaws.{left-at}
 use Rattle.grammar.proofs.RecordLaws.{length-listed}

@@ -1,6 +1,5 @@
 pub mod Stability
 pub mod KindsStable
-pub mod RoleLaws
 pub mod OutcomeLaws
 pub mod Demand2
 pub mod Demand3

@@ -19,7 +19,7 @@ use Rattle.utf8.specs.declared.Text.the-variants.{WellFormed, IllFormed}
 use Rattle.utf8.specs.Text.{Character, decode, widthOf, textOf, well-formed}
 use Rattle.utf8.proofs.TextLaws.{decode-means, means-decode, means-text, well-rest, decode-at-boundary}
 use Rattle.image.specs.Check.{refusalOf}
-use Rattle.image.proofs.ImageLaws.{image-refused}
+use Rattle.image.proofs.ImageLaws.{refusal-number}
 use Rattle.grammar.specs.Scan.{Tok, unitsOf}
 use Rattle.grammar.specs.Grammar.{Kind}
 use Rattle.refusal.specs.Outcome.{given, refused, refusedIf}
@@ -58,7 +58,7 @@ module _ (s text : List ℕ) where
   passed-if no-early = go (refusalOf s) refl (lengthRefusal text) refl (formRefusal text) refl
     where
       go : (a : Option Refusal) → refusalOf s ≡ a → (b : Option Refusal) → lengthRefusal text ≡ b → (c : Option Refusal) → formRefusal text ≡ c → Passed s text
-      go (some r) e b f c g = absurd (no-early r (omega (arith, image-refused s r e)) (rw e))
+      go (some r) e b f c g = absurd (no-early r (omega (arith, refusal-number s r e)) (rw e))
       go none e (some r) f c g = absurd (no-early r (omega (arith, length-refused text r f)) (rw (e, f)))
       go none e none f (some r) g = absurd (no-early r (omega (arith, form-number (textOf text) r g)) (rw (e, f, g)))
       go none e none f none g = record { image = e; short = f; form = g }

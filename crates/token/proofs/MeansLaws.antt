@@ -22,7 +22,7 @@ use Rattle.grammar.specs.Grammar.{Kind, Token as TokenOf}
 use Rattle.grammar.specs.Kinds.{kindNumber}
 use Rattle.grammar.specs.Reading.{maxText, meaningOf, rulesOf, readingOf, tokensOf}
 use Rattle.grammar.proofs.ScanLaws.{walk-nil}
-use Rattle.image.proofs.ImageLaws.{image-refused}
+use Rattle.image.proofs.ImageLaws.{refusal-number}
 use Rattle.grammar.proofs.GrammarLaws.{tokens-divide, tokens-unique}
 use Rattle.scan.specs.declared.First.{First}
 use Rattle.scan.specs.declared.First.the-variants as first
@@ -90,15 +90,15 @@ module _ (s text : List ℕ) (place : ℕ) where
   early refusal.Header e = e
   early (refusal.Range i) e = e
   early (refusal.Entry i) e = e
-  early refusal.TextLength e = let n = image-refused s refusal.TextLength e in absurd (omega arith)
-  early (refusal.IllFormed p) e = let n = image-refused s (refusal.IllFormed p) e in absurd (omega arith)
-  early (refusal.Characters p) e = let n = image-refused s (refusal.Characters p) e in absurd (omega arith)
-  early (refusal.Room k) e = let n = image-refused s (refusal.Room k) e in absurd (omega arith)
-  early (refusal.NotScalar x) e = let n = image-refused s (refusal.NotScalar x) e in absurd (omega arith)
-  early (refusal.Change x) e = let n = image-refused s (refusal.Change x) e in absurd (omega arith)
-  early refusal.Profiles e = let n = image-refused s refusal.Profiles e in absurd (omega arith)
-  early (refusal.Buffer k) e = let n = image-refused s (refusal.Buffer k) e in absurd (omega arith)
-  early refusal.Shape e = let n = image-refused s refusal.Shape e in absurd (omega arith)
+  early refusal.TextLength e = let n = refusal-number s refusal.TextLength e in absurd (omega arith)
+  early (refusal.IllFormed p) e = let n = refusal-number s (refusal.IllFormed p) e in absurd (omega arith)
+  early (refusal.Characters p) e = let n = refusal-number s (refusal.Characters p) e in absurd (omega arith)
+  early (refusal.Room k) e = let n = refusal-number s (refusal.Room k) e in absurd (omega arith)
+  early (refusal.NotScalar x) e = let n = refusal-number s (refusal.NotScalar x) e in absurd (omega arith)
+  early (refusal.Change x) e = let n = refusal-number s (refusal.Change x) e in absurd (omega arith)
+  early refusal.Profiles e = let n = refusal-number s refusal.Profiles e in absurd (omega arith)
+  early (refusal.Buffer k) e = let n = refusal-number s (refusal.Buffer k) e in absurd (omega arith)
+  early refusal.Shape e = let n = refusal-number s refusal.Shape e in absurd (omega arith)
 
   refused-early : (r : Refusal) → refusalOf s ≡ some r → takenOf s text place ≡ Refused r
   unfolding takenOf
