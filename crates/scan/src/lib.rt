@@ -158,11 +158,7 @@ fn kind_after(kinds: &[u32; 16], traits: u32) -> u32
 }
 
 // Whether a Continue stands at a place.
-fn continues_at<'a>(
-    image: &'a [u8],
-    text: &'a [u8],
-    at: usize,
-) -> bool
+fn continues_at<'a>(image: &'a [u8], text: &'a [u8], at: usize) -> bool
     requires { ⌜ refusalOf (now image) ≡ none ⌝ }
     ensures { λ r. ⌜ r ≡ continuesAt (now (image .entry)) (now (text .entry)) at ⌝ }
 {
@@ -178,13 +174,7 @@ fn continues_at<'a>(
 }
 
 // Whether a token of this kind goes on with a character of these traits, before the place `next`.
-fn goes_on<'a>(
-    kind: u32,
-    traits: u32,
-    image: &'a [u8],
-    text: &'a [u8],
-    next: usize,
-) -> bool
+fn goes_on<'a>(kind: u32, traits: u32, image: &'a [u8], text: &'a [u8], next: usize) -> bool
     requires { ⌜ refusalOf (now image) ≡ none ⌝ }
     ensures { λ r. ⌜ r ≡ goesOn kind traits (continuesAt (now (image .entry)) (now (text .entry)) next) ⌝ }
 {
@@ -216,11 +206,7 @@ fn refuse_at(text: &[u8], at: usize) -> Refusal
 }
 
 // The number of tokens.
-pub fn count_tokens<'a>(
-    image: &'a [u8],
-    table: &'a [u8; 128],
-    text: &'a [u8],
-) -> Counted
+pub fn count_tokens<'a>(image: &'a [u8], table: &'a [u8; 128], text: &'a [u8]) -> Counted
     requires { ⌜ refusalOf (now image) ≡ none ⌝ }
     requires { ⌜ TableOf (now image) (now table) ⌝ }
     ensures { λ r. ⌜ r ≡ countThrough (now (image .entry)) (now (text .entry)) ⌝ }
@@ -283,12 +269,7 @@ fn pick_start(turn: usize, start: usize, at: usize) -> usize
 
 // The words of all tokens up to where no token begins or the text is ill-formed. After each character the record of the token that
 // it is in ends there: the loop has no test for where tokens end.
-pub fn write_tokens<'a>(
-    image: &'a [u8],
-    table: &'a [u8; 128],
-    text: &'a [u8],
-    out: &mut [u32],
-)
+pub fn write_tokens<'a>(image: &'a [u8], table: &'a [u8; 128], text: &'a [u8], out: &mut [u32])
     requires { ⌜ refusalOf (now image) ≡ none ⌝ }
     requires { ⌜ TableOf (now image) (now table) ⌝ }
     requires { ⌜ length (now text) ≤ maxText ⌝ }
@@ -367,11 +348,7 @@ fn find_end<'a>(
 }
 
 // The first token of a text.
-pub fn first_token<'a>(
-    image: &'a [u8],
-    table: &'a [u8; 128],
-    text: &'a [u8],
-) -> First
+pub fn first_token<'a>(image: &'a [u8], table: &'a [u8; 128], text: &'a [u8]) -> First
     requires { ⌜ refusalOf (now image) ≡ none ⌝ }
     requires { ⌜ TableOf (now image) (now table) ⌝ }
     ensures { λ r. ⌜ r ≡ firstOf (now (image .entry)) (now (text .entry)) ⌝ }
@@ -379,13 +356,7 @@ pub fn first_token<'a>(
     if text.len() == 0 {
         return First::Nothing;
     }
-    let c = character::read(
-        image,
-        table,
-        character::no_memo(),
-        text,
-        0,
-    );
+    let c = character::read(image, table, character::no_memo(), text, 0);
     let len = c.len;
     if len == 0 {
         return First::IllFormed;
