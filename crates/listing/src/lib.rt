@@ -8,9 +8,11 @@ ghost use lib.ListN.{length, take};
 ghost use Rattle.refusal.specs.Outcome.{outcomeMap};
 ghost use Rattle.grammar.specs.Reading.{laidBy};
 ghost use Rattle.scan.specs.Counted.{countedBy};
-ghost use Rattle.listing.specs.Input.{endOf, writtenWithin, listedFrom, wordsAfter, maxScript, wholeAnswer};
+ghost use Rattle.listing.specs.Input.{EndMeans, writtenWithin, listedFrom, wordsAfter, maxScript, wholeAnswer};
 use image::Answer;
+use image::HEADER_BYTES;
 use image::MAX_IMAGE;
+use image::TOTAL_AT;
 use refusal::Refusal;
 use scan::Counted;
 
@@ -22,16 +24,14 @@ pub const MAX_INPUT: usize = MAX_IMAGE + MAX_SCRIPT + 1;
 // The words that the longest text's tokens can need.
 pub const MAX_WORDS: usize = scan::RECORD_WORDS * MAX_SCRIPT;
 
-const HEADER_BYTES: usize = 32;
-
 // Where the image at the front of the input ends; 0 where it doesn't come whole.
 fn find_end(input: &[u8]) -> usize
-    ensures { λ r. ⌜ r ≡ endOf (now (input .entry)) ⌝ }
+    ensures { λ r. ⌜ EndMeans (now (input .entry)) r ⌝ }
 {
     if input.len() < HEADER_BYTES {
         return 0;
     }
-    let total = image::word(input, 8) as usize;
+    let total = image::word(input, TOTAL_AT) as usize;
     if total < HEADER_BYTES {
         return 0;
     }
@@ -49,18 +49,14 @@ fn list_script<'a>(image: &'a [u8], text: &'a [u8], out: &mut [u32]) -> Counted
     ensures { λ r. ⌜ r ≡ countedBy (outcomeMap length (writtenWithin (now (image .entry)) (now (text .entry)) (length (now (out .entry))))) ⌝ }
     ensures { λ r. ⌜ now (out .exit) ≡ laidBy (now (out .entry)) (writtenWithin (now (image .entry)) (now (text .entry)) (length (now (out .entry)))) ⌝ }
 {
-    let checked = image::check(image);
-    let answer = checked.answer;
+    let answer = image::judge(image);
     match answer {
         Answer::Refused(r) => Counted::Refused(r),
-        Answer::Accepted { version: _, ranges } => {
+        Answer::Accepted { version: _, ranges: _ } => {
             if MAX_SCRIPT < text.len() {
                 return Counted::Refused(Refusal::TextLength);
             }
-            let profile = checked.profile;
-            let points = profile.points;
-            let roles = profile.roles;
-            token::list_checked(image, ranges, &points, &roles, profile.used, text, out)
+            token::list_checked(image, text, out)
         }
     }
 }
