@@ -1,7 +1,7 @@
 // What the token lister does with its input: an image and right after it a text.
 ghost use mathlib.Core.Path.{_≡_};
 ghost use mathlib.Core.List.{List};
-ghost use Prim.Native.Nat.{ℕ, _+_, _*_, _<_};
+ghost use Prim.Native.Nat.{ℕ, _+_, _*_, _≤_, _<_};
 ghost use Rattle.image.specs.Limits.{maxImage};
 ghost use Rattle.grammar.specs.Record.{recordSize};
 ghost use lib.ListN.{length, take};
@@ -73,12 +73,13 @@ pub fn list_input(input: &[u8], out: &mut [u32]) -> Counted
     list_script(&input[..end], &input[end..], out)
 }
 
-// The answer for the whole input, of which at most `limit` bytes were read.
-pub fn list_read(input: &[u8], limit: usize, out: &mut [u32]) -> Counted
-    requires { ⌜ (maxImage + maxScript < limit) × (length (now out) ≡ recordSize * maxScript) ⌝ }
-    ensures { λ r. ⌜ r ≡ countedBy (listedFrom (now (input .entry)) (length (now (out .entry)))) ⌝ }
-    ensures { λ r. ⌜ ((whole : List ℕ) → take limit whole ≡ now (input .entry) → r ≡ wholeAnswer whole) ⌝ }
-    ensures { λ r. ⌜ now (out .exit) ≡ wordsAfter (now (input .entry)) (now (out .entry)) ⌝ }
+// The answer for the whole input, of which the first n bytes were read into a buffer: all, if they don't fill it.
+pub fn list_read(buffer: &[u8], n: usize, out: &mut [u32]) -> Counted
+    requires { ⌜ n ≤ length (now buffer) ⌝ }
+    requires { ⌜ (maxImage + maxScript < length (now buffer)) × (length (now out) ≡ recordSize * maxScript) ⌝ }
+    ensures { λ r. ⌜ r ≡ countedBy (listedFrom (take n (now (buffer .entry))) (length (now (out .entry)))) ⌝ }
+    ensures { λ r. ⌜ ((whole : List ℕ) → take (length (now (buffer .entry))) whole ≡ take n (now (buffer .entry)) → r ≡ wholeAnswer whole) ⌝ }
+    ensures { λ r. ⌜ now (out .exit) ≡ wordsAfter (take n (now (buffer .entry))) (now (out .entry)) ⌝ }
 {
-    list_input(input, out)
+    list_input(&buffer[..n], out)
 }
