@@ -3,3 +3,4 @@ pub mod DivisionLaws
 pub mod GrammarLaws
 pub mod RecordLaws
 pub mod AnswerLaws
+pub mod FewLaws
