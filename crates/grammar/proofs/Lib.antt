@@ -3,3 +3,5 @@ pub mod DivisionLaws
 pub mod GrammarLaws
 pub mod RecordLaws
 pub mod AnswerLaws
+pub mod TailLaws
+pub mod MedialLaws
