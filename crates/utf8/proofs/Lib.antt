@@ -2,3 +2,4 @@ pub mod TableLaws
 pub mod LeadLaws
 pub mod SequenceLaws
 pub mod TextLaws
+pub mod EncodedLaws
