@@ -4,3 +4,5 @@ pub mod GrammarLaws
 pub mod RecordLaws
 pub mod AnswerLaws
 pub mod FewLaws
+pub mod TailLaws
+pub mod MedialLaws

@@ -3,3 +3,4 @@ pub mod TableLaws
 pub mod LeadLaws
 pub mod SequenceLaws
 pub mod TextLaws
+pub mod EncodedLaws
