@@ -181,8 +181,8 @@ pub fn dotted() -> String {
     filled(|| {
         let mut name = rng.pick(&KEYS).to_string();
         for _ in 0..rng.below(3) {
-            name.push_str(["-", "."][rng.below(2)]);
-            name.push_str(*rng.pick(&KEYS));
+            let (medial, part) = (*rng.pick(&["-", "."]), *rng.pick(&KEYS));
+            name = name + medial + part;
         }
         name + *rng.pick(&[" ", " ", "  ", "\n"])
     })

@@ -118,7 +118,7 @@ fn lister_output() {
     assert_eq!(lister(&good), "tokens 3\nidentifier 0 5\nwhitespace 5 6\nsyntax 6 7\n");
     assert_eq!(lister(&[&m()[..], b"a 1"].concat()), "refused 7 2\n");
     let long = [&m()[..], &[b'a'; MAX_SCRIPT]].concat();
-    assert_eq!(lister(&long), "tokens 1\nidentifier 0 8192\n");
+    assert_eq!(lister(&long), format!("tokens 1\nidentifier 0 {MAX_SCRIPT}\n"));
     assert_eq!(lister(&[&long[..], b"a"].concat()), "refused 5\n");
 }
 
