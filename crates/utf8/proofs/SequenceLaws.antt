@@ -12,7 +12,7 @@ use Rattle.utf8.specs.declared.Step.{Step}
 use Rattle.utf8.specs.declared.Step.the-variants.{Scalar, IllFormed, End}
 use Rattle.utf8.specs.Scalar.{isScalar, below-surrogates, above-surrogates}
 use Rattle.utf8.specs.Table.{Bytes, _to_, Row, table, inside, fits, Fills, FillsOne, Sequence, codePoint}
-use Rattle.utf8.specs.Head.{stepIn, stepOf, NoSequence, StepMeans, sequence, no-sequence, empty}
+use Rattle.utf8.specs.Head.{stepIn, stepOf, IllHead, NoSequence, StepMeans, sequence, no-sequence, empty}
 use Rattle.utf8.proofs.ScalarLaws.{means-scalar}
 use Rattle.utf8.proofs.TableLaws.{inside-in, inside-out, inside-above}
 use Rattle.utf8.proofs.LeadLaws.{rising, rising-parts}
@@ -96,14 +96,8 @@ unfolding stepOf
 sequence-of-step [] x n e = impossible (cc)
 sequence-of-step (b ∷ s) x n e = sequence-found (b ∷ s) x n e
 
--- decoding looks at no more bytes than it takes
-pub looks-no-further : (s t : List ℕ) (x n : ℕ) → stepOf s ≡ Scalar x n → stepOf (take n s ++ t) ≡ Scalar x n
-looks-no-further s t x n e =
-    let f = sequence-of-step s x n e in
-    step-of-sequence (take n s) t (f .sequence) ∙ (λ i. Scalar (sym (f .code) i) (sym (f .long) i))
-
 -- where the head is ill-formed no sequence begins
-pub no-sequence-at : (s : List ℕ) → stepOf s ≡ IllFormed → NoSequence s
+pub no-sequence-at : (s : List ℕ) → IllHead s → NoSequence s
 no-sequence-at s e q r p f =
     let g = step-of-sequence q r f in
     let h = ap stepOf p in
@@ -126,7 +120,7 @@ pub step-empty : stepOf [] ≡ End
 unfolding stepOf
 step-empty = refl
 
-pub ill-not-empty : (s : List ℕ) → stepOf s ≡ IllFormed → 0 < length s
+pub ill-not-empty : (s : List ℕ) → IllHead s → 0 < length s
 ill-not-empty [] e = let f = step-empty in impossible (cc)
 ill-not-empty (b ∷ s) e = omega arith
 

@@ -18,6 +18,10 @@ unfoldable pub stepOf : List ℕ → Step
 stepOf [] = End
 stepOf (b ∷ s) = stepIn table (b ∷ s)
 
+-- ill-formed at the head
+abbrev pub IllHead : List ℕ → Type 0
+IllHead s = stepOf s ≡ IllFormed
+
 -- no well-formed sequence begins the text
 abbrev pub NoSequence : List ℕ → Type 0
 NoSequence s = (q r : List ℕ) → s ≡ q ++ r → Sequence q → ⊥
