@@ -15,7 +15,7 @@ use Rattle.utf8.specs.Table.{Bytes, _to_, Row, table, inside, fits, Fill
 use Rattle.utf8.specs.Head.{stepIn, stepOf, IllHead, NoSequence, StepMeans, sequence, no-sequence, empty}
 use Rattle.utf8.proofs.ScalarLaws.{means-scalar}
 use Rattle.utf8.proofs.TableLaws.{inside-in, inside-out, inside-above}
-use Rattle.utf8.proofs.LeadLaws.{rising, rising-parts}
+use Rattle.utf8.proofs.LeadLaws.{rising, rising-parts, at-end}
 
 -- a row and the bytes that fill it
 fills-fits : (gs : Row) (q t : List ℕ) → Fills gs q → (fits gs (q ++ t) ≡ true) × (length gs ≡ length q) × (take (length gs) (q ++ t) ≡ q)
@@ -32,22 +32,23 @@ fits-fills (g ∷ gs) (b ∷ s) e =
     let h = fits-fills gs s (and-right (inside g b) (fits gs s) e) in
     ((o .0, o .1, h .0), ap suc (h .1))
 
--- what a step says of the bytes at the head
+-- what a step says of the bytes at the head; it never says that nothing is left
 abbrev Found : List Row → List ℕ → Step → Type 0
 Found rs s (Scalar x n) = FillsOne rs (take n s) × (x ≡ codePoint (take n s)) × (n ≡ length (take n s))
 Found rs s IllFormed = Unit {0}
-Found rs s End = Unit {0}
+Found rs s End = ⊥
 
 later-row : (r : Row) (rs : List Row) (s : List ℕ) (t : Step) → Found rs s t → Found (r ∷ rs) s t
 later-row r rs s (Scalar x n) f = (inr (f .0), f .1, f .2)
 later-row r rs s IllFormed f = tt
-later-row r rs s End f = tt
 
 found : (rs : List Row) (s : List ℕ) → Found rs s (stepIn rs s)
 found [] s = tt
 found (r ∷ rs) s = go (found rs s) (fits r s) refl
   where
-    go : Found rs s (stepIn rs s) → (t : Bool) → fits r s ≡ t → Found (r ∷ rs) s (cond t (Scalar (codePoint (take (length r) s)) (length r)) (stepIn rs s))
+    go :
+        Found rs s (stepIn rs s) → (t : Bool) → fits r s ≡ t
+        → Found (r ∷ rs) s (cond t (Scalar (codePoint (take (length r) s)) (length r)) (stepIn rs s))
     go ih true e = let h = fits-fills r s e in (inl (h .0), refl, h .1)
     go ih false e = later-row r rs s (stepIn rs s) ih
 
@@ -57,7 +58,9 @@ rises ([] ∷ rs) m b q t f = impossible (cc)
 rises ((g ∷ gs) ∷ rs) m b q t (inl f) = let p = rising-parts m g gs rs t in omega arith
 rises ((g ∷ gs) ∷ rs) m b q t (inr f) = let p = rising-parts m g gs rs t in omega (arith, rises rs (suc (g .high)) b q (p .2) f)
 
-finds : (rs : List Row) (m b : ℕ) (q t : List ℕ) → rising m rs ≡ true → FillsOne rs (b ∷ q) → stepIn rs (b ∷ (q ++ t)) ≡ Scalar (codePoint (b ∷ q)) (length (b ∷ q))
+finds :
+    (rs : List Row) (m b : ℕ) (q t : List ℕ) → rising m rs ≡ true → FillsOne rs (b ∷ q)
+    → stepIn rs (b ∷ (q ++ t)) ≡ Scalar (codePoint (b ∷ q)) (length (b ∷ q))
 finds ([] ∷ rs) m b q t r f = impossible (cc)
 finds ((g ∷ gs) ∷ rs) m b q t r (inl f) =
     let h = fills-fits (g ∷ gs) (b ∷ q) t f in
@@ -87,14 +90,12 @@ pub record IsSequence (s : List ℕ) (x n : ℕ) : Type 0 where
   pub code : x ≡ codePoint (take n s)
   pub long : n ≡ length (take n s)
 
-sequence-found : (s : List ℕ) (x n : ℕ) → stepIn table s ≡ Scalar x n → IsSequence s x n
-unfolding Sequence
-sequence-found s x n e = let f : Found table s (Scalar x n) = rw e at (found table s) in record { sequence = f .0; code = f .1; long = f .2 }
-
 pub sequence-of-step : (s : List ℕ) (x n : ℕ) → stepOf s ≡ Scalar x n → IsSequence s x n
-unfolding stepOf
+unfolding stepOf Sequence
 sequence-of-step [] x n e = impossible (cc)
-sequence-of-step (b ∷ s) x n e = sequence-found (b ∷ s) x n e
+sequence-of-step (b ∷ s) x n e =
+    let f : Found table (b ∷ s) (Scalar x n) = rw e at (found table (b ∷ s)) in
+    record { sequence = f .0; code = f .1; long = f .2 }
 
 -- where the head is ill-formed no sequence begins
 pub no-sequence-at : (s : List ℕ) → IllHead s → NoSequence s
@@ -106,19 +107,10 @@ no-sequence-at s e q r p f =
 pub end-empty : (s : List ℕ) → stepOf s ≡ End → s ≡ []
 unfolding stepOf
 end-empty [] e = refl
-end-empty (b ∷ s) e = absurd (go table e)
-  where
-    go : (rs : List Row) → stepIn rs (b ∷ s) ≡ End → ⊥
-    go [] f = impossible (cc)
-    go (r ∷ rs) f = pick (go rs) (fits r (b ∷ s)) refl
-      where
-        pick : (stepIn rs (b ∷ s) ≡ End → ⊥) → (t : Bool) → fits r (b ∷ s) ≡ t → ⊥
-        pick ih true g = let h : Scalar (codePoint (take (length r) (b ∷ s))) (length r) ≡ End = rw (g, stepIn) at f in impossible (cc)
-        pick ih false g = ih (rw (g, stepIn) at f)
+end-empty (b ∷ s) e = absurd (rw e at (found table (b ∷ s)))
 
 pub step-empty : stepOf [] ≡ End
-unfolding stepOf
-step-empty = refl
+step-empty = sym (at-end [] refl)
 
 pub ill-not-empty : (s : List ℕ) → IllHead s → 0 < length s
 ill-not-empty [] e = let f = step-empty in impossible (cc)
@@ -180,7 +172,8 @@ row-4 : (g h : Bytes) → ((b c d e : ℕ) → within g b → within h c → lat
 row-4 g h k (b ∷ []) f = absurd (f .2)
 row-4 g h k (b ∷ c ∷ []) f = absurd (f .2 .2)
 row-4 g h k (b ∷ c ∷ d ∷ []) f = absurd (f .2 .2 .2)
-row-4 g h k (b ∷ c ∷ d ∷ e ∷ []) f = (omega arith, omega arith, k b c d e (f .0, f .1) (f .2 .0, f .2 .1) (f .2 .2 .0, f .2 .2 .1) (f .2 .2 .2 .0, f .2 .2 .2 .1))
+row-4 g h k (b ∷ c ∷ d ∷ e ∷ []) f =
+    (omega arith, omega arith, k b c d e (f .0, f .1) (f .2 .0, f .2 .1) (f .2 .2 .0, f .2 .2 .1) (f .2 .2 .2 .0, f .2 .2 .2 .1))
 row-4 g h k (b ∷ c ∷ d ∷ e ∷ x ∷ q) f = absurd (f .2 .2 .2 .2)
 
 -- one line for each row of the table
