@@ -13,10 +13,8 @@ use Rattle.refusal.specs.Refusal.{numberOf}
 use Rattle.refusal.specs.Outcome.{Outcome, given, refused, unless, refusedIf}
 use Rattle.utf8.specs.declared.Text.{Text}
 use Rattle.utf8.specs.declared.Text.the-variants as form
-use Rattle.utf8.specs.Table.{Sequence}
-use Rattle.utf8.specs.Text.{Character, Encoded, ends, takes, decode, textOf}
-use Rattle.utf8.proofs.SequenceLaws.{not-empty}
-use Rattle.utf8.proofs.TextLaws.{decode-means}
+use Rattle.utf8.specs.Text.{Character, decode, textOf}
+use Rattle.utf8.proofs.TextLaws.{characters-few}
 use Rattle.image.specs.Check.{refusalOf}
 use Rattle.image.proofs.ImageLaws.{refusal-number}
 use Rattle.grammar.specs.Scan.{Tok}
@@ -29,22 +27,11 @@ use Rattle.grammar.specs.Reading.{maxText, meaningOf, readingOf, tokensO
 use Rattle.grammar.proofs.GrammarLaws.{tokens-divide}
 use Rattle.grammar.proofs.AnswerLaws.{counts-given, roomed-in, roomed-given}
 
--- a sequence has a byte, and a token a unit
-sequence-some : (q : List ℕ) → Sequence q → 0 < length q
-sequence-some [] f = absurd (not-empty f)
-sequence-some (b ∷ q) f = omega arith
-
+-- a token has a unit
 token-some : {A : Type 0} (m : Meaning A) (k : Kind) (u : List A) → Token m k u → 0 < length u
 token-some m identifier u t = let l = ap length (t .whole) in omega arith
 token-some m syntax u t = let l = ap length (t .whole) in omega arith
 token-some m whitespace u t = let l = ap length (t .whole) in omega arith
-
-few-characters : {s rest : List ℕ} {cs : List Character} → Encoded s cs rest → length cs ≤ length s
-few-characters (ends n) = omega arith
-few-characters (takes q r e f c) =
-    let i = few-characters c in
-    let l = ap length e ∙ length-append q r in
-    omega (arith, sequence-some q f)
 
 few-divided : {A : Type 0} (m : Meaning A) {s left : List A} {ts : List (Tok A Kind)} → Division (Token m) s ts left → length ts ≤ length s
 few-divided m (division.ends n) = omega arith
@@ -56,7 +43,7 @@ few-divided m (division.takes {k = k} {u = u} {rest = r} l d) =
 module _ (s text : List ℕ) where
   pub few-tokens : length (tokensOf s text) ≤ length text
   unfolding readingOf
-  few-tokens = omega (arith, few-divided (meaningOf s) (tokens-divide (meaningOf s) (decode text .characters)), few-characters (decode-means text))
+  few-tokens = omega (arith, few-divided (meaningOf s) (tokens-divide (meaningOf s) (decode text .characters)), characters-few text)
 
   -- an outcome is a refusal of 1 to 7, or no more tokens than the text has bytes
   abbrev Read : Outcome (List (Tok Character Kind)) → Type 0

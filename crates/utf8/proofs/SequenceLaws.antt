@@ -78,6 +78,11 @@ pub not-empty : Sequence [] → ⊥
 unfolding Sequence
 not-empty f = nothing-fills table 0 refl f
 
+-- no sequence begins where nothing is left
+pub none-empty : (s : List ℕ) → s ≡ [] → NoSequence s
+none-empty s e [] r p f = not-empty f
+none-empty s e (b ∷ q) r p f = impossible (cc)
+
 -- a sequence is found wherever it stands at the head, whatever follows
 pub step-of-sequence : (q t : List ℕ) → Sequence q → stepOf (q ++ t) ≡ Scalar (codePoint q) (length q)
 unfolding stepOf Sequence

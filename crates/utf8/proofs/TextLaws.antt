@@ -7,8 +7,7 @@ use mathlib.Core.List.{List, [], _∷_}
 use native.Mathlib.Nat.{add-assoc}
 use native.Mathlib.Omega.{arith}
 use lib.ListN.{length, take, drop, getD, length-append, length-take, length-drop, take-append-drop, drop-of-length-le}
-use lib.Seq.{drop-drop, drop-append-seam, drop-append-add, take-append-add, getD-drop}
-use Rattle.lists.proofs.BoolLaws.{impossible}
+use lib.Seq.{drop-drop, drop-append-seam, getD-drop}
 use Rattle.utf8.specs.declared.Step.{Step}
 use Rattle.utf8.specs.declared.Step.the-variants.{Scalar, IllFormed, End}
 use Rattle.utf8.specs.declared.Text.{Text}
@@ -38,6 +37,7 @@ use Rattle.utf8.specs.Text.{
 }
 use Rattle.utf8.proofs.ScalarLaws.{scalar-le}
 use Rattle.utf8.proofs.LeadLaws.{ascii}
+use Rattle.utf8.proofs.EncodedLaws.{Covers, AllScalar, encoded-scalar, encoded-few, encoded-covers, encoded-before}
 use Rattle.utf8.proofs.SequenceLaws.{
   sequence-of-step,
   step-of-sequence,
@@ -47,7 +47,7 @@ use Rattle.utf8.proofs.SequenceLaws.{
   step-means,
   end-empty,
   ill-not-empty,
-  not-empty,
+  none-empty,
 }
 
 -- a sequence has one to four bytes, all within the text, and stands for a scalar value
@@ -86,11 +86,6 @@ unpacked-by s End e h = let l = ap length (end-empty s e) in absurd (omega arith
 
 pub unpacked : (s : List ℕ) (d : ℕ) → d ≡ packed (stepOf s) → 0 < length s → Unpacked s d
 unpacked s d e h = subst (λ (k : ℕ). Unpacked s k) (sym e) (unpacked-by s (stepOf s) refl h)
-
--- no sequence begins where nothing is left
-pub none-empty : (s : List ℕ) → s ≡ [] → NoSequence s
-none-empty s e [] r p f = not-empty f
-none-empty s e (b ∷ q) r p f = impossible (cc)
 
 none-end : (s : List ℕ) → stepOf s ≡ End → NoSequence s
 none-end s e = none-empty s (end-empty s e)
@@ -159,29 +154,12 @@ decode-end s e = means-decode (ends (none-end s e))
 pub decode-empty : decode [] ≡ ended []
 decode-empty = means-decode (ends (none-empty [] refl))
 
--- every character is a scalar value
-abbrev pub AllScalar : List Character → Type 0
-AllScalar [] = Unit {0}
-AllScalar (c ∷ cs) = (isScalar (c .code) ≡ true) × AllScalar cs
-
-encoded-scalar : {s r : List ℕ} {cs : List Character} → Encoded s cs r → AllScalar cs
-encoded-scalar (ends n) = tt
-encoded-scalar (takes q r e f d) = (sequence-scalar q f, encoded-scalar d)
-
+-- so of the characters of a text: they are scalar values, no more than bytes, and cover it up to the rest
 pub characters-scalar : (s : List ℕ) → AllScalar (decode s .characters)
 characters-scalar s = encoded-scalar (decode-means s)
 
--- the characters' bytes and the rest are the text
-pub record Covers (s : List ℕ) (w : ℕ) (r : List ℕ) : Type 0 where
-  pub within : w ≤ length s
-  pub after : drop w s ≡ r
-
-encoded-covers : {s r : List ℕ} {cs : List Character} → Encoded s cs r → Covers s (widthOf cs) r
-encoded-covers (ends n) = record { within = omega arith; after = refl }
-encoded-covers (takes {cs = cs} q r e f d) =
-    let c = encoded-covers d in
-    let l = ap length e ∙ length-append q r in
-    record { within = omega (arith, c .within); after = ap (drop (length q + widthOf cs)) e ∙ drop-append-add q r (widthOf cs) ∙ c .after }
+pub characters-few : (s : List ℕ) → length (decode s .characters) ≤ length s
+characters-few s = encoded-few (decode-means s)
 
 pub decode-covers : (s : List ℕ) → Covers s (widthOf (decode s .characters)) (decode s .rest)
 decode-covers s = encoded-covers (decode-means s)
@@ -189,26 +167,7 @@ decode-covers s = encoded-covers (decode-means s)
 pub covers : (s : List ℕ) → Covers s (widthOf (decode s .characters)) (decode s .rest)
 covers = decode-covers
 
--- a text splits at each boundary between characters
-encoded-after :
-    {s r : List ℕ} {cs : List Character} (n : ℕ) → n ≤ length cs → Encoded s cs r → Encoded (drop (widthOf (take n cs)) s) (drop n cs) r
-encoded-after zero h d = d
-encoded-after (suc n) h (ends m) = absurd (omega arith)
-encoded-after (suc n) h (takes {cs = cs} {rest = t} q r e f d) =
-    let g = ap (drop (length q + widthOf (take n cs))) e ∙ drop-append-add q r (widthOf (take n cs)) in
-    subst (λ (u : List ℕ). Encoded u (drop n cs) t) (sym g) (encoded-after n (omega arith) d)
-
-pub decode-at-boundary :
-    (s : List ℕ) (n : ℕ) → n ≤ length (decode s .characters)
-    → decode (drop (widthOf (take n (decode s .characters))) s) ≡ record { characters = drop n (decode s .characters); rest = decode s .rest }
-decode-at-boundary s n h = means-decode (encoded-after n h (decode-means s))
-
 -- the text up to its first ill-formed place is well-formed, with the same characters
-encoded-before : {s r : List ℕ} {cs : List Character} → Encoded s cs r → Encoded (take (widthOf cs) s) cs []
-encoded-before (ends n) = ends (none-empty [] refl)
-encoded-before (takes {cs = cs} q r e f d) =
-    takes q (take (widthOf cs) r) (ap (take (length q + widthOf cs)) e ∙ take-append-add q r (widthOf cs)) f (encoded-before d)
-
 pub decode-before-ill : (s : List ℕ) → decode (take (widthOf (decode s .characters)) s) ≡ record { characters = decode s .characters; rest = [] }
 decode-before-ill s = means-decode (encoded-before (decode-means s))
 
@@ -246,9 +205,6 @@ ill-rest s p e = go (text-means s (text.IllFormed p) e)
   where
     go : TextMeans s (text.IllFormed p) → (p ≡ widthOf (decode s .characters)) × (0 < length (decode s .rest))
     go (ill-formed d l q) = rw (means-decode d) (q, l)
-
-pub rest-ill : (s : List ℕ) → 0 < length (decode s .rest) → textOf s ≡ text.IllFormed (widthOf (decode s .characters))
-rest-ill s l = means-text s _ (ill-formed (decode-means s) l refl)
 
 -- an ill-formed place is within the text
 pub ill-within : (s : List ℕ) (p : ℕ) → textOf s ≡ text.IllFormed p → p < length s
