@@ -1,8 +1,6 @@
 pub mod Stability
-pub mod KindsStable
-pub mod RoleLaws
-pub mod OutcomeLaws
+pub mod DividedLaws
+pub mod MeansLaws
 pub mod Demand2
 pub mod Demand3
-pub mod PairPromise
 pub mod CasesHold

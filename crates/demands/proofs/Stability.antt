@@ -1,14 +1,86 @@
--- Newer rules that are steady read the same tokens as the older ones, unless the older reading stopped where the newer may go on. Assumes nothing.
-use mathlib.Core.Path.{_≡_, refl, sym, _∙_, ap}
-use mathlib.Core.Bool.{Bool, true, false}
-use mathlib.Core.List.{List, [], _∷_, _++_}
-use mathlib.Core.Option.{Option, none, some}
+-- A newer meaning of the units keeps the older division of a text, unless that ended at a unit that changed, or at a medial before one.
+-- Over the tokens of the grammar: no reader is known here. Assumes nothing.
+use Prim.Native.Nat.{ℕ, suc, _≤_, _<_}
+use mathlib.Core.Path.{_≡_, refl, sym, ap, subst, _∙_}
+use mathlib.Core.Bool.{Bool, true, false, true≢false}
+use mathlib.Core.List.{List, [], _∷_, _++_, append-assoc}
+use mathlib.Core.Option.{some}
 use mathlib.Core.Logic.{_⊎_, inl, inr}
-use Prim.Native.Nat.{ℕ, suc, _≤_}
 use native.Mathlib.Omega.{arith}
-use lib.ListN.{length}
-use Rattle.grammar.specs.Scan.{Tok, Reading, Rules, grown, opened, goes, walk, reading}
-use Rattle.grammar.proofs.ScanLaws.{walk-nil, walk-more, walk-stop, walk-open, walk-ends}
+use native.Mathlib.Decide.{decLt}
+use lib.ListN.{length, length-append}
+use Rattle.lists.proofs.BoolLaws.{impossible}
+use Rattle.image.specs.Class.{Class, Unassigned, White, class-discrete}
+use Rattle.image.specs.Permitted.{
+  Permitted,
+  same,
+  unassigned-start,
+  unassigned-nonstart,
+  unassigned-other,
+  other-start,
+  other-nonstart,
+  nonstart-start,
+}
+use Rattle.grammar.specs.All.{All}
+use Rattle.grammar.specs.Scan.{Tok}
+use Rattle.grammar.specs.Division.{Longest, NoToken, Division, ends, takes}
+use Rattle.grammar.specs.Meaning.{Meaning}
+use Rattle.grammar.specs.Grammar.{Kind, identifier, syntax, whitespace, Continue, IsContinue, IsMedial, IsWhite, Identifier, Token}
+use Rattle.grammar.specs.Kinds.{isContinue, kindOfClass}
+use Rattle.grammar.proofs.GrammarLaws.{continue-means, continue-test, first-class, fits, tokens-divide}
+use Rattle.grammar.proofs.TailLaws.{Tail, no-more, continued, linked, Begun, identifier-begun, begun-identifier, tail-append, tail-from}
+use Rattle.demands.specs.Firm.{Allowed, Settled, Changed, Firm, Touched}
+
+-- a Continue stays one; a class that begins a token doesn't change; nothing becomes White
+keeps-continue : {a b : Class} → Permitted a b → Continue a → Continue b
+keeps-continue (same p) e = subst Continue p e
+keeps-continue unassigned-start e = inl refl
+keeps-continue unassigned-nonstart e = inr refl
+keeps-continue unassigned-other e = impossible (no-class e)
+  where
+    no-class : Continue Unassigned → _≡_ {A = ℕ} 0 1
+    no-class (inl e) = cc
+    no-class (inr e) = cc
+keeps-continue other-start e = inl refl
+keeps-continue other-nonstart e = inr refl
+keeps-continue nonstart-start e = inl refl
+
+keeps-first : {a b : Class} → Permitted a b → (k : Kind) → kindOfClass a ≡ some k → b ≡ a
+keeps-first (same p) k e = sym p
+keeps-first unassigned-start k e = cc
+keeps-first unassigned-nonstart k e = cc
+keeps-first unassigned-other k e = cc
+keeps-first other-start k e = cc
+keeps-first other-nonstart k e = cc
+keeps-first nonstart-start k e = cc
+
+was-white : {a b : Class} → Permitted a b → b ≡ White → a ≡ White
+was-white (same p) e = p ∙ e
+was-white unassigned-start e = cc
+was-white unassigned-nonstart e = cc
+was-white unassigned-other e = cc
+was-white other-start e = cc
+was-white other-nonstart e = cc
+was-white nonstart-start e = cc
+
+module _ {A : Type 0} where
+  all-split : (P : A → Type 0) (u r : List A) → All P (u ++ r) → All P u × All P r
+  all-split P [] r a = (tt, a)
+  all-split P (c ∷ u) r a = let b = all-split P u r (a .1) in ((a .0, b .0), b .1)
+
+  all-map : {P Q R : A → Type 0} → ((c : A) → P c → Q c → R c) → (u : List A) → All P u → All Q u → All R u
+  all-map f [] a b = tt
+  all-map f (c ∷ u) a b = (f c (a .0) (b .0), all-map f u (a .1) (b .1))
+
+  -- of two beginnings of one text the longer goes on after the shorter
+  beyond : (u v r w : List A) → u ++ r ≡ v ++ w → length u < length v → (d : A) × (x : List A) × (v ≡ u ++ d ∷ x) × (r ≡ d ∷ (x ++ w))
+  beyond u [] r w e h = absurd (omega arith)
+  beyond [] (d ∷ v) r w e h = (d, v, refl, e)
+  beyond (c ∷ u) (d ∷ v) r w e h =
+      let f : u ++ r ≡ v ++ w = cc in
+      let b = beyond u v r w f (omega arith) in
+      let g : d ≡ c = cc in
+      (b .0, b .1, (λ i. g i ∷ b .2 i), b .3)
 
 -- a list without its last two
 abbrev pub butTwo : {T : Type 0} → List T → List T
@@ -17,92 +89,203 @@ butTwo (a ∷ []) = []
 butTwo (a ∷ b ∷ []) = []
 butTwo (a ∷ b ∷ c ∷ r) = a ∷ butTwo (b ∷ c ∷ r)
 
--- R are the older rules, N the newer; `Allowed s` says that the units of s have changed as they may,
--- `Firm s` that a reading which stops at s isn't touched by the changes
-module _ {A K : Type 0} (R N : Rules A K) (Allowed Firm : List A → Type 0) where
-  -- at least n tokens follow, or the reading stops at firm units
-  abbrev pub Sure : ℕ → Reading A K → Type 0
-  Sure n w = (n ≤ length (w .tokens)) ⊎ Firm (w .left)
+module _ {A : Type 0} (older newer : Meaning A) where
+  abbrev AllAllowed : List A → Type 0
+  AllAllowed s = All (Allowed older newer) s
 
-  -- what the newer rules must keep
-  pub record Steady : Type 0 where
-    pub tail : (c : A) (r : List A) → Allowed (c ∷ r) → Allowed r
-    pub goes-on : (k : K) (c : A) (r : List A) → Allowed (c ∷ r) → R .more k (c ∷ r) ≡ true → N .more k (c ∷ r) ≡ true
-    pub ends : (k : K) (c : A) (r : List A) → Allowed (c ∷ r) → Sure 2 (reading R (c ∷ r)) → R .more k (c ∷ r) ≡ false → N .more k (c ∷ r) ≡ false
-    pub begins : (k : K) (c : A) (r : List A) → Allowed (c ∷ r) → R .kindOf c ≡ some k → N .kindOf c ≡ some k
-    pub begins-none : (c : A) (r : List A) → Firm (c ∷ r) → R .kindOf c ≡ none → N .kindOf c ≡ none
+  settled-or-changed : (r : List A) → Settled older newer r ⊎ Changed older newer r
+  settled-or-changed [] = inl tt
+  settled-or-changed (c ∷ r) = go (class-discrete (newer .class c) (older .class c))
+    where
+      go : Dec (newer .class c ≡ older .class c) → Settled older newer (c ∷ r) ⊎ Changed older newer (c ∷ r)
+      go (yes p) = inl p
+      go (no n) = inr n
 
-  module _ (S : Steady) where
-    goes-still : (k : Option K) (c : A) (r : List A) → Allowed (c ∷ r) → goes R k (c ∷ r) ≡ true → goes N k (c ∷ r) ≡ true
-    goes-still none c r a e = e
-    goes-still (some k) c r a e = S .goes-on k c r a e
+  -- units are firm, or they are touched
+  pub firm-or-touched : (r : List A) → Firm older newer r ⊎ Touched older newer r
+  firm-or-touched [] = inl tt
+  firm-or-touched (c ∷ r) = go (settled-or-changed (c ∷ r)) (older .medial c) refl (settled-or-changed r)
+    where
+      go : Settled older newer (c ∷ r) ⊎ Changed older newer (c ∷ r) → (b : Bool) → older .medial c ≡ b → Settled older newer r ⊎ Changed older newer r →
+          Firm older newer (c ∷ r) ⊎ Touched older newer (c ∷ r)
+      go (inr n) b m d = inr (inl n)
+      go (inl p) false m d = inl (p, λ t. absurd (true≢false (sym t ∙ m)))
+      go (inl p) true m (inl q) = inl (p, λ t. q)
+      go (inl p) true m (inr n) = inr (inr (m, n))
 
-    ends-still : (k : Option K) (c : A) (r : List A) → Allowed (c ∷ r) → Sure 2 (reading R (c ∷ r)) → goes R k (c ∷ r) ≡ false → goes N k (c ∷ r) ≡ false
-    ends-still none c r a g e = e
-    ends-still (some k) c r a g e = S .ends k c r a g e
+  -- a token stays a token
+  tail-stays : {r : List A} → AllAllowed r → Tail older r → Tail newer r
+  tail-stays a no-more = no-more
+  tail-stays a (continued e t) = continued (keeps-continue (a .0 .permitted) e) (tail-stays (a .1) t)
+  tail-stays a (linked e h t) = linked (a .0 .medial ∙ e) (keeps-continue (a .1 .0 .permitted) h) (tail-stays (a .1 .1) t)
 
-    abbrev Same : Option K → List A → Type 0
-    Same k s = Firm (walk R k s .left) → walk N k s ≡ walk R k s
+  token-stays : (k : Kind) (u : List A) → AllAllowed u → Token older k u → Token newer k u
+  token-stays identifier u a t =
+      let b = identifier-begun older t in
+      let c : AllAllowed (b .first ∷ b .after) = rw (b .whole) at a in
+      begun-identifier newer (record {
+        first = b .first;
+        after = b .after;
+        whole = b .whole;
+        start = keeps-first (c .0 .permitted) identifier (ap kindOfClass (b .start)) ∙ b .start;
+        tail = tail-stays (c .1) (b .tail);
+      })
+  token-stays syntax u a t =
+      let c : AllAllowed (t .only ∷ []) = rw (t .whole) at a in
+      record { only = t .only; whole = t .whole; class = keeps-first (c .0 .permitted) syntax (ap kindOfClass (t .class)) ∙ t .class }
+  token-stays whitespace u a t =
+      let c : AllAllowed (t .first ∷ t .others) = rw (t .whole) at a in
+      record {
+        first = t .first;
+        others = t .others;
+        whole = t .whole;
+        white = all-map (λ d p e. keeps-first (p .permitted) whitespace (ap kindOfClass e) ∙ e) (t .first ∷ t .others) c (t .white);
+      }
 
-    same-step : (k : Option K) (c : A) (r : List A) → Allowed (c ∷ r) → Same k r → ((j : K) → Same (some j) r) →
-        (b : Bool) → goes R k (c ∷ r) ≡ b → (o : Option K) → R .kindOf c ≡ o → Same k (c ∷ r)
-    same-step k c r a here there true e o f g =
-        let older = walk-more R k c r e in
-        walk-more N k c r (goes-still k c r a e) ∙ ap (grown c) (here (rw older at g)) ∙ sym older
-    same-step k c r a here there false e none f g =
-        let older = walk-stop R k c r e f in
-        let ended = ends-still k c r a (inr (rw (walk-ends R k c r e) at g)) e in
-        walk-stop N k c r ended (S .begins-none c r (rw older at g) f) ∙ sym older
-    same-step k c r a here there false e (some j) f g =
-        let older = walk-open R k c r j e f in
-        let ended = ends-still k c r a (inr (rw (walk-ends R k c r e) at g)) e in
-        walk-open N k c r j ended (S .begins j c r a f) ∙ ap (opened j c) (there j (rw older at g)) ∙ sym older
+  -- the first unit of a text that begins with a token has the class that it had
+  token-settled : (k : Kind) (u r : List A) → AllAllowed (u ++ r) → Token older k u → Settled older newer (u ++ r)
+  token-settled k u r a t =
+      let (c, v, e, f) = fits older .starts k u t in
+      let b : AllAllowed (c ∷ (v ++ r)) = rw e at a in
+      rw e (keeps-first (b .0 .permitted) k f)
 
-    same : (k : Option K) (s : List A) → Allowed s → Same k s
-    same k [] a g = walk-nil N k ∙ sym (walk-nil R k)
-    same k (c ∷ r) a g =
-        let b = S .tail c r a in
-        same-step k c r a (same k r b) (λ j. same (some j) r b) (goes R k (c ∷ r)) refl (R .kindOf c) refl g
+  -- at least n tokens follow, or firm units
+  data Sure (n : ℕ) (ts : List (Tok A Kind)) (left : List A) : Type 0 where
+    enough : n ≤ length ts → Sure n ts left
+    firm : Firm older newer left → Sure n ts left
 
-    -- tokens and what is left stay, where the older reading stopped at firm units
-    pub reading-stable : (s : List A) → Allowed s → Firm (reading R s .left) → reading N s ≡ reading R s
-    reading-stable s a g = same none s a g
+  less : {ts : List (Tok A Kind)} {left : List A} → Sure 2 ts left → Sure 1 ts left
+  less (enough h) = enough (omega arith)
+  less (firm g) = firm g
 
-    -- where two tokens or more follow, the token under way ends where it did; and all tokens but the last two are read again
-    abbrev Kept : Reading A K → Reading A K → Type 0
-    Kept w v = (2 ≤ length (w .tokens) → v .run ≡ w .run) × ((us : List (Tok A K)) × (v .tokens ≡ butTwo (w .tokens) ++ us))
+  after-one : {t : Tok A Kind} {ts : List (Tok A Kind)} {left : List A} → Sure 2 (t ∷ ts) left → Sure 1 ts left
+  after-one (enough h) = enough (omega arith)
+  after-one (firm g) = firm g
 
-    kept-open : (j : K) (c : A) (u left : List A) (ts : List (Tok A K)) (v x : Reading A K) → Kept (record { run = u; tokens = ts; left = left }) v →
-        (2 ≤ suc (length ts) → x ≡ opened j c v) → Kept (opened j c (record { run = u; tokens = ts; left = left })) x
-    kept-open j c u left [] v x ih s = (λ h. absurd (omega arith), (x .tokens, refl))
-    kept-open j c u left (t₁ ∷ []) v x ih s = (λ h. ap (λ y. y .run) (s h), (x .tokens, refl))
-    kept-open j c u left (t₁ ∷ t₂ ∷ ts) v x ih s =
-        let e = s (omega arith) in
-        let p = ih .0 (omega arith) in
-        (λ h. ap (λ y. y .run) e, (ih .1 .0, ap (λ y. y .tokens) e ∙ (λ i. record { kind = j; units = c ∷ p i } ∷ ih .1 .1 i)))
+  settled : {r left : List A} {ts : List (Tok A Kind)} → AllAllowed r → Division (Token older) r ts left → Sure 1 ts left → Settled older newer r
+  settled a (ends n) (enough h) = absurd (omega arith)
+  settled {r} a (ends n) (firm g) = go r g
+    where
+      go : (s : List A) → Firm older newer s → Settled older newer s
+      go [] f = tt
+      go (c ∷ s) f = f .0
+  settled a (takes {k = k} {u = u} {rest = r} L d) g = rw (L .whole) (token-settled k u r (rw (L .whole) at a) (L .token))
 
-    opens-again : (k : Option K) (c : A) (r : List A) (j : K) → Allowed (c ∷ r) → goes R k (c ∷ r) ≡ false → R .kindOf c ≡ some j →
-        2 ≤ suc (length (walk R (some j) r .tokens)) → walk N k (c ∷ r) ≡ opened j c (walk N (some j) r)
-    opens-again k c r j a e f h =
-        walk-open N k c r j (ends-still k c r a (rw (walk-open R none c r j refl f) (inl h)) e) (S .begins j c r a f)
+  -- and so has the second, where the first is a medial and no Continue
+  next-settled : {c : A} {r left : List A} {ts : List (Tok A Kind)} → AllAllowed (c ∷ r) → (IsContinue older c → ⊥) → IsMedial older c →
+      Division (Token older) (c ∷ r) ts left → Sure 2 ts left → Settled older newer r
+  next-settled a n m (ends x) (enough h) = absurd (omega arith)
+  next-settled a n m (ends x) (firm g) = g .1 m
+  next-settled {c} {r} {left} a n m (takes {k = k} {u = u} {rest = rest} {ts = ts} L d) g = go k (L .token) (L .whole)
+    where
+      after : (x : A) (v : List A) → c ∷ r ≡ x ∷ (v ++ rest) → All (IsWhite older) v → Settled older newer r
+      after x [] e w = let f : r ≡ rest = cc in rw f (settled (rw f at (a .1)) d (after-one g))
+      after x (y ∷ v) e w =
+          let f : r ≡ y ∷ (v ++ rest) = cc in
+          let b : AllAllowed (y ∷ (v ++ rest)) = rw f at (a .1) in
+          rw f (keeps-first (b .0 .permitted) whitespace (ap kindOfClass (w .0)))
 
-    kept-step : (k : Option K) (c : A) (r : List A) → Allowed (c ∷ r) → Kept (walk R k r) (walk N k r) → ((j : K) → Kept (walk R (some j) r) (walk N (some j) r)) →
-        (b : Bool) → goes R k (c ∷ r) ≡ b → (o : Option K) → R .kindOf c ≡ o → Kept (walk R k (c ∷ r)) (walk N k (c ∷ r))
-    kept-step k c r a here there true e o f =
-        rw (walk-more R k c r e, walk-more N k c r (goes-still k c r a e)) (λ h. ap (λ x. c ∷ x) (here .0 h), here .1)
-    kept-step k c r a here there false e none f =
-        rw (walk-stop R k c r e f) (λ h. absurd (omega arith), (walk N k (c ∷ r) .tokens, refl))
-    kept-step k c r a here there false e (some j) f =
-        let w = walk R (some j) r in
-        rw (walk-open R k c r j e f)
-        (kept-open j c (w .run) (w .left) (w .tokens) (walk N (some j) r) (walk N k (c ∷ r)) (there j) (opens-again k c r j a e f))
+      go : (j : Kind) → Token older j u → c ∷ r ≡ u ++ rest → Settled older newer r
+      go identifier t e =
+          let i = identifier-begun older t in
+          let f : c ≡ i .first = let h = ap (λ x. x ++ rest) (i .whole) in cc in
+          absurd (n (inl (ap (older .class) f ∙ i .start)))
+      go syntax t e = after (t .only) [] (e ∙ ap (λ x. x ++ rest) (t .whole)) tt
+      go whitespace t e = after (t .first) (t .others) (e ∙ ap (λ x. x ++ rest) (t .whole)) (t .white .1)
 
-    kept : (k : Option K) (s : List A) → Allowed s → Kept (walk R k s) (walk N k s)
-    kept k [] a = rw (walk-nil R k, walk-nil N k) (λ h. refl, ([], refl))
-    kept k (c ∷ r) a =
-        let b = S .tail c r a in
-        kept-step k c r a (kept k r b) (λ j. kept (some j) r b) (goes R k (c ∷ r)) refl (R .kindOf c) refl
+  -- an identifier that is the longest is followed by no tail
+  grows : {s u rest : List A} → Longest (Token older) s identifier u rest → (x y : List A) → rest ≡ x ++ y → Tail older x → length x ≤ 0
+  grows {s} {u} {rest} L x y e t =
+      let b = identifier-begun older (L .token) in
+      let i = begun-identifier older (record { first = b .first; after = b .after ++ x; whole = ap (λ z. z ++ x) (b .whole); start = b .start; tail = tail-append older (b .tail) t }) in
+      let l = L .longest identifier (u ++ x) y (L .whole ∙ ap (λ z. u ++ z) e ∙ sym (append-assoc u x y)) i in
+      omega (arith, length-append u x)
 
-    -- whatever the older reading stopped at, the newer begins with all of its tokens but the last two
-    pub begins-again : (s : List A) → Allowed s → (us : List (Tok A K)) × (reading N s .tokens ≡ butTwo (reading R s .tokens) ++ us)
-    begins-again s a = kept none s a .1
+  no-continue : {s u r : List A} {x : A} → Longest (Token older) s identifier u (x ∷ r) → IsContinue older x → ⊥
+  no-continue {r = r} {x = x} L c = let l = grows L (x ∷ []) r refl (continued c no-more) in omega arith
+
+  -- nor by what is a tail for the newer meaning
+  stops : {s u left : List A} {ts : List (Tok A Kind)} (x : A) (r w : List A) → AllAllowed (x ∷ (r ++ w)) → Longest (Token older) s identifier u (x ∷ (r ++ w)) →
+      Division (Token older) (x ∷ (r ++ w)) ts left → Sure 2 ts left → Tail newer (x ∷ r) → ⊥
+  stops x r w a L d g (continued c t) = no-continue L (subst Continue (settled a d (less g)) c)
+  stops x r w a L d g (linked {c = y} {r = z} m c t) =
+      let e = sym (a .0 .medial) ∙ m in
+      let k : newer .class y ≡ older .class y = next-settled a (no-continue L) e d g in
+      let l = grows L (x ∷ y ∷ []) (z ++ w) refl (linked e (subst Continue k c) no-more) in
+      omega arith
+
+  -- no identifier of the newer meaning is longer than the older's longest
+  identifier-bound : {s u rest left : List A} {ts : List (Tok A Kind)} → AllAllowed s → Longest (Token older) s identifier u rest → Division (Token older) rest ts left → Sure 2 ts left →
+      (v w : List A) → s ≡ v ++ w → Identifier newer v → length u < length v → ⊥
+  identifier-bound {s} {u} {rest} {left} {ts} a L d g v w e t h =
+      let (x, z, p, q) = beyond u v rest w (sym (L .whole) ∙ e) h in
+      let b = identifier-begun older (L .token) in
+      let i = identifier-begun newer t in
+      let f : i .after ≡ b .after ++ x ∷ z = let r = ap (λ y. y ++ x ∷ z) (b .whole) in let k = i .whole in cc in
+      let c = all-split (Allowed older newer) u (x ∷ (z ++ w)) (rw (L .whole, q) at a) .1 in
+      stops x z w c (rw q at L) (rw q at d) g (tail-from newer (b .after) (rw f at (i .tail)))
+
+  -- the longest token stays the longest
+  keeps : {s u rest left : List A} {k : Kind} {ts : List (Tok A Kind)} → AllAllowed s → Longest (Token older) s k u rest → Division (Token older) rest ts left → Sure 2 ts left →
+      Longest (Token newer) s k u rest
+  keeps {s} {u} {rest} {left} {k} {ts} a L d g =
+      record { whole = L .whole; token = token-stays k u (all-split (Allowed older newer) u rest b .0) (L .token); longest = bound }
+    where
+      b : AllAllowed (u ++ rest)
+      b = rw (L .whole) at a
+
+      not-longer : (v w : List A) → s ≡ v ++ w → Identifier newer v → length u < length v → ⊥
+      not-longer v w e t h =
+          let (c, x, p, f) = fits older .starts k u (L .token) in
+          let i = identifier-begun newer t in
+          let y : i .first ≡ c = let z = i .whole in let q = ap (λ l. l ++ rest) p in let r = L .whole in cc in
+          let o : Settled older newer (c ∷ (x ++ rest)) = rw p at (token-settled k u rest b (L .token)) in
+          let j : identifier ≡ k = let z = ap kindOfClass (sym o ∙ ap (newer .class) (sym y) ∙ i .start) in cc in
+          identifier-bound a (rw (← j) at L) d g v w e t h
+
+      bound : (j : Kind) (v w : List A) → s ≡ v ++ w → Token newer j v → length v ≤ length u
+      bound identifier v w e t = go (decLt (length u) (length v))
+        where
+          go : Dec (length u < length v) → length v ≤ length u
+          go (yes h) = absurd (not-longer v w e t h)
+          go (no h) = omega arith
+      bound syntax v w e t =
+          let l = ap length (fits older .starts k u (L .token) .2) in
+          let m = ap length (t .whole) in
+          omega arith
+      bound whitespace v w e t =
+          let c : AllAllowed (t .first ∷ t .others) = rw (t .whole) at (all-split (Allowed older newer) v w (rw e at a) .0) in
+          L .longest whitespace v w e
+          (record { first = t .first; others = t .others; whole = t .whole; white = all-map (λ x p q. was-white (p .permitted) q) (t .first ∷ t .others) c (t .white) })
+
+  -- one unit of a class that begins a token is one
+  single : (k : Kind) (c : A) → kindOfClass (older .class c) ≡ some k → Token older k (c ∷ [])
+  single identifier c f = begun-identifier older (record { first = c; after = []; whole = refl; start = first-class (older .class c) identifier f; tail = no-more })
+  single syntax c f = record { only = c; whole = refl; class = first-class (older .class c) syntax f }
+  single whitespace c f = record { first = c; others = []; whole = refl; white = (first-class (older .class c) whitespace f, tt) }
+
+  none-begins : (s : List A) → Firm older newer s → NoToken (Token older) s → NoToken (Token newer) s
+  none-begins s g n j v w e t =
+      let (c, x, p, f) = fits newer .starts j v t in
+      let q : s ≡ c ∷ (x ++ w) = rw p at e in
+      let h : Firm older newer (c ∷ (x ++ w)) = rw q at g in
+      n j (c ∷ []) (x ++ w) q (single j c (ap kindOfClass (sym (h .0)) ∙ f))
+
+  -- tokens and what is left stay, where firm units are left
+  pub division-stable : {s left : List A} {ts : List (Tok A Kind)} → AllAllowed s → Firm older newer left → Division (Token older) s ts left → Division (Token newer) s ts left
+  division-stable {s} a g (ends n) = ends (none-begins s g n)
+  division-stable a g (takes {u = u} {rest = rest} L d) =
+      takes (keeps a L d (firm g)) (division-stable (all-split (Allowed older newer) u rest (rw (L .whole) at a) .1) g d)
+
+  -- whatever is left, the newer division begins with all tokens of the older but the last two
+  pub begins-again : {s left : List A} {ts : List (Tok A Kind)} → AllAllowed s → Division (Token older) s ts left →
+      (us : List (Tok A Kind)) × (rest : List A) × Division (Token newer) s (butTwo ts ++ us) rest
+  begins-again {s} a (ends n) = (_, _, tokens-divide newer s)
+  begins-again {s} {left} a (takes {k = k} {u = u} {rest = rest} {ts = ts} L d) =
+      go ts d (begins-again (all-split (Allowed older newer) u rest (rw (L .whole) at a) .1) d)
+    where
+      go : (ts : List (Tok A Kind)) → Division (Token older) rest ts left → (us : List (Tok A Kind)) × (l : List A) × Division (Token newer) rest (butTwo ts ++ us) l →
+          (us : List (Tok A Kind)) × (l : List A) × Division (Token newer) s (butTwo (record { kind = k; units = u } ∷ ts) ++ us) l
+      go [] d ih = (_, _, tokens-divide newer s)
+      go (t ∷ []) d ih = (_, _, tokens-divide newer s)
+      go (t ∷ t′ ∷ ts) d ih = (ih .0, ih .1, takes (keeps a L d (enough (omega arith))) (ih .2))

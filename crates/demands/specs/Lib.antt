@@ -1,5 +1,5 @@
+pub mod Demand2
+pub mod Means
 pub mod Firm
-pub mod Divided
-pub mod Promise
+pub mod Demand3
 pub mod Cases
-pub mod Yes

@@ -8,7 +8,7 @@ use Rattle.lists.specs.First.{firstWhere}
 use Rattle.lists.specs.Each.{column}
 use Rattle.utf8.specs.Scalar.{isScalar}
 use Rattle.image.specs.Word.{wordAt}
-use Rattle.image.specs.Limits.{maxEntries, entryBytes}
+use Rattle.image.specs.Limits.{maxEntries, wordBytes, entryBytes, firstRole, lastRole}
 use Rattle.image.specs.Class.{Start, Nonstart, Other, classNumber}
 use Rattle.image.specs.Header.{rangeCount, entryCount, entriesAt}
 use Rattle.image.specs.declared.Profile.{Profile}
@@ -18,7 +18,7 @@ unfoldable pub pointAt : List ℕ → ℕ → ℕ
 pointAt s i = wordAt s (entriesAt (rangeCount s) + entryBytes * i)
 
 unfoldable pub roleAt : List ℕ → ℕ → ℕ
-roleAt s i = wordAt s (entriesAt (rangeCount s) + entryBytes * i + 4)
+roleAt s i = wordAt s (entriesAt (rangeCount s) + entryBytes * i + wordBytes)
 
 -- the record with these code points, roles and used length
 abbrev pub profileBy : List ℕ → List ℕ → ℕ → Profile
@@ -31,10 +31,13 @@ pointIn p i = getD (p .points) i 0
 abbrev pub roleIn : Profile → ℕ → ℕ
 roleIn p i = getD (p .roles) i 0
 
--- a scalar value, a role of 1 to 4, and a code point above that of the entry before
+-- a scalar value and a role of 1 to 4
+unfoldable pub goodEntryAlone : ℕ → ℕ → Bool
+goodEntryAlone point role = isScalar point && (leb firstRole role && leb role lastRole)
+
+-- and a code point above that of the entry before
 unfoldable pub goodEntry : (ℕ → ℕ) → (ℕ → ℕ) → ℕ → Bool
-goodEntry point role i =
-    isScalar (point i) && (leb 1 (role i) && (leb (role i) 4 && (eqb i 0 || ltb (point (i - 1)) (point i))))
+goodEntry point role i = goodEntryAlone (point i) (role i) && (eqb i 0 || ltb (point (i - 1)) (point i))
 
 -- the index of the first bad entry of m, or m
 unfoldable pub firstBadEntry : (ℕ → ℕ) → (ℕ → ℕ) → ℕ → ℕ

@@ -1,20 +1,20 @@
 -- Classes in good ranges: good ranges rise, hold scalar values only, and have classes 1 to 5. Assumes nothing.
 use Prim.Native.Nat.{ℕ, _-_, _≤_, _<_}
-use mathlib.Core.Path.{_≡_, sym, _∙_}
-use mathlib.Core.Bool.{false, true≢false}
+use mathlib.Core.Path.{_≡_}
+use mathlib.Core.Bool.{false}
 use native.Mathlib.Omega.{arith}
-use Rattle.utf8.specs.Scalar.{isScalar}
+use Rattle.utf8.specs.Scalar.{isScalar, ScalarMeans, surrogate, past-last}
+use Rattle.utf8.proofs.ScalarLaws.{scalar-means}
 use Rattle.image.specs.Ranges.{classIn}
 use Rattle.image.specs.Good.{GoodRange}
 use Rattle.image.specs.declared.Range.{Range}
-use Rattle.image.proofs.GoodLaws.{good-range}
 use Rattle.lookup.specs.Placed.{GoodRanges, Rising}
 use Rattle.lookup.specs.Means.{HasClass, held, in-none}
 use Rattle.lookup.proofs.RisingLaws as rising
 
 module _ (at : ℕ → Range) (n : ℕ) (good : GoodRanges at n) where
   pub good-alone : (i : ℕ) → i < n → GoodRange at i
-  good-alone i l = good-range at i (good i l)
+  good-alone i l = good i l
 
   -- a range begins after the end of the one before
   pub good-follows : (i : ℕ) → 0 < i → i < n → at (i - 1) .last < at i .first
@@ -33,7 +33,11 @@ module _ (at : ℕ → Range) (n : ℕ) (good : GoodRanges at n) where
   module _ (x : ℕ) where
     -- no number but a scalar value has a class in the ranges
     pub class-scalar : isScalar x ≡ false → classIn at n x ≡ 0
-    class-scalar e = rising.class-none at n x (λ i l a b. true≢false (sym (good-alone i l .scalars x a b) ∙ e))
+    class-scalar e = rising.class-none at n x (λ i l a b. outside i l a b (scalar-means x false e))
+      where
+        outside : (i : ℕ) → i < n → at i .first ≤ x → x ≤ at i .last → ScalarMeans x false → ⊥
+        outside i l a b (surrogate p q) = good-alone i l .no-surrogate x a b p (omega arith)
+        outside i l a b (past-last p) = let r = good-alone i l .below in omega arith
 
     -- classes go to 5
     pub class-known : classIn at n x ≤ 5

@@ -1,12 +1,12 @@
 -- Ranges that rise, and the place of a number among them (docs/RULES.md, "The class image").
 use Prim.Native.Nat.{ℕ, _-_, _≤_, _<_}
 use Rattle.lists.specs.First.{AllGood}
-use Rattle.image.specs.Ranges.{goodRange}
+use Rattle.image.specs.Good.{GoodRange}
 use Rattle.image.specs.declared.Range.{Range}
 
 -- each of the n ranges is good
 abbrev pub GoodRanges : (ℕ → Range) → ℕ → Type 0
-GoodRanges at n = AllGood (goodRange at) n
+GoodRanges at n = AllGood (GoodRange at) n
 
 -- none of the n ranges is empty, and each begins after the end of the one before
 pub record Rising (at : ℕ → Range) (n : ℕ) : Type 0 where

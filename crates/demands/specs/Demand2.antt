@@ -2,10 +2,9 @@
 use Prim.Native.Nat.{ℕ, _≤_}
 use mathlib.Core.Path.{_≡_}
 use mathlib.Core.List.{List, [], _∷_}
-use mathlib.Core.Option.{none}
 use lib.ListN.{length}
 use Rattle.utf8.specs.Text.{Character, Encoded}
-use Rattle.image.specs.Check.{refusalOf}
+use Rattle.image.specs.Accepted.{Accepted}
 use Rattle.grammar.specs.Scan.{Tok}
 use Rattle.grammar.specs.Division.{Division}
 use Rattle.grammar.specs.Grammar.{Kind, Token}
@@ -14,7 +13,7 @@ use Rattle.grammar.specs.Reading.{maxText, meaningOf}
 
 -- an accepted image s; a text within the length limit; and its characters, in well-formed UTF-8 to its end
 pub record Readable (s text : List ℕ) (characters : List Character) : Type 0 where
-  pub image : refusalOf s ≡ none
+  pub image : Accepted s
   pub short : length text ≤ maxText
   pub wellFormed : Encoded text characters []
 

@@ -4,33 +4,35 @@ use mathlib.Core.Path.{_≡_}
 use mathlib.Core.Bool.{true}
 use mathlib.Core.List.{List, []}
 use mathlib.Core.Logic.{_⊎_}
-use mathlib.Core.Option.{none}
 use lib.ListN.{length, take, drop}
 use Rattle.refusal.specs.declared.Refusal.{Refusal}
-use Rattle.refusal.specs.declared.Refusal.the-variants.{Characters}
-use Rattle.refusal.specs.Refusal.{numberOf}
+use Rattle.refusal.specs.declared.Refusal.the-variants as refusal
+use Rattle.refusal.specs.Outcome.{Outcome, given, refused}
 use Rattle.utf8.specs.declared.Step.the-variants.{Scalar}
-use Rattle.utf8.specs.Scalar.{isScalar}
 use Rattle.utf8.specs.Head.{stepOf}
 use Rattle.utf8.specs.Text.{Character}
-use Rattle.image.specs.Class.{classNamed}
-use Rattle.image.specs.Profile.{profileOf}
-use Rattle.image.specs.Check.{refusalOf, rangeClass, classOf, medialOf}
+use Rattle.image.specs.Check.{classOf, medialOf}
+use Rattle.image.specs.Accepted.{Accepted}
+use Rattle.pair.specs.declared.Pair.the-variants as pair
+use Rattle.pair.specs.Pair.{pairOf}
+use Rattle.pair.specs.Means.{SameProfile, OnlyPermitted}
 use Rattle.grammar.specs.Scan.{Tok}
 use Rattle.grammar.specs.Grammar.{Kind}
-use Rattle.image.specs.Permitted.{Permitted}
-use Rattle.refusal.specs.Outcome.{Outcome, given, refused}
 use Rattle.grammar.specs.Record.{recordSize}
 use Rattle.grammar.specs.Reading.{countOf, listOf, listWords}
-use Rattle.demands.specs.Divided.{Divided, Stopped}
+use Rattle.demands.specs.Demand2.{Divided, Stopped}
 
--- two accepted images with equal profiles, the newer differing only by permitted changes:
+-- "any two accepted images with equal profiles, where the newer differs from the older only by changes that Table 1 of the annex permits":
 -- at every scalar value the two classes in the ranges are equal, or the change is permitted
 pub record Later (older newer : List ℕ) : Type 0 where
-  pub olderAccepted : refusalOf older ≡ none
-  pub newerAccepted : refusalOf newer ≡ none
-  pub profiles : profileOf newer ≡ profileOf older
-  pub permitted : (x : ℕ) → isScalar x ≡ true → Permitted (classNamed (rangeClass older x)) (classNamed (rangeClass newer x))
+  pub olderAccepted : Accepted older
+  pub newerAccepted : Accepted newer
+  pub profiles : SameProfile older newer
+  pub permitted : OnlyPermitted older newer
+
+-- the pair check of the two images says yes (docs/RULES.md, "Permitted changes")
+abbrev pub SaysYes : List ℕ → List ℕ → Type 0
+SaysYes older newer = pairOf older newer ≡ pair.Permitted
 
 -- the code point x begins at byte p of the text and has n bytes
 abbrev pub StandsAt : List ℕ → ℕ → ℕ → ℕ → Type 0
@@ -49,7 +51,7 @@ module _ (older newer text : List ℕ) where
     pub stands : StandsAt text p next width
     pub another : AnotherClass older newer next
 
-  -- the character at byte p has another class in the newer, or it is a medial and the next one has
+  -- "the character there has another class in the newer, or that character is a medial and the next one has another class in the newer"
   pub record Excepted (p : ℕ) : Type 0 where
     pub character : ℕ
     pub width : ℕ
@@ -58,12 +60,12 @@ module _ (older newer text : List ℕ) where
 
   -- what demand 3 says of the answers of a call under the older and under the newer image
   pub record Promise (a b : Outcome ℕ) : Type 0 where
-    -- accepted under the older: accepted under the newer, with the same count
+    -- "a text that is accepted under the older image is accepted under the newer, with the same count"
     pub accepted : (n : ℕ) → a ≡ given n → b ≡ given n
-    -- refused for its characters: the same refusal at the same place, unless a character changed
-    pub characters : (p : ℕ) → a ≡ refused (Characters p) → (b ≡ refused (Characters p)) ⊎ Excepted p
-    -- every other refusal is given too, carrying the same
-    pub others : (r : Refusal) → a ≡ refused r → (numberOf r ≡ 7 → ⊥) → b ≡ refused r
+    -- "where the older refuses a text for its characters, the newer gives the same refusal at the same place, unless" a character changed
+    pub characters : (p : ℕ) → a ≡ refused (refusal.Characters p) → (b ≡ refused (refusal.Characters p)) ⊎ Excepted p
+    -- "every other refusal that the older gives a text, the newer gives too, and it carries the same"
+    pub others : (r : Refusal) → a ≡ refused r → ((p : ℕ) → r ≡ refusal.Characters p → ⊥) → b ≡ refused r
 
 -- the words of n records in a buffer's front
 abbrev pub listIn : ℕ → List ℕ → List ℕ
@@ -74,7 +76,7 @@ pub record Demand3 (older newer text out newOut : List ℕ) : Type 0 where
   -- of demand 2's division itself
   pub division : (ts : List (Tok Character Kind)) → Divided older text ts [] → Divided newer text ts []
   pub stopped : (p : ℕ) → Stopped older text p → Stopped newer text p ⊎ Excepted older newer text p
-  -- of the answers, and word for word of the list
+  -- of the answers, and "word for word, the same list"
   pub counting : Promise older newer text (countOf older text) (countOf newer text)
   pub writing : Promise older newer text (listOf older text (length out)) (listOf newer text (length newOut))
   pub sameList : (n : ℕ) → listOf older text (length out) ≡ given n → listIn n (listWords newer text newOut) ≡ listIn n (listWords older text out)

@@ -1,0 +1,129 @@
+-- Counting and writing the list: each answer, exactly when, and what the buffer then holds. Assumes nothing.
+use Prim.Native.Nat.{ℕ, _≤_, _<_}
+use mathlib.Core.Path.{_≡_, refl, sym, ap, subst, _∙_}
+use mathlib.Core.Bool.{Bool, true, false}
+use mathlib.Core.List.{List, [], _∷_}
+use mathlib.Core.Option.{Option, none, some}
+use lib.ListN.{length}
+use lib.Dec.{ltb}
+use borrow.Author.Tests.{ltb-true, ltb-false, lt-ltb, le-ltb}
+use Rattle.lists.specs.Laid.{laid}
+use Rattle.refusal.specs.declared.Refusal.{Refusal}
+use Rattle.refusal.specs.declared.Refusal.the-variants as refusal
+use Rattle.refusal.specs.Outcome.{Outcome, given, refused, unless, refusedIf, outcomeMap}
+use Rattle.utf8.specs.declared.Text.{Text}
+use Rattle.utf8.specs.declared.Text.the-variants as form
+use Rattle.utf8.specs.Text.{Character, TextMeans, textOf}
+use Rattle.utf8.proofs.TextLaws.{text-means, means-text}
+use Rattle.image.specs.Check.{refusalOf}
+use Rattle.image.specs.Accepted.{Accepted}
+use Rattle.image.proofs.ImageLaws.{why, decides}
+use Rattle.grammar.specs.Scan.{Tok}
+use Rattle.grammar.specs.Grammar.{Kind}
+use Rattle.grammar.specs.Record.{roomOf, listedWords}
+use Rattle.grammar.specs.Reading.{maxText, readingOf, lengthRefusal, formRefusalBy, formRefusal, judged, outcomeOf, countOf, roomed, writtenOf, listOf, laidBy, listWords}
+use Rattle.grammar.proofs.AnswerLaws.{counts-given, counts-refused, roomed-in, roomed-out, roomed-given}
+use Rattle.demands.specs.Demand2.{Readable, Divided, Stopped}
+use Rattle.demands.specs.Means.{Refuses, of-image, too-long, ill-formed, no-token, CountMeans, counts, count-refuses, ListMeans, lists, no-room, list-refuses}
+use Rattle.demands.proofs.DividedLaws.{reading-divides, divided-unique}
+
+module _ (s text : List ℕ) where
+  -- the tokens of the division, or a refusal, before the room is looked at
+  pub data OutcomeMeans : Outcome (List (Tok Character Kind)) → Type 0 where
+    divides : {ts : List (Tok Character Kind)} → Divided s text ts [] → OutcomeMeans (given ts)
+    refuses : {r : Refusal} → Refuses s text r → OutcomeMeans (refused r)
+
+  judged-means : (ts : List (Tok Character Kind)) (left : List Character) → Divided s text ts left → OutcomeMeans (judged ts left)
+  judged-means ts [] d = divides d
+  judged-means ts (c ∷ r) d = refuses (no-token (record { tokens = ts; first = c; others = r; divided = d; place = refl }))
+
+  form-means : Accepted s → length text ≤ maxText → (t : Text) → TextMeans text t → OutcomeMeans (unless (formRefusalBy t) (judged (readingOf s text .tokens) (readingOf s text .left)))
+  form-means a l form.WellFormed m = judged-means (readingOf s text .tokens) (readingOf s text .left) (reading-divides (record { image = a; short = l; wellFormed = m .1 }))
+  form-means a l (form.IllFormed p) m = refuses (ill-formed a l m)
+
+  length-means : Accepted s → (b : Bool) → ltb maxText (length text) ≡ b →
+      OutcomeMeans (unless (refusedIf b refusal.TextLength) (unless (formRefusal text) (judged (readingOf s text .tokens) (readingOf s text .left))))
+  length-means a true e = refuses (too-long a (ltb-true _ _ e))
+  length-means a false e = form-means a (ltb-false _ _ e) (textOf text) (text-means text (textOf text) refl)
+
+  own-means : OutcomeMeans (outcomeOf s text)
+  unfolding outcomeOf lengthRefusal
+  own-means = go (refusalOf s) refl
+    where
+      go : (o : Option Refusal) → refusalOf s ≡ o →
+          OutcomeMeans (unless o (unless (lengthRefusal text) (unless (formRefusal text) (judged (readingOf s text .tokens) (readingOf s text .left)))))
+      go none e = length-means (why s none e) _ refl
+      go (some r) e = refuses (of-image (why s (some r) e))
+
+  pub outcome-means : (o : Outcome (List (Tok Character Kind))) → outcomeOf s text ≡ o → OutcomeMeans o
+  outcome-means o e = subst OutcomeMeans e own-means
+
+  -- a text that is none of 1 to 6 is judged by its one division
+  judged-by : {ts : List (Tok Character Kind)} {left : List Character} → Divided s text ts left → outcomeOf s text ≡ judged ts left
+  unfolding outcomeOf lengthRefusal
+  judged-by d =
+      let h = d .readable in
+      let u = divided-unique (reading-divides h) d in
+      rw (decides s none (h .image), le-ltb maxText (length text) (h .short), means-text text form.WellFormed (d .characters, h .wellFormed)) (λ i. judged (u .0 i) (u .1 i))
+
+  pub means-outcome : (o : Outcome (List (Tok Character Kind))) → OutcomeMeans o → outcomeOf s text ≡ o
+  unfolding outcomeOf lengthRefusal
+  means-outcome o (divides d) = judged-by d
+  means-outcome o (refuses (of-image {r} m)) = rw (decides s (some r) m)
+  means-outcome o (refuses (too-long a l)) = rw (decides s none a, lt-ltb maxText (length text) l)
+  means-outcome o (refuses (ill-formed {p} a l m)) = rw (decides s none a, le-ltb maxText (length text) l, means-text text (form.IllFormed p) m)
+  means-outcome o (refuses (no-token t)) = judged-by (t .divided) ∙ ap (λ (p : ℕ). refused (refusal.Characters p)) (sym (t .place))
+
+  -- counting
+  pub count-means : (a : Outcome ℕ) → countOf s text ≡ a → CountMeans s text a
+  unfolding countOf
+  count-means a e = subst (CountMeans s text) e (go (outcomeOf s text) own-means)
+    where
+      go : (o : Outcome (List (Tok Character Kind))) → OutcomeMeans o → CountMeans s text (outcomeMap length o)
+      go o (divides d) = counts d refl
+      go o (refuses r) = count-refuses r
+
+  pub means-count : (a : Outcome ℕ) → CountMeans s text a → countOf s text ≡ a
+  unfolding countOf
+  means-count a (counts d n) = ap (outcomeMap length) (means-outcome _ (divides d)) ∙ ap given n
+  means-count a (count-refuses r) = ap (outcomeMap length) (means-outcome _ (refuses r))
+
+  -- writing the list into a buffer of so many words
+  module _ (words : ℕ) where
+    pub list-means : (a : Outcome ℕ) → listOf s text words ≡ a → ListMeans s text words a
+    unfolding listOf writtenOf
+    list-means a e = subst (ListMeans s text words) e (go (outcomeOf s text) own-means)
+      where
+        by-room : {ts : List (Tok Character Kind)} → Divided s text ts [] → (b : Bool) → ltb (roomOf words) (length ts) ≡ b →
+            ListMeans s text words (outcomeMap length (unless (refusedIf b (refusal.Room (length ts))) (given ts)))
+        by-room d true f = no-room d refl (ltb-true _ _ f)
+        by-room d false f = lists d refl (ltb-false _ _ f)
+
+        go : (o : Outcome (List (Tok Character Kind))) → OutcomeMeans o → ListMeans s text words (outcomeMap length (roomed words o))
+        go o (divides d) = by-room d _ refl
+        go o (refuses r) = list-refuses r
+
+    pub means-list : (a : Outcome ℕ) → ListMeans s text words a → listOf s text words ≡ a
+    unfolding listOf writtenOf
+    means-list a (lists {ts = ts} d n h) =
+        ap (λ o. outcomeMap length (roomed words o)) (means-outcome _ (divides d)) ∙ ap (outcomeMap length) (roomed-in words ts (rw n h)) ∙ ap given n
+    means-list a (no-room {ts = ts} d n h) =
+        ap (λ o. outcomeMap length (roomed words o)) (means-outcome _ (divides d)) ∙ ap (outcomeMap length) (roomed-out words ts (rw n h)) ∙ ap (λ (k : ℕ). refused (refusal.Room k)) n
+    means-list a (list-refuses r) = ap (λ o. outcomeMap length (roomed words o)) (means-outcome _ (refuses r))
+
+  -- what the buffer then holds: the words of the tokens' list in its front, and past them what it held
+  pub list-written : (out : List ℕ) (n : ℕ) → listOf s text (length out) ≡ given n →
+      (ts : List (Tok Character Kind)) × Divided s text ts [] × (length ts ≡ n) × (listWords s text out ≡ laid out 0 (listedWords ts))
+  unfolding listOf listWords writtenOf
+  list-written out n e =
+      let (ts, g, l) = counts-given (roomed (length out) (outcomeOf s text)) n e in
+      go (outcome-means (given ts) (roomed-given (length out) (outcomeOf s text) ts g .0)) l (ap (laidBy out) g)
+    where
+      go : {ts : List (Tok Character Kind)} → OutcomeMeans (given ts) → length ts ≡ n → listWords s text out ≡ laid out 0 (listedWords ts) →
+          (us : List (Tok Character Kind)) × Divided s text us [] × (length us ≡ n) × (listWords s text out ≡ laid out 0 (listedWords us))
+      go (divides d) l w = (_, d, l, w)
+
+  -- "a refused call leaves every word that was lent as it was"
+  pub list-kept : (out : List ℕ) (r : Refusal) → listOf s text (length out) ≡ refused r → listWords s text out ≡ out
+  unfolding listOf listWords writtenOf
+  list-kept out r e = ap (laidBy out) (counts-refused (roomed (length out) (outcomeOf s text)) r e)

@@ -1,0 +1,41 @@
+-- What each answer of counting a text's tokens and of writing their list says: one constructor for each that can be
+-- (docs/RULES.md, "Named refusals"; demands 1 and 2). `proofs/MeansLaws.antt` joins this to the calls' answers, both ways.
+use Prim.Native.Nat.{ℕ, _≤_, _<_}
+use mathlib.Core.Path.{_≡_}
+use mathlib.Core.List.{List, []}
+use mathlib.Core.Option.{some}
+use lib.ListN.{length}
+use Rattle.refusal.specs.declared.Refusal.{Refusal}
+use Rattle.refusal.specs.declared.Refusal.the-variants as refusal
+use Rattle.refusal.specs.Outcome.{Outcome, given, refused}
+use Rattle.utf8.specs.declared.Text.the-variants as form
+use Rattle.utf8.specs.Text.{Character, TextMeans}
+use Rattle.image.specs.Accepted.{Accepted, Because}
+use Rattle.grammar.specs.Scan.{Tok}
+use Rattle.grammar.specs.Grammar.{Kind}
+use Rattle.grammar.specs.Record.{roomOf}
+use Rattle.grammar.specs.Reading.{maxText}
+use Rattle.demands.specs.Demand2.{Divided, Stopped}
+
+module _ (s text : List ℕ) where
+  -- the refusals of an image and a text, whatever the room
+  pub data Refuses : Refusal → Type 0 where
+    -- 1 to 4: those of the image
+    of-image : {r : Refusal} → Because s (some r) → Refuses r
+    -- 5: the text is too long
+    too-long : Accepted s → maxText < length text → Refuses refusal.TextLength
+    -- 6: p is the first place at which no well-formed sequence begins
+    ill-formed : {p : ℕ} → Accepted s → length text ≤ maxText → TextMeans text (form.IllFormed p) → Refuses (refusal.IllFormed p)
+    -- 7: the longest run of tokens from byte 0 ends at p, and no token begins there
+    no-token : {p : ℕ} → Stopped s text p → Refuses (refusal.Characters p)
+
+  -- counting: the tokens of the division, or a refusal
+  pub data CountMeans : Outcome ℕ → Type 0 where
+    counts : {n : ℕ} {ts : List (Tok Character Kind)} → Divided s text ts [] → length ts ≡ n → CountMeans (given n)
+    count-refuses : {r : Refusal} → Refuses r → CountMeans (refused r)
+
+  -- writing the list into a buffer of so many words: the same where there is room for the tokens, else 8 with the records needed
+  pub data ListMeans (words : ℕ) : Outcome ℕ → Type 0 where
+    lists : {n : ℕ} {ts : List (Tok Character Kind)} → Divided s text ts [] → length ts ≡ n → n ≤ roomOf words → ListMeans words (given n)
+    no-room : {n : ℕ} {ts : List (Tok Character Kind)} → Divided s text ts [] → length ts ≡ n → roomOf words < n → ListMeans words (refused (refusal.Room n))
+    list-refuses : {r : Refusal} → Refuses r → ListMeans words (refused r)
