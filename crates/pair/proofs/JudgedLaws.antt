@@ -1,5 +1,5 @@
 -- What two accepted images give a walk over their ranges and a comparison of their profiles. Assumes nothing.
-use Prim.Native.Nat.{ℕ, _+_, _*_, _≤_}
+use Prim.Native.Nat.{ℕ, _≤_}
 use mathlib.Core.Path.{_≡_}
 use mathlib.Core.List.{List}
 use mathlib.Core.Option.{none}
@@ -23,7 +23,9 @@ walk-begins s n e p =
     }
 
 -- the header, the ranges and the entries fill the image
-pub filled : (s : List ℕ) (n : ℕ) → refusalOf s ≡ none → n ≡ rangeCount s → (length s ≡ imageEnd n (entryCount s)) × (entryCount s ≤ maxEntries) × (n ≤ maxRanges)
+pub filled :
+    (s : List ℕ) (n : ℕ) → refusalOf s ≡ none → n ≡ rangeCount s
+    → (length s ≡ imageEnd n (entryCount s)) × (entryCount s ≤ maxEntries) × (n ≤ maxRanges)
 filled s n e p =
     let h = accepted s e .header in
     (rw p (accepted-size s e), h .few-entries, omega arith)
