@@ -1,86 +1,80 @@
--- What an opened image gives the inner calls, and that a memo and a table hold the traits of their code points.
+-- Stretches of one class, and the traits of their code points: a memo and a table hold the traits of their code points.
 -- Assumes nothing.
-use Prim.Native.Nat.{ℕ, _+_, _*_, _%_, _≤_, _<_, _/_}
+use Prim.Native.Nat.{ℕ, _+_, _-_, _/_, _≤_, _<_}
 use mathlib.Core.Path.{_≡_, refl, sym, ap, _∙_}
 use mathlib.Core.Bool.{Bool, true, false}
 use mathlib.Core.List.{List, [], _∷_}
 use mathlib.Core.Option.{none}
 use native.Mathlib.Omega.{arith}
 use native.Mathlib.Decide.{decLt}
-use lib.Dec.{eqb}
 use lib.ListN.{length, getD, set, drop, length-set, length-drop}
 use lib.Seq.{getD-set-same, getD-set-other, getD-drop}
-use Rattle.image.specs.Header.{rangeCount}
-use Rattle.image.specs.Ranges.{rangeAt, classIn}
-use Rattle.image.specs.Profile.{profileBy, roleOf, afterRole, isMedial, profileOf}
-use Rattle.image.specs.Check.{refusalOf, rangeClass, classOf, medialOf}
-use Rattle.image.specs.declared.Profile.{Profile}
-use Rattle.image.proofs.ImageLaws.{accepted}
-use Rattle.lookup.specs.declared.Stretch.{Stretch}
-use Rattle.lookup.specs.declared.Reach.{Reach}
-use Rattle.lookup.specs.Stretch.{GoodRanges, StretchOf}
-use Rattle.lookup.specs.Reach.{ReachOf}
+use Rattle.image.specs.Profile.{afterRole, isMedial}
+use Rattle.image.specs.Check.{refusalOf, classOf, medialOf}
+use Rattle.image.specs.declared.Range.{Range}
+use Rattle.lookup.specs.declared.Section.{Section}
+use Rattle.lookup.specs.declared.Section.the-variants.{Ranges, Entries}
+use Rattle.lookup.specs.Records.{recordAt, recordCount, sectionClass}
+use Rattle.lookup.proofs.RisingLaws.{class-held, class-gap}
+use Rattle.lookup.proofs.RecordLaws.{records-rise, class-by-sections, medial-by-sections}
 use Rattle.lookup.proofs.LookupLaws.{class-of-known}
 use Rattle.utf8.specs.declared.Step.the-variants.{Scalar}
 use Rattle.utf8.specs.Head.{stepOf}
 use Rattle.utf8.proofs.LeadLaws.{ascii}
 use Rattle.character.specs.Traits.{medialPart, traitsOf}
-use Rattle.character.specs.Opened.{Opened}
 use Rattle.utf8.proofs.TextLaws.{Unpacked}
+use Rattle.character.specs.Stretch.{StretchOf}
 use Rattle.character.specs.Read.{MemoOf, MemoAt, Filled, Settled, ReadAs}
 use Rattle.character.specs.declared.Character.{Character}
 use Rattle.character.specs.declared.Memo.{Memo}
+use Rattle.character.specs.declared.Stretch.{Stretch}
 
-module _ {s ps rs : List ℕ} {n m : ℕ} (o : Opened s n ps rs m) where
-  -- the ranges lie within the bytes, and are good
-  pub opened-fits : 32 + 12 * n ≤ length s
-  opened-fits = let a = accepted s (o .accepted) in let h = a .header .size in let r = o .ranges in omega arith
+-- traits by the classes in the two sections
+traits-by : (s : List ℕ) (x : ℕ) → traitsOf s x ≡ afterRole (sectionClass s Entries x) (sectionClass s Ranges x) + medialPart (isMedial (sectionClass s Entries x))
+unfolding traitsOf
+traits-by s x = λ i. class-by-sections s x i + medialPart (medial-by-sections s x i)
 
-  pub opened-good : GoodRanges (rangeAt s) n
-  opened-good i l = let a = accepted s (o .accepted) in let r = o .ranges in a .ranges i (omega arith)
-
-  -- the lent arrays are the profile
-  pub opened-profile : profileBy ps rs m ≡ profileOf s
-  opened-profile = λ i. record { points = o .points i; roles = o .roles i; used = o .used i }
-
-  pub opened-used : m ≤ 64
-  unfolding profileOf
-  opened-used = let a = accepted s (o .accepted) in let h = a .header .few-entries in let u = o .used in omega arith
-
-  pub opened-traits : (x : ℕ) → traitsOf s x ≤ 13
+module _ (s : List ℕ) (x : ℕ) (a : refusalOf s ≡ none) where
+  -- traits fit a byte
+  pub traits-small : traitsOf s x ≤ 13
   unfolding traitsOf
-  opened-traits x = go (medialOf s x)
+  traits-small = go (medialOf s x)
     where
       go : (m : Bool) → classOf s x + medialPart m ≤ 13
-      go true = omega (arith, class-of-known s x (o .accepted))
-      go false = omega (arith, class-of-known s x (o .accepted))
+      go true = omega (arith, class-of-known s x a)
+      go false = omega (arith, class-of-known s x a)
 
-  module _ (x : ℕ) (t : Stretch) (r : Reach) (a : StretchOf (rangeAt s) n x t) (b : ReachOf (profileBy ps rs m) x t r) where
-    role-at : (y : ℕ) → r .first ≤ y → y ≤ r .last → roleOf (profileOf s) y ≡ r .role
-    role-at y h l = ap (λ (p : Profile). roleOf p y) (sym opened-profile) ∙ b .role y h l
-
-    class-at : (y : ℕ) → r .first ≤ y → y ≤ r .last → classOf s y ≡ r .class
-    unfolding classOf rangeClass
-    class-at y h l =
-        let c = a .same y (omega (arith, b .begins)) (omega (arith, b .ends)) in
-        let e : classIn (rangeAt s) (rangeCount s) y ≡ t .class = ap (λ (k : ℕ). classIn (rangeAt s) k y) (sym (o .ranges)) ∙ c in
-        (λ i. afterRole (role-at y h l i) (e i)) ∙ sym (b .class)
-
-    -- around x the traits are those of the reach
-    pub memo-of-reach : (m : Memo) → m .first ≡ r .first → m .last ≡ r .last → m .traits ≡ r .class % 8 + medialPart (eqb (r .role) 3) → MemoAt s x m
-    unfolding traitsOf medialOf isMedial
-    memo-of-reach m f g e =
+  module _ (section : Section) (i : ℕ) where
+    -- the stretch of x between neighbours, and the one of the record that holds it
+    pub stretch-gap :
+        (first last : ℕ) → i ≤ recordCount s section → first ≤ x → x ≤ last → (0 < i → recordAt s section (i - 1) .last < first)
+        → (i < recordCount s section → last < recordAt s section i .first) → StretchOf s section x (record { first = first; last = last; class = 0 })
+    stretch-gap first last n l u f g =
         record {
-          from = omega (arith, b .from);
-          to = omega (arith, b .to);
-          all = λ y h l.
-              let h' : r .first ≤ y = omega arith in
-              let l' : y ≤ r .last = omega arith in
-              let c = class-at y h' l' in
-              let k = class-of-known s y (o .accepted) in
-              let z : r .class % 8 ≡ r .class = omega arith in
-              (λ i. class-at y h' l' i + medialPart (eqb (role-at y h' l' i) 3)) ∙ sym (e ∙ ap (λ (v : ℕ). v + medialPart (eqb (r .role) 3)) z);
+          from = l;
+          to = u;
+          same = λ y b c. class-gap _ _ (records-rise s a section) i y n (λ h. let k = f h in omega arith) (λ h. let k = g h in omega arith);
         }
+
+    pub stretch-record :
+        (r : Range) → r ≡ recordAt s section i → i < recordCount s section → r .first ≤ x → x ≤ recordAt s section i .last
+        → StretchOf s section x (record { first = r .first; last = r .last; class = r .class })
+    stretch-record r e n l u = rw e (record { from = rw e at l; to = u; same = λ y b c. class-held _ _ (records-rise s a section) i y n b c })
+
+-- around x the traits are those of both stretches
+pub memo-of :
+    (s : List ℕ) (x : ℕ) (c r : Stretch) (m : Memo) → StretchOf s Ranges x c → StretchOf s Entries x r
+    → (c .first ≤ m .first) × (r .first ≤ m .first) × (m .first ≤ x) → (m .last ≤ c .last) × (m .last ≤ r .last) × (x ≤ m .last)
+    → m .traits ≡ afterRole (r .class) (c .class) + medialPart (isMedial (r .class)) → MemoAt s x m
+memo-of s x c r m f g h l e =
+    record {
+      from = h .2;
+      to = l .2;
+      all = λ y a b.
+          let p = f .same y (omega (arith, h .0)) (omega (arith, l .0)) in
+          let q = g .same y (omega (arith, h .1)) (omega (arith, l .1)) in
+          traits-by s y ∙ (λ i. afterRole (q i) (p i) + medialPart (isMedial (q i))) ∙ sym e;
+    }
 
 -- one more place of the table
 pub filled-more : (s t : List ℕ) (k v : ℕ) → k < 128 → Filled s t k → v ≡ traitsOf s k → Filled s (set t k v) (k + 1)
@@ -112,5 +106,6 @@ read-settled s text at d r u t =
       none = λ z. u .none (sym (t .len) ∙ z);
       some = λ z.
           let e = t .len in
-          (d / 8, u .some (omega arith) ∙ ap (Scalar (d / 8)) (sym (t .len)), t .traits);
+          let c = t .code in
+          (u .some (omega arith) ∙ sym (λ i. Scalar (c i) (e i)), t .traits ∙ ap (traitsOf s) (sym c));
     }

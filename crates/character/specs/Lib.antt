@@ -1,3 +1,3 @@
 pub mod Traits
-pub mod Opened
+pub mod Stretch
 pub mod Read

@@ -28,14 +28,15 @@ pub record Filled (s t : List ℕ) (k : ℕ) : Type 0 where
 abbrev pub TableOf : List ℕ → List ℕ → Type 0
 TableOf s t = Filled s t 128
 
--- the character of a packed sequence, 8 times its code point and its length: the length, and the code point's traits
+-- the character of a packed sequence, 8 times its code point and its length: the length, the code point and its traits
 pub record Settled (s : List ℕ) (packed : ℕ) (r : Character) : Type 0 where
   pub memo : MemoOf s (r .memo)
   pub len : r .len ≡ packed % 8
+  pub code : r .code ≡ packed / 8
   pub traits : r .traits ≡ traitsOf s (packed / 8)
 
--- the character of `text` at a place, under the image s: its length and traits; length 0 where the text is ill-formed
+-- the character of `text` at a place, under the image s: its length, code point and traits; length 0 where the text is ill-formed
 pub record ReadAs (s text : List ℕ) (at : ℕ) (r : Character) : Type 0 where
   pub memo : MemoOf s (r .memo)
   pub none : r .len ≡ 0 → stepOf (drop at text) ≡ IllFormed
-  pub some : 0 < r .len → (x : ℕ) × (stepOf (drop at text) ≡ Scalar x (r .len)) × (r .traits ≡ traitsOf s x)
+  pub some : 0 < r .len → (stepOf (drop at text) ≡ Scalar (r .code) (r .len)) × (r .traits ≡ traitsOf s (r .code))

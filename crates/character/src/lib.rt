@@ -1,25 +1,41 @@
 // The characters of a text with their classes: a table for ASCII, and a memo of the last stretch of code points.
 ghost use mathlib.Core.Path.{_≡_};
 ghost use mathlib.Core.List.{List};
-ghost use Prim.Native.Nat.{ℕ, _+_, _/_, _%_, _<_};
+ghost use mathlib.Core.Option.{none};
+ghost use Prim.Native.Nat.{ℕ, _+_, _-_, _/_, _≤_, _<_};
 ghost use lib.ListN.{length};
 ghost use mathlib.Core.Bool.{_&&_};
-ghost use lib.Dec.{eqb, leb};
+ghost use lib.Dec.{leb};
+ghost use Rattle.image.specs.Profile.{afterRole, isMedial};
+ghost use Rattle.image.specs.Check.{refusalOf};
+ghost use Rattle.lookup.specs.Records.{recordAt, recordCount};
+ghost use Rattle.lookup.specs.Placed.{Passed, Placed};
 ghost use Rattle.character.specs.Traits.{medialPart};
-ghost use Rattle.character.specs.Opened.{Opened};
+ghost use Rattle.character.specs.Stretch.{StretchOf};
 ghost use Rattle.character.specs.Read.{MemoOf, MemoAt, TableOf, Settled, ReadAs};
-use image::MAX_ENTRIES;
+use lookup::Section;
 
-// Code points from `first` to `last` that have the same traits: the class after the profile, and 8 more for a medial.
+// What traits have more for a medial.
+const MEDIAL: u32 = 8;
+
+// Code points from `first` to `last` that have one class in a section of an image.
+pub struct Stretch {
+    pub first: u32,
+    pub last: u32,
+    pub class: u32,
+}
+
+// Code points from `first` to `last` that have the same traits: the class after the profile, and `MEDIAL` more for a medial.
 pub struct Memo {
     pub first: u32,
     pub last: u32,
     pub traits: u32,
 }
 
-// The character at a place: its length in bytes, its traits, and the memo for the next one. Length 0: ill-formed.
+// The character at a place: its length in bytes, its code point and traits, and the memo for the next one. Length 0: ill-formed.
 pub struct Character {
     pub len: usize,
+    pub code: u32,
     pub traits: u32,
     pub memo: Memo,
 }
@@ -35,34 +51,87 @@ pub fn no_memo() -> Memo
     }
 }
 
-// The traits of a code point with a role and a class after it.
+// The traits of a code point with a role and a class in the ranges.
 fn join_traits(role: u32, class: u32) -> u32
-    ensures { λ r. ⌜ r ≡ class % 8 + medialPart (eqb role 3) ⌝ }
+    requires { ⌜ class ≤ 5 ⌝ }
+    ensures { λ r. ⌜ r ≡ afterRole role class + medialPart (isMedial role) ⌝ }
 {
-    if role == 3 {
-        return class % 8 + 8;
+    let after = lookup::after_role(role, class);
+    if lookup::is_medial(role) {
+        return after + MEDIAL;
     }
-    class % 8
+    after
 }
 
-// The code points around `x` that have the traits of `x`, by a search in the image.
-fn search<'a>(
-    image: &'a [u8],
-    n: usize,
-    points: &'a [u32; MAX_ENTRIES],
-    roles: &'a [u32; MAX_ENTRIES],
-    used: usize,
-    x: u32,
-) -> Memo
-    requires { ⌜ Opened (now image) n (now points) (now roles) used ⌝ }
-    ensures { λ r. ⌜ MemoAt (now (image .entry)) x r ⌝ }
+// The first number after record i - 1 of a section, where that record ends before x.
+fn gap_start(image: &[u8], section: Section, i: usize, x: u32) -> u32
+    requires { ⌜ refusalOf (now image) ≡ none ⌝ }
+    requires { ⌜ Passed (recordAt (now image) section) (recordCount (now image) section) i x ⌝ }
+    ensures { λ r. ⌜ (r ≤ x) × (0 < i → recordAt (now (image .entry)) section (i - 1) .last < r) ⌝ }
 {
-    let s = lookup::find_stretch(image, n, x);
-    let r = lookup::narrow(points, roles, used, x, s);
-    Memo {
+    if i == 0 {
+        return 0;
+    }
+    let r = lookup::record_at(image, section, i - 1);
+    r.last + 1
+}
+
+// The stretch of x in a section, of which the place of x is i.
+fn stretch_at(image: &[u8], section: Section, i: usize, x: u32) -> Stretch
+    requires { ⌜ refusalOf (now image) ≡ none ⌝ }
+    requires { ⌜ Placed (recordAt (now image) section) (recordCount (now image) section) i x ⌝ }
+    ensures { λ r. ⌜ StretchOf (now (image .entry)) section x r ⌝ }
+{
+    if lookup::count_records(image, section) <= i {
+        return Stretch {
+            first: gap_start(image, section, i, x),
+            last: 0xFFFFFFFF,
+            class: 0,
+        };
+    }
+    let r = lookup::record_at(image, section, i);
+    if x < r.first {
+        return Stretch {
+            first: gap_start(image, section, i, x),
+            last: r.first - 1,
+            class: 0,
+        };
+    }
+    Stretch {
         first: r.first,
         last: r.last,
-        traits: join_traits(r.role, r.class),
+        class: r.class,
+    }
+}
+
+// The stretch of x in a section of an accepted image.
+fn find_stretch(image: &[u8], section: Section, x: u32) -> Stretch
+    requires { ⌜ refusalOf (now image) ≡ none ⌝ }
+    ensures { λ r. ⌜ StretchOf (now (image .entry)) section x r ⌝ }
+{
+    let probe = lookup::find(image, section, x);
+    stretch_at(image, section, probe.place, x)
+}
+
+// The code points around `x` that have its class in the ranges and its role.
+fn search(image: &[u8], x: u32) -> Memo
+    requires { ⌜ refusalOf (now image) ≡ none ⌝ }
+    ensures { λ r. ⌜ MemoAt (now (image .entry)) x r ⌝ }
+{
+    let class = find_stretch(image, Section::Ranges, x);
+    let role = find_stretch(image, Section::Entries, x);
+    let mut first = class.first;
+    if first < role.first {
+        first = role.first;
+    }
+    let mut last = class.last;
+    if role.last < last {
+        last = role.last;
+    }
+    Memo {
+        first,
+        last,
+        traits: join_traits(role.class, class.class),
     }
 }
 
@@ -77,41 +146,27 @@ fn is_known(memo: Memo, x: u32) -> bool
 }
 
 // The memo, if `x` is in it; else a search.
-fn recall<'a>(
-    image: &'a [u8],
-    n: usize,
-    points: &'a [u32; MAX_ENTRIES],
-    roles: &'a [u32; MAX_ENTRIES],
-    used: usize,
-    memo: Memo,
-    x: u32,
-) -> Memo
-    requires { ⌜ Opened (now image) n (now points) (now roles) used ⌝ }
+fn recall(image: &[u8], memo: Memo, x: u32) -> Memo
+    requires { ⌜ refusalOf (now image) ≡ none ⌝ }
     requires { ⌜ MemoOf (now image) memo ⌝ }
     ensures { λ r. ⌜ MemoAt (now (image .entry)) x r ⌝ }
 {
     if is_known(memo, x) {
         return memo;
     }
-    search(image, n, points, roles, used, x)
+    search(image, x)
 }
 
 // The traits of the ASCII code points.
-pub fn fill_table<'a>(
-    image: &'a [u8],
-    n: usize,
-    points: &'a [u32; MAX_ENTRIES],
-    roles: &'a [u32; MAX_ENTRIES],
-    used: usize,
-) -> [u8; 128]
-    requires { ⌜ Opened (now image) n (now points) (now roles) used ⌝ }
+pub fn fill_table(image: &[u8]) -> [u8; 128]
+    requires { ⌜ refusalOf (now image) ≡ none ⌝ }
     ensures { λ r. ⌜ TableOf (now (image .entry)) r ⌝ }
 {
     let mut table = [0u8; 128];
     let mut memo = no_memo();
     let mut i = 0;
     while i < 128 {
-        memo = recall(image, n, points, roles, used, memo, i as u32);
+        memo = recall(image, memo, i as u32);
         table[i] = memo.traits as u8;
         i += 1;
     }
@@ -119,16 +174,8 @@ pub fn fill_table<'a>(
 }
 
 // The character of a packed sequence: 8 times its code point, and its length.
-fn settle<'a>(
-    image: &'a [u8],
-    n: usize,
-    points: &'a [u32; MAX_ENTRIES],
-    roles: &'a [u32; MAX_ENTRIES],
-    used: usize,
-    memo: Memo,
-    packed: usize,
-) -> Character
-    requires { ⌜ Opened (now image) n (now points) (now roles) used ⌝ }
+fn settle(image: &[u8], memo: Memo, packed: usize) -> Character
+    requires { ⌜ refusalOf (now image) ≡ none ⌝ }
     requires { ⌜ MemoOf (now image) memo ⌝ }
     requires { ⌜ packed / 8 < 0x110000 ⌝ }
     ensures { λ r. ⌜ Settled (now (image .entry)) packed r ⌝ }
@@ -137,51 +184,40 @@ fn settle<'a>(
     if is_known(memo, code) {
         return Character {
             len: packed % 8,
+            code,
             traits: memo.traits,
             memo,
         };
     }
-    let m = search(image, n, points, roles, used, code);
+    let m = search(image, code);
     Character {
         len: packed % 8,
+        code,
         traits: m.traits,
         memo: m,
     }
 }
 
 // The character of `text` at a place before its end, by decoding it.
-pub fn read_decoded<'a>(
-    image: &'a [u8],
-    n: usize,
-    points: &'a [u32; MAX_ENTRIES],
-    roles: &'a [u32; MAX_ENTRIES],
-    used: usize,
-    memo: Memo,
-    text: &'a [u8],
-    at: usize,
-) -> Character
-    requires { ⌜ Opened (now image) n (now points) (now roles) used ⌝ }
+pub fn read_decoded<'a>(image: &'a [u8], memo: Memo, text: &'a [u8], at: usize) -> Character
+    requires { ⌜ refusalOf (now image) ≡ none ⌝ }
     requires { ⌜ MemoOf (now image) memo ⌝ }
     requires { ⌜ at < length (now text) ⌝ }
     ensures { λ r. ⌜ ReadAs (now (image .entry)) (now (text .entry)) at r ⌝ }
 {
     let packed = utf8::decode_packed(text, at);
-    settle(image, n, points, roles, used, memo, packed)
+    settle(image, memo, packed)
 }
 
 // The character of `text` at a place before its end: ASCII by the table.
 pub fn read<'a>(
     image: &'a [u8],
-    n: usize,
-    points: &'a [u32; MAX_ENTRIES],
-    roles: &'a [u32; MAX_ENTRIES],
-    used: usize,
     table: &'a [u8; 128],
     memo: Memo,
     text: &'a [u8],
     at: usize,
 ) -> Character
-    requires { ⌜ Opened (now image) n (now points) (now roles) used ⌝ }
+    requires { ⌜ refusalOf (now image) ≡ none ⌝ }
     requires { ⌜ TableOf (now image) (now table) ⌝ }
     requires { ⌜ MemoOf (now image) memo ⌝ }
     requires { ⌜ at < length (now text) ⌝ }
@@ -191,10 +227,11 @@ pub fn read<'a>(
     if b < 0x80 {
         return Character {
             len: 1,
+            code: b as u32,
             traits: table[b as usize] as u32,
             memo,
         };
     }
     let packed = utf8::decode_packed(text, at);
-    settle(image, n, points, roles, used, memo, packed)
+    settle(image, memo, packed)
 }

@@ -9,9 +9,11 @@ use Rattle.lists.specs.Each.{each}
 use Rattle.lists.specs.Laid.{laid}
 use Rattle.refusal.specs.declared.Refusal.{Refusal}
 use Rattle.refusal.specs.declared.Refusal.the-variants as refusal
+use Rattle.image.specs.Limits.{wordsPerRange}
 use Rattle.image.specs.Header.{versionOf, rangeCount, entryCount, lengthRight, headerRight}
 use Rattle.image.specs.Ranges.{rangeAt, rangeWords, firstBadRange, classIn}
-use Rattle.image.specs.Profile.{pointAt, roleAt, firstBadEntry, profileOf, noProfile, roleOf, afterRole, isMedial}
+use Rattle.image.specs.Profile.{pointAt, roleAt, firstBadEntry, profileOf, noProfile, roleBy, afterRole, isMedial}
+use Rattle.image.specs.declared.Range.{Range}
 use Rattle.image.specs.declared.Answer.{Answer}
 use Rattle.image.specs.declared.Answer.the-variants as answer
 use Rattle.image.specs.declared.Checked.{Checked}
@@ -20,14 +22,16 @@ use Rattle.image.specs.declared.Checked.{Checked}
 abbrev pub refuseAt : (ℕ → Refusal) → ℕ → ℕ → Option Refusal → Option Refusal
 refuseAt f i n other = cond (ltb i n) (some (f i)) other
 
+-- that of the first bad one of n ranges, else that of the first bad one of m entries, else the rest
+unfoldable pub recordsRefusal : (ℕ → Range) → ℕ → (ℕ → ℕ) → (ℕ → ℕ) → ℕ → Option Refusal → Option Refusal
+recordsRefusal at n point role m rest =
+    refuseAt refusal.Range (firstBadRange at n) n (refuseAt refusal.Entry (firstBadEntry point role m) m rest)
+
 -- the first in number order of 1 to 4 that applies; none: the image is accepted
 unfoldable pub refusalOf : List ℕ → Option Refusal
 refusalOf s =
     cond (lengthRight s)
-    (cond (headerRight s)
-    (refuseAt refusal.Range (firstBadRange (rangeAt s) (rangeCount s)) (rangeCount s)
-    (refuseAt refusal.Entry (firstBadEntry (pointAt s) (roleAt s) (entryCount s)) (entryCount s) none))
-    (some refusal.Header))
+    (cond (headerRight s) (recordsRefusal (rangeAt s) (rangeCount s) (pointAt s) (roleAt s) (entryCount s) none) (some refusal.Header))
     (some refusal.Length)
 
 -- what an accepted image gives: version, number of ranges, and the profile
@@ -47,27 +51,35 @@ checkOf s = checkBy s (refusalOf s)
 
 -- refusals 1 to 4, then 8 with the records needed, for a buffer of `words` words
 abbrev pub readRefusal : List ℕ → ℕ → Option Refusal → Option Refusal
-readRefusal s words none = cond (ltb (words / 3) (rangeCount s)) (some (refusal.Room (rangeCount s))) none
+readRefusal s words none = cond (ltb (words / wordsPerRange) (rangeCount s)) (some (refusal.Room (rangeCount s))) none
 readRefusal s words (some r) = some r
 
 -- the answer of reading
 unfoldable pub readOf : List ℕ → ℕ → Checked
 readOf s words = checkBy s (readRefusal s words (refusalOf s))
 
--- what the buffer then holds: the ranges, three words each, and past them what was there; a refusal leaves all as it was
+-- the ranges of an image, three words each
+abbrev pub rangesOf : List ℕ → List ℕ
+rangesOf s = each (λ (i : ℕ). rangeWords (rangeAt s i)) (rangeCount s)
+
+-- what the buffer then holds: the ranges, and past them what was there; a refusal leaves all as it was
 abbrev pub wordsBy : List ℕ → List ℕ → Option Refusal → List ℕ
-wordsBy s out none = laid out 0 (each (λ (i : ℕ). rangeWords (rangeAt s i)) (rangeCount s))
+wordsBy s out none = laid out 0 (rangesOf s)
 wordsBy s out (some r) = out
 
 unfoldable pub wordsAfter : List ℕ → List ℕ → List ℕ
 wordsAfter s out = wordsBy s out (readRefusal s (length out) (refusalOf s))
 
--- the class of x in the ranges of an image, and its class after the profile; whether it is a medial
+-- the class of x in the ranges of an image, and its role in the profile
 unfoldable pub rangeClass : List ℕ → ℕ → ℕ
 rangeClass s x = classIn (rangeAt s) (rangeCount s) x
 
+unfoldable pub entryRole : List ℕ → ℕ → ℕ
+entryRole s x = roleBy (pointAt s) (roleAt s) (entryCount s) x
+
+-- its class after the profile, and whether it is a medial
 unfoldable pub classOf : List ℕ → ℕ → ℕ
-classOf s x = afterRole (roleOf (profileOf s) x) (rangeClass s x)
+classOf s x = afterRole (entryRole s x) (rangeClass s x)
 
 unfoldable pub medialOf : List ℕ → ℕ → Bool
-medialOf s x = isMedial (profileOf s) x
+medialOf s x = isMedial (entryRole s x)

@@ -7,6 +7,7 @@ use lib.Dec.{leb, eqb}
 use Rattle.image.specs.Word.{wordAt}
 use Rattle.image.specs.Limits.{maxRanges, maxEntries, headerBytes, rangeBytes, entryBytes, maxImage}
 
+-- the eight numbers, each at its byte
 abbrev pub formatOf : List ℕ → ℕ
 formatOf s = wordAt s 0
 
@@ -31,6 +32,10 @@ entryOffset s = wordAt s 24
 abbrev pub zeroWord : List ℕ → ℕ
 zeroWord s = wordAt s 28
 
+-- the one format
+abbrev pub format : ℕ
+format = 1
+
 -- where the profile entries begin after n ranges, and where an image of n ranges and m entries ends
 abbrev pub entriesAt : ℕ → ℕ
 entriesAt n = headerBytes + rangeBytes * n
@@ -45,7 +50,7 @@ lengthRight s = leb headerBytes (length s) && (leb (length s) maxImage && eqb (t
 -- not refusal 2
 unfoldable pub headerRight : List ℕ → Bool
 headerRight s =
-    eqb (formatOf s) 1
+    eqb (formatOf s) format
     && (eqb (zeroWord s) 0
     && (leb (rangeCount s) maxRanges
     && (leb (entryCount s) maxEntries

@@ -4,7 +4,7 @@ use mathlib.Core.List.{List, [], _∷_, _++_}
 use Rattle.lists.specs.Each.{each}
 use Rattle.image.specs.Word.{bytesOf}
 use Rattle.image.specs.Limits.{headerBytes}
-use Rattle.image.specs.Header.{entriesAt, imageEnd}
+use Rattle.image.specs.Header.{format, entriesAt, imageEnd}
 use Rattle.image.specs.Ranges.{rangeWords}
 use Rattle.image.specs.Profile.{pointIn, roleIn}
 use Rattle.image.specs.declared.Range.{Range}
@@ -12,7 +12,7 @@ use Rattle.image.specs.declared.Profile.{Profile}
 
 -- format, version, total length, range count, range offset, profile count, profile offset, zero
 abbrev pub headerWords : ℕ → ℕ → ℕ → List ℕ
-headerWords version n m = 1 ∷ version ∷ imageEnd n m ∷ n ∷ headerBytes ∷ m ∷ entriesAt n ∷ 0 ∷ []
+headerWords version n m = format ∷ version ∷ imageEnd n m ∷ n ∷ headerBytes ∷ m ∷ entriesAt n ∷ 0 ∷ []
 
 abbrev pub entryWords : Profile → ℕ → List ℕ
 entryWords p i = pointIn p i ∷ roleIn p i ∷ []

@@ -6,6 +6,8 @@ pub mod Header
 pub mod Ranges
 pub mod Good
 pub mod Profile
+pub mod Same
 pub mod Image
 pub mod Check
 pub mod Accepted
+pub mod Means

@@ -8,7 +8,8 @@ use Rattle.lists.specs.First.{firstWhere}
 use Rattle.lists.specs.Each.{column}
 use Rattle.utf8.specs.Scalar.{isScalar}
 use Rattle.image.specs.Word.{wordAt}
-use Rattle.image.specs.Limits.{maxEntries, entryBytes}
+use Rattle.image.specs.Limits.{maxEntries, wordBytes, entryBytes, firstRole, lastRole}
+use Rattle.image.specs.Class.{Start, Nonstart, Other, classNumber}
 use Rattle.image.specs.Header.{rangeCount, entryCount, entriesAt}
 use Rattle.image.specs.declared.Profile.{Profile}
 
@@ -17,7 +18,7 @@ unfoldable pub pointAt : List ℕ → ℕ → ℕ
 pointAt s i = wordAt s (entriesAt (rangeCount s) + entryBytes * i)
 
 unfoldable pub roleAt : List ℕ → ℕ → ℕ
-roleAt s i = wordAt s (entriesAt (rangeCount s) + entryBytes * i + 4)
+roleAt s i = wordAt s (entriesAt (rangeCount s) + entryBytes * i + wordBytes)
 
 -- the record with these code points, roles and used length
 abbrev pub profileBy : List ℕ → List ℕ → ℕ → Profile
@@ -30,10 +31,13 @@ pointIn p i = getD (p .points) i 0
 abbrev pub roleIn : Profile → ℕ → ℕ
 roleIn p i = getD (p .roles) i 0
 
--- a scalar value, a role of 1 to 4, and a code point above that of the entry before
+-- a scalar value and a role of 1 to 4
+unfoldable pub goodEntryAlone : ℕ → ℕ → Bool
+goodEntryAlone point role = isScalar point && (leb firstRole role && leb role lastRole)
+
+-- and a code point above that of the entry before
 unfoldable pub goodEntry : (ℕ → ℕ) → (ℕ → ℕ) → ℕ → Bool
-goodEntry point role i =
-    isScalar (point i) && (leb 1 (role i) && (leb (role i) 4 && (eqb i 0 || ltb (point (i - 1)) (point i))))
+goodEntry point role i = goodEntryAlone (point i) (role i) && (eqb i 0 || ltb (point (i - 1)) (point i))
 
 -- the index of the first bad entry of m, or m
 unfoldable pub firstBadEntry : (ℕ → ℕ) → (ℕ → ℕ) → ℕ → ℕ
@@ -48,16 +52,35 @@ profileOf s =
 unfoldable pub noProfile : Profile
 noProfile = record { points = replicate maxEntries 0; roles = replicate maxEntries 0; used = 0 }
 
--- the role of x: that of the entry with this code point; 0 where there is none
+-- the role of x among m entries: that of the entry with this code point; 0 where there is none
+unfoldable pub roleBy : (ℕ → ℕ) → (ℕ → ℕ) → ℕ → ℕ → ℕ
+roleBy point role m x =
+    let i = firstWhere (λ (i : ℕ). eqb (point i) x) m in
+    cond (ltb i m) (role i) 0
+
+-- .. in a record
 unfoldable pub roleOf : Profile → ℕ → ℕ
-roleOf p x =
-    let i = firstWhere (λ (i : ℕ). eqb (pointIn p i) x) (p .used) in
-    cond (ltb i (p .used)) (roleIn p i) 0
+roleOf p x = roleBy (pointIn p) (roleIn p) (p .used) x
 
--- the class after the profile: role 1 makes Start, 2 Nonstart, 4 Other; 3 keeps the class
+-- the roles by their numbers
+abbrev pub startRole : ℕ
+startRole = 1
+
+abbrev pub nonstartRole : ℕ
+nonstartRole = 2
+
+abbrev pub medialRole : ℕ
+medialRole = 3
+
+abbrev pub otherRole : ℕ
+otherRole = 4
+
+-- the class after the profile: 1 makes Start, 2 Nonstart, 4 Other; every other role keeps the class
 unfoldable pub afterRole : ℕ → ℕ → ℕ
-afterRole role class = cond (eqb role 1) 1 (cond (eqb role 2) 2 (cond (eqb role 4) 5 class))
+afterRole role class =
+    cond (eqb role startRole) (classNumber Start)
+    (cond (eqb role nonstartRole) (classNumber Nonstart) (cond (eqb role otherRole) (classNumber Other) class))
 
--- role 3 marks a medial
-unfoldable pub isMedial : Profile → ℕ → Bool
-isMedial p x = eqb (roleOf p x) 3
+-- 3 marks a medial
+unfoldable pub isMedial : ℕ → Bool
+isMedial role = eqb role medialRole

@@ -7,7 +7,7 @@ use lib.Dec.{leb, ltb, eqb}
 use lib.ListN.{getD}
 use Rattle.lists.specs.First.{firstWhere}
 use Rattle.image.specs.Word.{wordAt}
-use Rattle.image.specs.Limits.{headerBytes, rangeBytes, lastCodePoint}
+use Rattle.image.specs.Limits.{headerBytes, rangeBytes, wordsPerRange, firstClass, lastClass, lastCodePoint, firstSurrogate, lastSurrogate}
 use Rattle.image.specs.declared.Range.{Range}
 
 -- range i of an image
@@ -18,7 +18,9 @@ rangeAt s i =
 
 -- range i of a list of words, three each
 unfoldable pub rangeIn : List ℕ → ℕ → Range
-rangeIn w i = record { first = getD w (3 * i) 0; last = getD w (3 * i + 1) 0; class = getD w (3 * i + 2) 0 }
+rangeIn w i =
+    let at = wordsPerRange * i in
+    record { first = getD w at 0; last = getD w (at + 1) 0; class = getD w (at + 2) 0 }
 
 -- a range's three words
 abbrev pub rangeWords : Range → List ℕ
@@ -28,7 +30,9 @@ rangeWords r = r .first ∷ r .last ∷ r .class ∷ []
 unfoldable pub goodAlone : Range → Bool
 goodAlone r =
     leb (r .first) (r .last)
-    && (leb (r .last) lastCodePoint && ((leb 0xE000 (r .first) || ltb (r .last) 0xD800) && (leb 1 (r .class) && leb (r .class) 5)))
+    && (leb (r .last) lastCodePoint
+    && ((ltb lastSurrogate (r .first) || ltb (r .last) firstSurrogate)
+    && (leb firstClass (r .class) && leb (r .class) lastClass)))
 
 -- r begins after the end of p, and doesn't touch p where their classes are the same
 unfoldable pub follows : Range → Range → Bool

@@ -14,9 +14,13 @@ wordAt s i = joinOf (getD s i 0) (getD s (i + 1) 0) (getD s (i + 2) 0) (getD s (
 unfoldable pub bytesOf : ℕ → List ℕ
 bytesOf w = w % 0x100 ∷ w / 0x100 % 0x100 ∷ w / 0x10000 % 0x100 ∷ w / 0x1000000 % 0x100 ∷ []
 
+-- a number of 32 bits
+abbrev pub IsWord : ℕ → Type 0
+IsWord v = v < 0x100000000
+
 -- every element is a byte, or a number of 32 bits, as in every slice of them
 abbrev pub AllBytes : List ℕ → Type 0
 AllBytes s = (i : ℕ) → getD s i 0 < 0x100
 
 abbrev pub AllWords : List ℕ → Type 0
-AllWords w = (i : ℕ) → getD w i 0 < 0x100000000
+AllWords w = (i : ℕ) → IsWord (getD w i 0)

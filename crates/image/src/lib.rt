@@ -3,16 +3,15 @@ ghost use mathlib.Core.Path.{_≡_};
 ghost use mathlib.Core.Bool.{true, not, _&&_, _||_};
 ghost use mathlib.Core.Option.{none};
 ghost use Prim.Native.Nat.{ℕ, _+_, _*_, _≤_};
-ghost use lib.Dec.{leb, ltb, eqb};
+ghost use lib.Dec.{ltb, eqb};
 ghost use lib.ListN.{length};
 ghost use Rattle.lists.specs.Laid.{laid};
 ghost use Rattle.lists.specs.Each.{each};
-ghost use Rattle.utf8.specs.Scalar.{isScalar};
 ghost use Rattle.image.specs.Word.{joinOf, wordAt};
-ghost use Rattle.image.specs.Limits.{maxRanges, maxEntries};
+ghost use Rattle.image.specs.Limits.{maxRanges, maxEntries, wordBytes, headerBytes, rangeBytes, entryBytes, wordsPerRange, firstSurrogate, lastSurrogate};
 ghost use Rattle.image.specs.Header.{versionOf, totalOf, rangeCount, rangeOffset, entryCount, entryOffset, entriesAt, imageEnd, lengthRight, headerRight};
 ghost use Rattle.image.specs.Ranges.{rangeAt, rangeWords, goodAlone, follows, goodRange, firstBadRange};
-ghost use Rattle.image.specs.Profile.{pointAt, roleAt, goodEntry, firstBadEntry, profileOf};
+ghost use Rattle.image.specs.Profile.{pointAt, roleAt, goodEntryAlone, goodEntry, firstBadEntry, profileOf};
 ghost use Rattle.image.specs.Check.{refusalOf, acceptedOf, refusedBy, checkOf, readOf, wordsAfter};
 use refusal::Refusal;
 
@@ -21,8 +20,70 @@ pub const MAX_RANGES: usize = 4096;
 
 pub const MAX_ENTRIES: usize = 64;
 
+// The bytes of a number, of the header, of a range and of a profile entry, and the words of a range.
+pub const WORD_BYTES: usize = 4;
+
+pub const HEADER_BYTES: usize = 32;
+
+pub const RANGE_BYTES: usize = 12;
+
+pub const ENTRY_BYTES: usize = 8;
+
+pub const RANGE_WORDS: usize = 3;
+
 // The most bytes that an image may have.
-pub const MAX_IMAGE: usize = 32 + 12 * MAX_RANGES + 8 * MAX_ENTRIES;
+pub const MAX_IMAGE: usize = HEADER_BYTES + RANGE_BYTES * MAX_RANGES + ENTRY_BYTES * MAX_ENTRIES;
+
+// The one format, and the byte places of the header's numbers.
+pub const FORMAT: u32 = 1;
+
+pub const FORMAT_AT: usize = 0;
+
+pub const VERSION_AT: usize = 4;
+
+pub const TOTAL_AT: usize = 8;
+
+pub const RANGE_COUNT_AT: usize = 12;
+
+pub const RANGE_OFFSET_AT: usize = 16;
+
+pub const ENTRY_COUNT_AT: usize = 20;
+
+pub const ENTRY_OFFSET_AT: usize = 24;
+
+pub const ZERO_AT: usize = 28;
+
+// Where the later numbers of a range stand, and the role of an entry, counted from the record's first byte.
+const LAST_AT: usize = 4;
+
+const CLASS_AT: usize = 8;
+
+pub const ROLE_AT: usize = 4;
+
+// The classes by their numbers. A code point in no range is unassigned.
+pub const UNASSIGNED: u32 = 0;
+
+pub const START: u32 = 1;
+
+pub const NONSTART: u32 = 2;
+
+pub const SYNTAX: u32 = 3;
+
+pub const WHITE: u32 = 4;
+
+pub const OTHER: u32 = 5;
+
+// The first role and the last.
+const FIRST_ROLE: u32 = 1;
+
+const LAST_ROLE: u32 = 4;
+
+// The last code point, and the surrogates.
+pub const LAST_CODE_POINT: u32 = 0x10FFFF;
+
+const FIRST_SURROGATE: u32 = 0xD800;
+
+const LAST_SURROGATE: u32 = 0xDFFF;
 
 // Code points from `first` to `last` with one class.
 pub struct Range {
@@ -57,7 +118,7 @@ fn join(a: u8, b: u8, c: u8, d: u8) -> u32
 
 // The number at byte i.
 pub fn word(s: &[u8], i: usize) -> u32
-    requires { ⌜ i + 4 ≤ length (now s) ⌝ }
+    requires { ⌜ i + wordBytes ≤ length (now s) ⌝ }
     ensures { λ r. ⌜ r ≡ wordAt (now (s .entry)) i ⌝ }
 {
     join(s[i], s[i + 1], s[i + 2], s[i + 3])
@@ -65,25 +126,25 @@ pub fn word(s: &[u8], i: usize) -> u32
 
 // Range i of an image.
 pub fn range_at(s: &[u8], i: usize) -> Range
-    requires { ⌜ 32 + 12 * i + 12 ≤ length (now s) ⌝ }
+    requires { ⌜ headerBytes + rangeBytes * i + rangeBytes ≤ length (now s) ⌝ }
     ensures { λ r. ⌜ r ≡ rangeAt (now (s .entry)) i ⌝ }
 {
-    let at = 32 + 12 * i;
+    let at = HEADER_BYTES + RANGE_BYTES * i;
     Range {
         first: word(s, at),
-        last: word(s, at + 4),
-        class: word(s, at + 8),
+        last: word(s, at + LAST_AT),
+        class: word(s, at + CLASS_AT),
     }
 }
 
 // Whether one of D800 to DFFF stands from `first` to `last`.
 fn has_surrogate(first: u32, last: u32) -> bool
-    ensures { λ t. ⌜ t ≡ not (leb 0xE000 first || ltb last 0xD800) ⌝ }
+    ensures { λ t. ⌜ t ≡ not (ltb lastSurrogate first || ltb last firstSurrogate) ⌝ }
 {
-    if 0xE000 <= first {
+    if LAST_SURROGATE < first {
         return false;
     }
-    if last < 0xD800 {
+    if last < FIRST_SURROGATE {
         return false;
     }
     true
@@ -96,16 +157,16 @@ pub fn is_good_alone(r: Range) -> bool
     if r.last < r.first {
         return false;
     }
-    if 0x10FFFF < r.last {
+    if LAST_CODE_POINT < r.last {
         return false;
     }
     if has_surrogate(r.first, r.last) {
         return false;
     }
-    if r.class < 1 {
+    if r.class < START {
         return false;
     }
-    r.class <= 5
+    r.class <= OTHER
 }
 
 // Whether a range is good after the range before it.
@@ -123,13 +184,13 @@ pub fn may_follow(p: Range, r: Range) -> bool
 
 // Whether a profile entry is good apart from its place in the order.
 pub fn is_good_entry_alone(point: u32, role: u32) -> bool
-    ensures { λ t. ⌜ t ≡ (isScalar point && (leb 1 role && leb role 4)) ⌝ }
+    ensures { λ t. ⌜ t ≡ goodEntryAlone point role ⌝ }
 {
     if utf8::is_scalar(point) {
-        if role < 1 {
+        if role < FIRST_ROLE {
             return false;
         }
-        return role <= 4;
+        return role <= LAST_ROLE;
     }
     false
 }
@@ -138,46 +199,46 @@ pub fn is_good_entry_alone(point: u32, role: u32) -> bool
 fn is_length_right(image: &[u8]) -> bool
     ensures { λ t. ⌜ t ≡ lengthRight (now (image .entry)) ⌝ }
 {
-    if image.len() < 32 {
+    if image.len() < HEADER_BYTES {
         return false;
     }
     if MAX_IMAGE < image.len() {
         return false;
     }
-    word(image, 8) as usize == image.len()
+    word(image, TOTAL_AT) as usize == image.len()
 }
 
 // Whether the offsets and the total length are those of n ranges and m entries.
 fn are_offsets_right(image: &[u8], n: usize, m: usize) -> bool
-    requires { ⌜ (32 ≤ length (now image)) × (n ≤ maxRanges) × (m ≤ maxEntries) ⌝ }
-    ensures { λ t. ⌜ t ≡ (eqb (rangeOffset (now (image .entry))) 32 && (eqb (entryOffset (now (image .entry))) (entriesAt n) && eqb (totalOf (now (image .entry))) (imageEnd n m))) ⌝ }
+    requires { ⌜ (headerBytes ≤ length (now image)) × (n ≤ maxRanges) × (m ≤ maxEntries) ⌝ }
+    ensures { λ t. ⌜ t ≡ (eqb (rangeOffset (now (image .entry))) headerBytes && (eqb (entryOffset (now (image .entry))) (entriesAt n) && eqb (totalOf (now (image .entry))) (imageEnd n m))) ⌝ }
 {
-    if word(image, 16) != 32 {
+    if word(image, RANGE_OFFSET_AT) as usize != HEADER_BYTES {
         return false;
     }
-    let entries = 32 + 12 * n;
-    if word(image, 24) as usize != entries {
+    let entries = HEADER_BYTES + RANGE_BYTES * n;
+    if word(image, ENTRY_OFFSET_AT) as usize != entries {
         return false;
     }
-    word(image, 8) as usize == entries + 8 * m
+    word(image, TOTAL_AT) as usize == entries + ENTRY_BYTES * m
 }
 
 // Whether the header is right: not refusal 2. The counts are compared with their limits before they are multiplied.
 fn is_header_right(image: &[u8]) -> bool
-    requires { ⌜ 32 ≤ length (now image) ⌝ }
+    requires { ⌜ headerBytes ≤ length (now image) ⌝ }
     ensures { λ t. ⌜ t ≡ headerRight (now (image .entry)) ⌝ }
 {
-    if word(image, 0) != 1 {
+    if word(image, FORMAT_AT) != FORMAT {
         return false;
     }
-    if word(image, 28) != 0 {
+    if word(image, ZERO_AT) != 0 {
         return false;
     }
-    let n = word(image, 12) as usize;
+    let n = word(image, RANGE_COUNT_AT) as usize;
     if MAX_RANGES < n {
         return false;
     }
-    let m = word(image, 20) as usize;
+    let m = word(image, ENTRY_COUNT_AT) as usize;
     if MAX_ENTRIES < m {
         return false;
     }
@@ -186,7 +247,7 @@ fn is_header_right(image: &[u8]) -> bool
 
 // Whether range i of an image is good.
 fn is_good_range(image: &[u8], i: usize) -> bool
-    requires { ⌜ 32 + 12 * i + 12 ≤ length (now image) ⌝ }
+    requires { ⌜ headerBytes + rangeBytes * i + rangeBytes ≤ length (now image) ⌝ }
     ensures { λ t. ⌜ t ≡ goodRange (rangeAt (now (image .entry))) i ⌝ }
 {
     let r = range_at(image, i);
@@ -201,7 +262,7 @@ fn is_good_range(image: &[u8], i: usize) -> bool
 
 // The index of the first bad range of n, or n.
 fn first_bad_range(image: &[u8], n: usize) -> usize
-    requires { ⌜ 32 + 12 * n ≤ length (now image) ⌝ }
+    requires { ⌜ entriesAt n ≤ length (now image) ⌝ }
     ensures { λ r. ⌜ r ≡ firstBadRange (rangeAt (now (image .entry))) n ⌝ }
 {
     let mut i = 0;
@@ -217,23 +278,23 @@ fn first_bad_range(image: &[u8], n: usize) -> usize
 
 // Whether profile entry i of an image is good; the entries begin at byte `base`.
 fn is_good_entry(image: &[u8], base: usize, i: usize) -> bool
-    requires { ⌜ (base ≡ entriesAt (rangeCount (now image))) × (base + 8 * i + 8 ≤ length (now image)) ⌝ }
+    requires { ⌜ (base ≡ entriesAt (rangeCount (now image))) × (base + entryBytes * i + entryBytes ≤ length (now image)) ⌝ }
     ensures { λ t. ⌜ t ≡ goodEntry (pointAt (now (image .entry))) (roleAt (now (image .entry))) i ⌝ }
 {
-    let at = base + 8 * i;
+    let at = base + ENTRY_BYTES * i;
     let point = word(image, at);
-    if is_good_entry_alone(point, word(image, at + 4)) {
+    if is_good_entry_alone(point, word(image, at + ROLE_AT)) {
         if i == 0 {
             return true;
         }
-        return word(image, at - 8) < point;
+        return word(image, at - ENTRY_BYTES) < point;
     }
     false
 }
 
 // The index of the first bad entry of m, or m.
 fn first_bad_entry(image: &[u8], base: usize, m: usize) -> usize
-    requires { ⌜ (base ≡ entriesAt (rangeCount (now image))) × (base + 8 * m ≤ length (now image)) ⌝ }
+    requires { ⌜ (base ≡ entriesAt (rangeCount (now image))) × (base + entryBytes * m ≤ length (now image)) ⌝ }
     ensures { λ r. ⌜ r ≡ firstBadEntry (pointAt (now (image .entry))) (roleAt (now (image .entry))) m ⌝ }
 {
     let mut i = 0;
@@ -249,16 +310,16 @@ fn first_bad_entry(image: &[u8], base: usize, m: usize) -> usize
 
 // The profile of an image with m entries from byte `base` on.
 fn read_profile(image: &[u8], base: usize, m: usize) -> Profile
-    requires { ⌜ (base ≡ entriesAt (rangeCount (now image))) × (m ≡ entryCount (now image)) × (m ≤ maxEntries) × (base + 8 * m ≤ length (now image)) ⌝ }
+    requires { ⌜ (base ≡ entriesAt (rangeCount (now image))) × (m ≡ entryCount (now image)) × (m ≤ maxEntries) × (base + entryBytes * m ≤ length (now image)) ⌝ }
     ensures { λ r. ⌜ r ≡ profileOf (now (image .entry)) ⌝ }
 {
     let mut points = [0u32; MAX_ENTRIES];
     let mut roles = [0u32; MAX_ENTRIES];
     let mut i = 0;
     while i < m {
-        let at = base + 8 * i;
+        let at = base + ENTRY_BYTES * i;
         points[i] = word(image, at);
-        roles[i] = word(image, at + 4);
+        roles[i] = word(image, at + ROLE_AT);
         i += 1;
     }
     Profile {
@@ -288,10 +349,10 @@ fn accept(image: &[u8], version: u32, n: usize) -> Checked
     requires { ⌜ (refusalOf (now image) ≡ none) × (version ≡ versionOf (now image)) × (n ≡ rangeCount (now image)) ⌝ }
     ensures { λ k. ⌜ k ≡ acceptedOf (now (image .entry)) ⌝ }
 {
-    let m = word(image, 20) as usize;
+    let m = word(image, ENTRY_COUNT_AT) as usize;
     Checked {
         answer: Answer::Accepted { version, ranges: n },
-        profile: read_profile(image, 32 + 12 * n, m),
+        profile: read_profile(image, HEADER_BYTES + RANGE_BYTES * n, m),
     }
 }
 
@@ -300,18 +361,18 @@ fn judge_records(image: &[u8]) -> Answer
     requires { ⌜ (lengthRight (now image) ≡ true) × (headerRight (now image) ≡ true) ⌝ }
     ensures { λ a. ⌜ a ≡ checkOf (now (image .entry)) .answer ⌝ }
 {
-    let n = word(image, 12) as usize;
+    let n = word(image, RANGE_COUNT_AT) as usize;
     let i = first_bad_range(image, n);
     if i < n {
         return Answer::Refused(Refusal::Range(i));
     }
-    let m = word(image, 20) as usize;
-    let j = first_bad_entry(image, 32 + 12 * n, m);
+    let m = word(image, ENTRY_COUNT_AT) as usize;
+    let j = first_bad_entry(image, HEADER_BYTES + RANGE_BYTES * n, m);
     if j < m {
         return Answer::Refused(Refusal::Entry(j));
     }
     Answer::Accepted {
-        version: word(image, 4),
+        version: word(image, VERSION_AT),
         ranges: n,
     }
 }
@@ -342,7 +403,7 @@ pub fn check(image: &[u8]) -> Checked
 
 // Writes one range, three words, at the front of a buffer.
 fn put_range(out: &mut [u32], r: Range)
-    requires { ⌜ 3 ≤ length (now out) ⌝ }
+    requires { ⌜ wordsPerRange ≤ length (now out) ⌝ }
     ensures { λ _. ⌜ now (out .exit) ≡ laid (now (out .entry)) 0 (rangeWords r) ⌝ }
 {
     out[0] = r.first;
@@ -352,13 +413,13 @@ fn put_range(out: &mut [u32], r: Range)
 
 // Writes the n ranges of an image at the front of a buffer.
 fn write_ranges(image: &[u8], n: usize, out: &mut [u32])
-    requires { ⌜ (32 + 12 * n ≤ length (now image)) × (3 * n ≤ length (now out)) ⌝ }
+    requires { ⌜ (entriesAt n ≤ length (now image)) × (wordsPerRange * n ≤ length (now out)) ⌝ }
     ensures { λ _. ⌜ now (out .exit) ≡ laid (now (out .entry)) 0 (each (λ (i : ℕ). rangeWords (rangeAt (now (image .entry)) i)) n) ⌝ }
 {
     let mut i = 0;
     while i < n {
         let r = range_at(image, i);
-        let at = 3 * i;
+        let at = RANGE_WORDS * i;
         put_range(&mut out[at..], r);
         i += 1;
     }
@@ -372,7 +433,7 @@ pub fn read(image: &[u8], out: &mut [u32]) -> Checked
     match a {
         Answer::Refused(r) => refuse(r),
         Answer::Accepted { version, ranges } => {
-            if out.len() / 3 < ranges {
+            if out.len() / RANGE_WORDS < ranges {
                 return refuse(Refusal::Room(ranges));
             }
             write_ranges(image, ranges, out);

@@ -1,6 +1,7 @@
 -- Laws of Boolean tests, and of what cannot be. Assumes nothing.
 use Prim.Native.Nat.{ℕ}
 use mathlib.Core.Path.{_≡_, refl}
+use mathlib.Core.List.{List, [], _∷_}
 use mathlib.Core.Bool.{Bool, true, false, false≢true, true≢false, _&&_, _||_}
 use mathlib.Core.Logic.{_⊎_, inl, inr}
 use native.Mathlib.Omega.{arith}
@@ -37,3 +38,16 @@ or-right false b e = e
 pub or-false : (a b : Bool) → (a || b) ≡ false → (a ≡ false) × (b ≡ false)
 or-false true b e = absurd (true≢false e)
 or-false false b e = (refl, e)
+
+-- many tests joined by `&&`: one by one, and together
+abbrev joined : Bool → List Bool → Bool
+joined a [] = a
+joined a (b ∷ bs) = a && joined b bs
+
+abbrev AllHold : Bool → List Bool → Type 0
+AllHold a [] = a ≡ true
+AllHold a (b ∷ bs) = (a ≡ true) × AllHold b bs
+
+pub split : (a : Bool) (bs : List Bool) → joined a bs ≡ true → AllHold a bs
+split a [] e = e
+split a (b ∷ bs) e = (and-left a (joined b bs) e, split b bs (and-right a (joined b bs) e))

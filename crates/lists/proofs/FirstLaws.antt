@@ -6,7 +6,7 @@ use native.Mathlib.Numerals.{add-one}
 use native.Mathlib.Omega.{arith}
 use native.Mathlib.Decide.{decLt}
 use borrow.Author.Tests.{not-true, not-false}
-use Rattle.lists.specs.First.{firstFrom, firstWhere, AllGood, FirstBad}
+use Rattle.lists.specs.First.{firstFrom, firstWhere, AllGood, FirstBad, Tells}
 
 -- for loops: the search from index i on, with n - i indexes left
 module _ (f : ℕ → Bool) (n i : ℕ) where
@@ -100,25 +100,28 @@ first-same f g n e = go (decLt (firstWhere f n) n)
         let q : firstWhere f n ≡ n = omega (arith, first-le f n) in
         q ∙ sym (first-none g n (λ x u. let v : x < firstWhere f n = omega arith in sym (e x u) ∙ first-passed f n x v))
 
--- the first index that isn't good
-module _ (good : ℕ → Bool) (n : ℕ) where
-  abbrev first : ℕ
-  first = firstWhere (λ (i : ℕ). not (good i)) n
+-- the first index that isn't good, where a test tells which are
+module _ (good : ℕ → Bool) (Good : ℕ → Type 0) (tells : Tells good Good) (n : ℕ) where
+  abbrev bad : ℕ → Bool
+  bad i = not (good i)
 
-  pub first-bad : first < n → FirstBad good n first
+  pub first-bad : firstWhere bad n < n → FirstBad Good n (firstWhere bad n)
   first-bad l =
       record {
         within = l;
-        bad = not-true _ (first-holds (λ (i : ℕ). not (good i)) n l);
-        before = λ x u. not-false _ (first-passed (λ (i : ℕ). not (good i)) n x u);
+        bad = λ g. true≢false (sym (tells .from _ g) ∙ not-true _ (first-holds bad n l));
+        before = λ i u. tells .to i (not-false _ (first-passed bad n i u));
       }
 
-  pub all-good : n ≤ first → AllGood good n
-  all-good l i u = not-false _ (first-passed (λ (i : ℕ). not (good i)) n i (omega arith))
+  pub all-good : n ≤ firstWhere bad n → AllGood Good n
+  all-good l i u = tells .to i (not-false _ (first-passed bad n i (omega arith)))
 
-  pub first-is-bad : (i : ℕ) → FirstBad good n i → first ≡ i
-  first-is-bad i h =
-      first-is (λ (i : ℕ). not (good i)) n i (h .within) (ap not (h .bad)) (λ x u. ap not (h .before x u))
+  fails : (i : ℕ) → (Good i → ⊥) → (b : Bool) → good i ≡ b → not b ≡ true
+  fails i f true e = absurd (f (tells .to i e))
+  fails i f false e = refl
 
-  pub first-is-none : AllGood good n → first ≡ n
-  first-is-none h = first-none (λ (i : ℕ). not (good i)) n (λ x u. ap not (h x u))
+  pub first-is-bad : (i : ℕ) → FirstBad Good n i → firstWhere bad n ≡ i
+  first-is-bad i h = first-is bad n i (h .within) (fails i (h .bad) _ refl) (λ x u. ap not (tells .from x (h .before x u)))
+
+  pub first-is-none : AllGood Good n → firstWhere bad n ≡ n
+  first-is-none h = first-none bad n (λ x u. ap not (tells .from x (h x u)))

@@ -5,10 +5,11 @@ use mathlib.Core.List.{List}
 use native.Mathlib.Numerals.{add-one}
 use native.Mathlib.Nat.{mul-suc, mul-zero, mul-le-mul-left}
 use native.Mathlib.Omega.{arith}
-use lib.ListN.{length}
+use lib.ListN.{length, take, drop}
+use borrow.Rule.Slice.PartMut.{putMid}
 use Rattle.lists.specs.Laid.{laid}
 use Rattle.lists.specs.Each.{eachFrom, each}
-use Rattle.lists.proofs.LaidLaws.{laid-none, laid-step, length-laid}
+use Rattle.lists.proofs.LaidLaws.{laid-none, laid-step, length-laid, lent}
 use Rattle.lists.proofs.EachLaws.{each-next, each-end, each-begins}
 
 -- the first i of n records stand in the buffer: with the others it is the whole list laid into the buffer as it was
@@ -30,14 +31,14 @@ module _ (f : ℕ → List ℕ) (w n : ℕ) (before : List ℕ) where
       next : w * (i + 1) ≡ w * i + w
       next = ap (λ (k : ℕ). w * k) (add-one i) ∙ mul-suc w i
 
-      pub record-fits : w * i + length (f i) ≤ length out
+      record-fits : w * i + length (f i) ≤ length out
       record-fits =
           let k : w * (i + 1) ≤ w * n = mul-le-mul-left w (omega arith) in
           let e = next in
           let z = h .size in
           omega arith
 
-      pub writing-next : (after : List ℕ) → after ≡ laid out (w * i) (f i) → Writing f w n before after (i + 1)
+      writing-next : (after : List ℕ) → after ≡ laid out (w * i) (f i) → Writing f w n before after (i + 1)
       writing-next after e =
           let r = eachFrom f (n - (i + 1)) (i + 1) in
           let k : w * (i + 1) ≡ w * i + length (f i) = next ∙ ap (λ (x : ℕ). w * i + x) (sym long) in
@@ -50,3 +51,9 @@ module _ (f : ℕ → List ℕ) (w n : ℕ) (before : List ℕ) where
                 ∙ ap (laid out (w * i)) (sym (each-next f n i l))
                 ∙ h .same;
           }
+
+      -- the same of a call that was lent the part `&mut out[w * i..]`, and wrote the record at that part's front
+      pub writing-lent :
+          (ys : List ℕ) → ys ≡ laid (take (length out - w * i) (drop (w * i) out)) 0 (f i)
+          → Writing f w n before (putMid (w * i) (length out - w * i) out ys) (i + 1)
+      writing-lent ys e = writing-next _ (lent out (f i) (w * i) record-fits ys e)

@@ -1,6 +1,5 @@
 pub mod HalvingLaws
+pub mod RisingLaws
 pub mod ClassLaws
-pub mod RoleLaws
-pub mod StretchLaws
-pub mod ReachLaws
+pub mod RecordLaws
 pub mod LookupLaws

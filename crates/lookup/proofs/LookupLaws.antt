@@ -1,112 +1,111 @@
--- The answer of a lookup, case by case; its count is at most 13, and a class after the profile at most 5. Assumes nothing.
-use Prim.Native.Nat.{ℕ, _+_, _*_, _≤_}
-use mathlib.Core.Path.{_≡_, refl, ap, _∙_}
+-- What each answer of a lookup says, exactly when; its count is at most 13, and a class after the profile at most 5. Assumes nothing.
+use Prim.Native.Nat.{ℕ, _≤_, _<_}
+use mathlib.Core.Path.{_≡_, refl, sym, ap, subst, _∙_}
 use mathlib.Core.Bool.{Bool, true, false, cond}
 use mathlib.Core.List.{List}
 use mathlib.Core.Option.{Option, none, some}
 use native.Mathlib.Omega.{arith}
-use lib.Dec.{eqb}
-use lib.ListN.{length}
 use Rattle.lists.proofs.BoolLaws.{impossible}
 use Rattle.utf8.specs.Scalar.{isScalar}
 use Rattle.refusal.specs.declared.Refusal.{Refusal}
 use Rattle.refusal.specs.declared.Refusal.the-variants as refusal
-use Rattle.image.specs.Limits.{headerBytes, rangeBytes, maxEntries}
-use Rattle.image.specs.Header.{rangeCount}
+use Rattle.image.specs.Header.{rangeCount, entryCount}
 use Rattle.image.specs.Ranges.{rangeAt}
-use Rattle.image.specs.Profile.{profileOf, roleOf, afterRole}
-use Rattle.image.specs.Check.{refusalOf, checkOf, rangeClass, classOf}
-use Rattle.image.specs.declared.Profile.{Profile}
+use Rattle.image.specs.Profile.{pointAt, roleAt, afterRole}
+use Rattle.image.specs.Check.{refusalOf, checkOf, rangeClass, entryRole, classOf}
 use Rattle.image.specs.declared.Answer.the-variants as answer
 use Rattle.image.specs.declared.Checked.{Checked}
-use Rattle.image.specs.Accepted.{Accepted}
-use Rattle.image.proofs.ImageLaws.{accepted, says}
+use Rattle.image.proofs.ImageLaws.{accepted, refused-none, says}
+use Rattle.image.proofs.RoleLaws.{class-after, after-known}
+use Rattle.lookup.specs.declared.Section.the-variants.{Ranges, Entries}
 use Rattle.lookup.specs.declared.Probe.{Probe}
+use Rattle.lookup.specs.declared.Found.{Found}
 use Rattle.lookup.specs.declared.Found.the-variants as found
+use Rattle.lookup.specs.Records.{entryRange, recordAt, recordCount, sectionClass}
 use Rattle.lookup.specs.Halving.{seekOf}
-use Rattle.lookup.specs.Stretch.{GoodRanges}
-use Rattle.lookup.specs.Lookup.{lookupBy, lookupOf}
+use Rattle.lookup.specs.Lookup.{foundIn, lookupBy, lookupOf}
+use Rattle.lookup.specs.Means.{HasClass, held, in-none, HasRole, named, no-entry, LookupMeans, image-refused, not-scalar, found-class}
 use Rattle.lookup.proofs.HalvingLaws.{seek-thirteen}
-use Rattle.lookup.proofs.ClassLaws.{seek-class, class-known}
+use Rattle.lookup.proofs.RisingLaws.{class-cases, class-of}
+use Rattle.lookup.proofs.RecordLaws.{fits, records-rise, found-at, range-known, class-by-sections}
 
--- an image that a check accepted, with n ranges, and the profile that the check gave
-pub record Opened (s : List ℕ) (n : ℕ) (p : Profile) : Type 0 where
-  pub accepts : refusalOf s ≡ none
-  pub count : n ≡ rangeCount s
-  pub whole : p ≡ profileOf s
-  pub room : p .used ≤ maxEntries
-  pub bytes : headerBytes + rangeBytes * n ≤ length s
-  pub good : GoodRanges (rangeAt s) n
-
-pub opened : (s : List ℕ) (k : Checked) → k ≡ checkOf s → (v n : ℕ) → k .answer ≡ answer.Accepted v n → Opened s n (k .profile)
-unfolding profileOf
-opened s k e v n f =
-    let t = says s k e (answer.Accepted v n) f in
-    let a = accepted s (t .0) in
-    let h = a .header in
-    let c = t .2 in
-    let u = ap (λ (p : Profile). p .used) (t .3) in
-    record {
-      accepts = t .0;
-      count = c;
-      whole = t .3;
-      room = omega (arith, h .few-entries);
-      bytes = omega (arith, h .size);
-      good = λ i l. a .ranges i (omega arith);
-    }
-
-pub refused-check : (s : List ℕ) (x : ℕ) (k : Checked) → k ≡ checkOf s → (r : Refusal) → k .answer ≡ answer.Refused r → found.Refused r ≡ lookupOf s x
-unfolding lookupOf
-refused-check s x k e r f = simp (says s k e (answer.Refused r) f .0)
-
+-- the answer by the image's refusal
 module _ (s : List ℕ) (x : ℕ) where
-  pub no-scalar : refusalOf s ≡ none → isScalar x ≡ false → found.Refused (refusal.NotScalar x) ≡ lookupOf s x
+  pub refused : (r : Refusal) → refusalOf s ≡ some r → lookupOf s x ≡ found.Refused r
   unfolding lookupOf
-  no-scalar e f = simp (e, f)
+  refused r e = simp e
 
-  -- the search finds the class in the ranges of an accepted image
-  pub class-found : refusalOf s ≡ none → seekOf (rangeAt s) 0 (rangeCount s) x .class ≡ rangeClass s x
-  unfolding rangeClass
-  class-found e = seek-class (rangeAt s) (rangeCount s) (accepted s e .ranges) x
-
-  pub found-class :
-      (n : ℕ) (p : Profile) (role : ℕ) (q : Probe) (c : ℕ) → Opened s n p → isScalar x ≡ true → role ≡ roleOf p x
-      → q ≡ seekOf (rangeAt s) 0 n x → c ≡ afterRole role (q .class) → found.Class c (q .count) ≡ lookupOf s x
-  unfolding lookupOf classOf
-  found-class n p role q c o h i j k =
-      let t = j ∙ ap (λ (m : ℕ). seekOf (rangeAt s) 0 m x) (o .count) in
-      let u = ap (λ (z : Probe). z .class) t ∙ class-found (o .accepts) in
-      let w = i ∙ ap (λ (z : Profile). roleOf z x) (o .whole) in
-      let v = k ∙ (λ d. afterRole (w d) (u d)) in
-      (λ d. found.Class (v d) (t d .count)) ∙ simp (o .accepts, h)
-
-  thirteen-in : (c k : ℕ) → refusalOf s ≡ none → (b : Bool) → cond b (found.Class (classOf s x) (seekOf (rangeAt s) 0 (rangeCount s) x .count)) (found.Refused (refusal.NotScalar x)) ≡ found.Class c k → k ≤ 13
-  thirteen-in c k e true f =
-      let a = accepted s e .header .few-ranges in
-      let z : seekOf (rangeAt s) 0 (rangeCount s) x .count ≡ k = cc in
-      omega (arith, seek-thirteen (rangeAt s) x (rangeCount s) a)
-  thirteen-in c k e false f = impossible (cc)
-
-  thirteen-by : (c k : ℕ) (o : Option Refusal) → refusalOf s ≡ o → lookupBy s x o ≡ found.Class c k → k ≤ 13
-  thirteen-by c k none e f = thirteen-in c k e (isScalar x) f
-  thirteen-by c k (some r) e f = impossible (cc)
-
-  -- at most 13 ranges are looked at
-  pub lookup-thirteen : (c k : ℕ) → lookupOf s x ≡ found.Class c k → k ≤ 13
+  pub checked : refusalOf s ≡ none → lookupOf s x ≡ foundIn s x
   unfolding lookupOf
-  lookup-thirteen c k f = thirteen-by c k (refusalOf s) refl f
+  checked e = simp e
 
-pub after-known : (role class : ℕ) → class ≤ 5 → afterRole role class ≤ 5
-unfolding afterRole
-after-known role class h = go (eqb role 1) (eqb role 2) (eqb role 4)
-  where
-    go : (a b c : Bool) → cond a 1 (cond b 2 (cond c 5 class)) ≤ 5
-    go true b c = omega arith
-    go false true c = omega arith
-    go false false true = omega arith
-    go false false false = h
+module _ (s : List ℕ) (x : ℕ) (a : refusalOf s ≡ none) where
+  pub scalar-none : isScalar x ≡ false → lookupOf s x ≡ found.Refused (refusal.NotScalar x)
+  scalar-none f = checked s x a ∙ simp f
+
+  pub scalar-class : isScalar x ≡ true → lookupOf s x ≡ found.Class (classOf s x) (seekOf (rangeAt s) 0 (rangeCount s) x .count)
+  scalar-class f = checked s x a ∙ simp f
+
+  -- .. by what the two searches found
+  pub searched :
+      (p q : Probe) (c : ℕ) → isScalar x ≡ true → p ≡ seekOf (recordAt s Entries) 0 (recordCount s Entries) x
+      → q ≡ seekOf (recordAt s Ranges) 0 (recordCount s Ranges) x → c ≡ afterRole (p .class) (q .class) → found.Class c (q .count) ≡ lookupOf s x
+  searched p q c h e f g =
+      let u = ap (λ (z : Probe). z .class) e ∙ found-at s a Entries x .class in
+      let v = ap (λ (z : Probe). z .class) f ∙ found-at s a Ranges x .class in
+      let w = g ∙ (λ d. afterRole (u d) (v d)) ∙ sym (class-by-sections s x) in
+      (λ d. found.Class (w d) (f d .count)) ∙ sym (scalar-class h)
 
 -- the class after the profile is one of 0 to 5
 pub class-of-known : (s : List ℕ) (x : ℕ) → refusalOf s ≡ none → classOf s x ≤ 5
-unfolding classOf rangeClass
-class-of-known s x e = after-known _ _ (class-known (rangeAt s) (rangeCount s) (accepted s e .ranges) x)
+class-of-known s x a = rw (class-by-sections s x) (after-known _ _ (range-known s a x))
+
+-- the role of x is that of the entry with this code point
+module _ (point role : ℕ → ℕ) (m x : ℕ) where
+  has-role : (r : ℕ) → HasClass (entryRange point role) m x r → HasRole point role m x r
+  has-role r (held i l a b) = named i l (omega arith)
+  has-role r (in-none f) = no-entry (λ i l e. f i l (omega arith) (omega arith))
+
+  role-has : (r : ℕ) → HasRole point role m x r → HasClass (entryRange point role) m x r
+  role-has r (named i l e) = held i l (omega arith) (omega arith)
+  role-has r (no-entry f) = in-none (λ i l a b. f i l (omega arith))
+
+module _ (s : List ℕ) (x : ℕ) where
+  abbrev steps : ℕ
+  steps = seekOf (rangeAt s) 0 (rangeCount s) x .count
+
+  scalar-means : refusalOf s ≡ none → (b : Bool) → isScalar x ≡ b → LookupMeans s x (cond b (found.Class (classOf s x) steps) (found.Refused (refusal.NotScalar x)))
+  scalar-means a true h =
+      rw (class-by-sections s x)
+      (found-class (accepted s a) h (class-cases (rangeAt s) (rangeCount s) x) (has-role (pointAt s) (roleAt s) (entryCount s) x _ (class-cases (entryRange (pointAt s) (roleAt s)) (entryCount s) x)))
+  scalar-means a false h = not-scalar (accepted s a) h
+
+  means-by : (o : Option Refusal) → refusalOf s ≡ o → LookupMeans s x (lookupBy s x o)
+  means-by none e = scalar-means e (isScalar x) refl
+  means-by (some r) e = image-refused e
+
+  -- what each answer says
+  pub lookup-means : (f : Found) → lookupOf s x ≡ f → LookupMeans s x f
+  unfolding lookupOf
+  lookup-means f e = subst (LookupMeans s x) e (means-by (refusalOf s) refl)
+
+  -- and back
+  pub means-lookup : (f : Found) → LookupMeans s x f → lookupOf s x ≡ f
+  means-lookup f (image-refused e) = refused s x _ e
+  means-lookup f (not-scalar a h) = scalar-none s x (refused-none s a) h
+  means-lookup f (found-class {class} {role} a h c r) =
+      let o = refused-none s a in
+      let u = class-of (rangeAt s) (rangeCount s) (records-rise s o Ranges) x class c in
+      let v = class-of (entryRange (pointAt s) (roleAt s)) (entryCount s) (records-rise s o Entries) x role (role-has (pointAt s) (roleAt s) (entryCount s) x role r) in
+      scalar-class s x o h ∙ ap (λ (k : ℕ). found.Class k steps) (class-by-sections s x ∙ (λ d. afterRole (v d) (u d)))
+
+  -- at most 13 ranges are looked at
+  pub lookup-thirteen : (c k : ℕ) → lookupOf s x ≡ found.Class c k → k ≤ 13
+  lookup-thirteen c k e = go (found.Class c k) (lookup-means _ e) refl
+    where
+      go : (f : Found) → LookupMeans s x f → f ≡ found.Class c k → k ≤ 13
+      go f (image-refused r) e = impossible (cc)
+      go f (not-scalar a h) e = impossible (cc)
+      go f (found-class a h t r) e =
+          let z : steps ≡ k = cc in
+          omega (arith, seek-thirteen (rangeAt s) x (rangeCount s) (fits s (refused-none s a) .few-ranges))

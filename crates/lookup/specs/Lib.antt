@@ -1,4 +1,5 @@
+pub mod Records
 pub mod Halving
+pub mod Placed
 pub mod Lookup
-pub mod Stretch
-pub mod Reach
+pub mod Means

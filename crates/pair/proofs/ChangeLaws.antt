@@ -7,6 +7,7 @@ use native.Mathlib.Omega.{arith}
 use lib.Dec.{eqb}
 use borrow.Author.Tests.{eqb-true, eq-eqb}
 use Rattle.lists.proofs.BoolLaws.{or-cases}
+use Rattle.image.specs.Limits.{lastClass}
 use Rattle.image.specs.Class.{Class, classNumber, classNamed}
 use Rattle.image.specs.Permitted.{
   Permitted,
@@ -73,7 +74,7 @@ numbered _ _ other-nonstart = refl
 numbered _ _ nonstart-start = refl
 
 -- a class number is that of its class
-pub number-named : (a : ℕ) → a ≤ 5 → classNumber (classNamed a) ≡ a
+pub number-named : (a : ℕ) → a ≤ lastClass → classNumber (classNamed a) ≡ a
 number-named zero h = refl
 number-named (suc zero) h = refl
 number-named (suc (suc zero)) h = refl
@@ -83,5 +84,5 @@ number-named (suc (suc (suc (suc (suc zero))))) h = refl
 number-named (suc (suc (suc (suc (suc (suc n)))))) h = absurd (omega arith)
 
 -- .. and of all of them
-pub is-permitted : (a b : ℕ) → a ≤ 5 → b ≤ 5 → Permitted (classNamed a) (classNamed b) → permitted a b ≡ true
+pub is-permitted : (a b : ℕ) → a ≤ lastClass → b ≤ lastClass → Permitted (classNamed a) (classNamed b) → permitted a b ≡ true
 is-permitted a b ha hb p = rw (← number-named a ha, ← number-named b hb) (numbered (classNamed a) (classNamed b) p)

@@ -6,20 +6,19 @@ use mathlib.Core.Option.{none}
 use native.Mathlib.Omega.{arith}
 use lib.ListN.{length}
 use Rattle.image.specs.Limits.{maxRanges, maxEntries}
-use Rattle.image.specs.Header.{rangeCount, entryCount, imageEnd}
+use Rattle.image.specs.Header.{rangeCount, entryCount, entriesAt, imageEnd}
 use Rattle.image.specs.Check.{refusalOf}
-use Rattle.image.proofs.ImageLaws.{accepted}
+use Rattle.image.proofs.ImageLaws.{accepted, accepted-size}
 use Rattle.pair.specs.Walk.{Walk}
 use Rattle.pair.specs.Judged.{EntriesFrom}
 
 -- the walk begins at code point 0
 pub walk-begins : (s : List ℕ) (n : ℕ) → refusalOf s ≡ none → n ≡ rangeCount s → Walk s n 0 0
 walk-begins s n e p =
-    let a = accepted s e in
-    let z = a .header .size in
+    let z = accepted-size s e in
     record {
       room = omega arith;
-      good = rw p (a .ranges);
+      good = rw p (accepted s e .ranges);
       place = record { passed = record { within = omega arith; before = λ l. absurd (omega arith) }; reached = λ l. omega arith };
     }
 
@@ -27,10 +26,8 @@ walk-begins s n e p =
 pub filled : (s : List ℕ) (n : ℕ) → refusalOf s ≡ none → n ≡ rangeCount s → (length s ≡ imageEnd n (entryCount s)) × (entryCount s ≤ maxEntries) × (n ≤ maxRanges)
 filled s n e p =
     let h = accepted s e .header in
-    let a = h .few-ranges in
-    let b = h .few-entries in
-    (rw p (h .size), b, omega arith)
+    (rw p (accepted-size s e), h .few-entries, omega arith)
 
 -- where the profile entries begin
-pub entries-begin : (s : List ℕ) (n count : ℕ) → refusalOf s ≡ none → n ≡ rangeCount s → count ≡ entryCount s → EntriesFrom s (32 + 12 * n) count
+pub entries-begin : (s : List ℕ) (n count : ℕ) → refusalOf s ≡ none → n ≡ rangeCount s → count ≡ entryCount s → EntriesFrom s (entriesAt n) count
 entries-begin s n count e p q = let (z, u, v) = filled s n e p in record { begin = rw p; room = omega arith }

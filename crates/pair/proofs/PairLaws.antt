@@ -1,48 +1,44 @@
 -- What each answer of the pair check says of the two images, exactly when. Assumes nothing.
-use Prim.Native.Nat.{ℕ, _-_, _≤_, _<_}
+use Prim.Native.Nat.{ℕ, _≤_, _<_}
 use mathlib.Core.Path.{_≡_, refl, sym, subst, _∙_}
 use mathlib.Core.List.{List}
 use mathlib.Core.Bool.{Bool, true, false, true≢false, cond}
 use mathlib.Core.Option.{Option, none, some}
 use native.Mathlib.Omega.{arith}
-use native.Mathlib.Decide.{decLt}
-use lib.Dec.{ltb, eqb, leb}
-use borrow.Author.Tests.{lt-ltb, le-ltb, eq-eqb, eqb-true, ltb-true, ltb-false, leb-true, not-true, not-false}
+use lib.Dec.{ltb, eqb}
+use borrow.Author.Tests.{lt-ltb, eq-eqb, eqb-true, ltb-true, ltb-false, not-true, not-false}
 use Rattle.lists.specs.First.{firstWhere}
 use Rattle.lists.proofs.BoolLaws.{and-left, and-right, or-false}
 use Rattle.lists.proofs.FirstLaws.{first-is, first-none, first-passed, first-holds}
-use Rattle.lists.proofs.EachLaws.{column-same}
 use Rattle.utf8.specs.Scalar.{isScalar}
+use Rattle.utf8.proofs.ScalarLaws.{scalar-le}
 use Rattle.refusal.specs.declared.Refusal.{Refusal}
 use Rattle.refusal.specs.declared.Refusal.the-variants as refusal
-use Rattle.image.specs.Limits.{maxEntries}
+use Rattle.image.specs.Limits.{lastClass}
 use Rattle.image.specs.Header.{rangeCount, entryCount}
 use Rattle.image.specs.Ranges.{rangeAt}
-use Rattle.image.specs.Profile.{pointAt, roleAt, profileOf}
+use Rattle.image.specs.Profile.{pointAt, roleAt}
+use Rattle.image.specs.Same.{SameProfile}
 use Rattle.image.specs.Check.{refusalOf, rangeClass}
 use Rattle.image.specs.Accepted.{Accepted}
-use Rattle.image.proofs.ImageLaws.{accepted, refused-none}
+use Rattle.image.proofs.ImageLaws.{accepted, refused-none, refusal-means, means-refusal}
 use Rattle.lookup.proofs.ClassLaws.{class-known}
-use Rattle.image.specs.Permitted.{Permitted}
 use Rattle.pair.specs.Change.{permitted}
-use Rattle.pair.specs.Means.{PermittedAt, OnlyPermitted, FirstChange, SameProfile, BothAccepted, Means}
+use Rattle.pair.specs.Means.{
+  PermittedAt,
+  OnlyPermitted,
+  FirstChange,
+  PairMeans,
+  bad-older,
+  bad-newer,
+  other-profile,
+  bad-change,
+  all-permitted,
+}
 use Rattle.pair.specs.Pair.{forbiddenAt, codePoints, firstForbidden, differsAt, sameEntries, sameProfile, comparedOf, pairBy, pairOf}
 use Rattle.pair.specs.declared.Pair.{Pair}
 use Rattle.pair.specs.declared.Pair.the-variants as pair
 use Rattle.pair.proofs.ChangeLaws.{permitted-is, is-permitted}
-
--- scalar values are code points
-scalar-below : (x : ℕ) → isScalar x ≡ true → x < codePoints
-unfolding isScalar
-scalar-below x e = go (decLt x 0xD800) (decLt x 0xE000)
-  where
-    go : Dec (x < 0xD800) → Dec (x < 0xE000) → x < codePoints
-    go (yes p) d = omega arith
-    go (no p) (yes q) = absurd (true≢false (sym e ∙ simp (le-ltb x 0xD800 (omega arith), lt-ltb x 0xE000 q)))
-    go (no p) (no q) =
-        let l : leb x 0x10FFFF ≡ true = simp (le-ltb x 0xD800 (omega arith), le-ltb x 0xE000 (omega arith)) at e in
-        let h = leb-true x 0x10FFFF l in
-        omega arith
 
 module _ (older newer : List ℕ) where
   -- one code point: the test and what it says
@@ -50,13 +46,13 @@ module _ (older newer : List ℕ) where
   unfolding forbiddenAt
   not-forbidden x e s = permitted-is _ _ (not-false _ (simp s at e))
 
-  class-small : (s : List ℕ) → Accepted s → (x : ℕ) → rangeClass s x ≤ 5
+  class-small : (s : List ℕ) → Accepted s → (x : ℕ) → rangeClass s x ≤ lastClass
   unfolding rangeClass
   class-small s a x = class-known (rangeAt s) (rangeCount s) (a .ranges) x
 
-  module _ (both : BothAccepted older newer) where
+  module _ (a : Accepted older) (b : Accepted newer) where
     permits : (x : ℕ) → PermittedAt older newer x → permitted (rangeClass older x) (rangeClass newer x) ≡ true
-    permits x p = is-permitted _ _ (class-small older (both .0) x) (class-small newer (both .1) x) p
+    permits x p = is-permitted _ _ (class-small older a x) (class-small newer b x) p
 
     is-forbidden : (x : ℕ) → forbiddenAt older newer x ≡ true → PermittedAt older newer x → ⊥
     unfolding forbiddenAt
@@ -75,7 +71,7 @@ module _ (older newer : List ℕ) where
     -- the search over all code points
     only-permitted : codePoints ≤ firstForbidden older newer → OnlyPermitted older newer
     unfolding firstForbidden
-    only-permitted l x s = not-forbidden x (first-passed (forbiddenAt older newer) codePoints x (let h = scalar-below x s in omega arith)) s
+    only-permitted l x s = not-forbidden x (first-passed (forbiddenAt older newer) codePoints x (let h = scalar-le x s in omega arith)) s
 
     none-forbidden : OnlyPermitted older newer → firstForbidden older newer ≡ codePoints
     unfolding firstForbidden
@@ -95,7 +91,7 @@ module _ (older newer : List ℕ) where
     change-first : (x : ℕ) → FirstChange older newer x → firstForbidden older newer ≡ x
     unfolding firstForbidden
     change-first x f =
-        first-is (forbiddenAt older newer) codePoints x (scalar-below x (f .scalar)) (forbids x (f .scalar) (f .forbidden) _ refl)
+        first-is (forbiddenAt older newer) codePoints x (let l = scalar-le x (f .scalar) in omega arith) (forbids x (f .scalar) (f .forbidden) _ refl)
         (λ y u. forbids-none y (f .before y u) (isScalar y) refl)
 
   -- profiles: the test and what it says
@@ -125,50 +121,47 @@ module _ (older newer : List ℕ) where
   profile-differs f false e = refl
 
   -- the answers
-  module _ (both : BothAccepted older newer) where
-    means-change : SameProfile older newer → (b : Bool) → ltb (firstForbidden older newer) codePoints ≡ b
-        → Means older newer (cond b (pair.Refused (refusal.Change (firstForbidden older newer))) pair.Permitted)
-    means-change s true e = (both, s, first-change both (ltb-true _ _ e))
-    means-change s false e = (both, s, only-permitted both (ltb-false _ _ e))
+  module _ (a : Accepted older) (b : Accepted newer) where
+    means-change : SameProfile older newer → (t : Bool) → ltb (firstForbidden older newer) codePoints ≡ t
+        → PairMeans older newer (cond t (pair.Refused (refusal.Change (firstForbidden older newer))) pair.Permitted)
+    means-change s true e = bad-change a b s (first-change a b (ltb-true _ _ e))
+    means-change s false e = all-permitted a b s (only-permitted a b (ltb-false _ _ e))
 
-    means-compared : (b : Bool) → sameProfile older newer ≡ b
-        → Means older newer
-        (cond b (cond (ltb (firstForbidden older newer) codePoints) (pair.Refused (refusal.Change (firstForbidden older newer))) pair.Permitted) (pair.Refused refusal.Profiles))
+    means-compared : (t : Bool) → sameProfile older newer ≡ t
+        → PairMeans older newer
+        (cond t (cond (ltb (firstForbidden older newer) codePoints) (pair.Refused (refusal.Change (firstForbidden older newer))) pair.Permitted) (pair.Refused refusal.Profiles))
     means-compared true e = means-change (same-profile e) _ refl
-    means-compared false e = (both, λ s. true≢false (sym (profile-same s) ∙ e))
+    means-compared false e = other-profile a b (λ s. true≢false (sym (profile-same s) ∙ e))
 
-  means-by : (o p : Option Refusal) → refusalOf older ≡ o → refusalOf newer ≡ p → Means older newer (pairBy older newer o p)
+    compared : pairOf older newer ≡ comparedOf older newer
+    unfolding pairOf
+    compared = simp (refused-none older a, refused-none newer b)
+
+  means-by : (o p : Option Refusal) → refusalOf older ≡ o → refusalOf newer ≡ p → PairMeans older newer (pairBy older newer o p)
   unfolding comparedOf
-  means-by (some r) p e f = e
-  means-by none (some r) e f = (accepted older e, f)
-  means-by none none e f = means-compared (accepted older e, accepted newer f) _ refl
+  means-by (some r) p e f = bad-older (refusal-means older (some r) e)
+  means-by none (some r) e f = bad-newer (accepted older e) (refusal-means newer (some r) f)
+  means-by none none e f = means-compared (accepted older e) (accepted newer f) _ refl
 
   -- what an answer says
-  pub pair-means : (p : Pair) → pairOf older newer ≡ p → Means older newer p
+  pub pair-means : (p : Pair) → pairOf older newer ≡ p → PairMeans older newer p
   unfolding pairOf
-  pair-means p e = subst (Means older newer) e (means-by _ _ refl refl)
-
-  compared : BothAccepted older newer → pairOf older newer ≡ comparedOf older newer
-  unfolding pairOf
-  compared both = simp (refused-none older (both .0), refused-none newer (both .1))
+  pair-means p e = subst (PairMeans older newer) e (means-by _ _ refl refl)
 
   -- and back: where it is so, that is the answer
-  pub means-pair : (p : Pair) → Means older newer p → pairOf older newer ≡ p
+  pub means-pair : (p : Pair) → PairMeans older newer p → pairOf older newer ≡ p
   unfolding pairOf comparedOf
-  means-pair (pair.Older r) e = simp e
-  means-pair (pair.Newer r) (a, e) = simp (refused-none older a, e)
-  means-pair (pair.Refused refusal.Profiles) (both, d) = compared both ∙ simp (profile-differs d _ refl)
-  means-pair (pair.Refused (refusal.Change x)) (both, s, f) =
-      let e = change-first both x f in
-      compared both ∙ simp (profile-same s, e, lt-ltb x codePoints (scalar-below x (f .scalar)))
-  means-pair pair.Permitted (both, s, f) =
-      let e = none-forbidden both f in
-      compared both ∙ simp (profile-same s, e)
+  means-pair _ (bad-older {r} m) = simp (means-refusal older (some r) m)
+  means-pair _ (bad-newer {r} a m) = simp (refused-none older a, means-refusal newer (some r) m)
+  means-pair _ (other-profile a b d) = compared a b ∙ simp (profile-differs d _ refl)
+  means-pair _ (bad-change {x} a b s f) =
+      let l = scalar-le x (f .scalar) in
+      compared a b ∙ simp (profile-same s, change-first a b x f, lt-ltb x codePoints (omega arith))
+  means-pair _ (all-permitted a b s f) = compared a b ∙ simp (profile-same s, none-forbidden a b f)
 
-  -- equal profile sections give equal profile records
-  pub profiles-equal : SameProfile older newer → profileOf older ≡ profileOf newer
-  unfolding profileOf
-  profiles-equal s =
-      let p = column-same maxEntries (pointAt older) (pointAt newer) (entryCount older) (s .point) in
-      let r = column-same maxEntries (roleAt older) (roleAt newer) (entryCount older) (s .role) in
-      rw (p, r, s .count)
+  -- the answer yes
+  pub permitted-means : pairOf older newer ≡ pair.Permitted → Accepted older × Accepted newer × SameProfile older newer × OnlyPermitted older newer
+  permitted-means e = go (pair-means pair.Permitted e)
+    where
+      go : PairMeans older newer pair.Permitted → Accepted older × Accepted newer × SameProfile older newer × OnlyPermitted older newer
+      go (all-permitted a b s f) = (a, b, s, f)

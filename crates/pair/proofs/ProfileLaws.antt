@@ -6,18 +6,23 @@ use mathlib.Core.Bool.{true, false}
 use native.Mathlib.Omega.{arith}
 use borrow.Author.Tests.{eq-eqb, ne-eqb}
 use Rattle.lists.proofs.FirstLaws.{first-is, first-none}
+use Rattle.image.specs.Limits.{entryBytes}
 use Rattle.image.specs.Profile.{pointAt, roleAt}
 use Rattle.pair.specs.Pair.{differsAt, sameEntries}
 use Rattle.pair.specs.Judged.{wordsDiffer, EntriesFrom}
 
 module _ (older newer : List ℕ) where
-  -- entry i stands 8 * i bytes after the first
-  pub entry-words : (a b count i : ℕ) → EntriesFrom older a count → EntriesFrom newer b count → differsAt older newer i ≡ wordsDiffer older newer (a + 8 * i) (b + 8 * i)
+  -- entry i stands i entries after the first
+  pub entry-words :
+      (a b count i : ℕ) → EntriesFrom older a count → EntriesFrom newer b count
+      → differsAt older newer i ≡ wordsDiffer older newer (a + entryBytes * i) (b + entryBytes * i)
   unfolding differsAt wordsDiffer pointAt roleAt
   entry-words a b count i p q = rw (p .begin, q .begin)
 
   -- one entry that differs, or none
-  pub entries-differ : (count i : ℕ) → i < count → ((k : ℕ) → k < i → differsAt older newer k ≡ false) → differsAt older newer i ≡ true → false ≡ sameEntries older newer count
+  pub entries-differ :
+      (count i : ℕ) → i < count → ((k : ℕ) → k < i → differsAt older newer k ≡ false) → differsAt older newer i ≡ true
+      → false ≡ sameEntries older newer count
   unfolding sameEntries
   entries-differ count i l p e = rw (first-is (differsAt older newer) count i l e p) (sym (ne-eqb i count (λ z. omega arith)))
 

@@ -8,7 +8,7 @@ use borrow.Author.Tests.{lt-ltb, le-ltb}
 use Rattle.image.specs.Limits.{lastCodePoint}
 use Rattle.image.specs.Ranges.{rangeAt}
 use Rattle.image.specs.declared.Range.{Range}
-use Rattle.lookup.proofs.ClassLaws.{good-alone, good-follows, class-held, class-gap}
+use Rattle.lookup.proofs.ClassLaws.{class-held, class-gap}
 use Rattle.pair.specs.declared.Ahead.{Ahead}
 use Rattle.pair.specs.Walk.{Walk, placeAfter, AheadOf, StepOf}
 
@@ -46,7 +46,7 @@ module _ (s : List ℕ) (n i x : ℕ) (w : Walk s n i x) (h : x ≤ lastCodePoin
   module _ (k : i < n) where
     gap : x < rangeAt s i .first → AheadOf s n i x (record { last = rangeAt s i .first - 1; class = 0; next = i })
     gap p =
-        let a = good-alone (rangeAt s) n (w .good) i k in
+        let a = w .good i k in
         let o = a .ordered in
         let b = a .below in
         record {
@@ -58,7 +58,7 @@ module _ (s : List ℕ) (n i x : ℕ) (w : Walk s n i x) (h : x ≤ lastCodePoin
 
     inside : rangeAt s i .first ≤ x → AheadOf s n i x (record { last = rangeAt s i .last; class = rangeAt s i .class; next = i + 1 })
     inside p =
-        let a = good-alone (rangeAt s) n (w .good) i k in
+        let a = w .good i k in
         let b = a .below in
         let to = w .place .reached k in
         record {
@@ -70,8 +70,8 @@ module _ (s : List ℕ) (n i x : ℕ) (w : Walk s n i x) (h : x ≤ lastCodePoin
       where
         next-follows : i + 1 < n → rangeAt s i .last + 1 ≤ rangeAt s (i + 1) .last
         next-follows q =
-            let f = good-follows (rangeAt s) n (w .good) (i + 1) (omega arith) q in
-            let o = good-alone (rangeAt s) n (w .good) (i + 1) q .ordered in
+            let f = w .good (i + 1) q .after (omega arith) in
+            let o = w .good (i + 1) q .ordered in
             let z : rangeAt s (i + 1 - 1) .last ≡ rangeAt s i .last = ap (λ (j : ℕ). rangeAt s j .last) (let y : i + 1 - 1 ≡ i = omega arith in y) in
             omega arith
 

@@ -7,7 +7,7 @@ use mathlib.Core.Option.{none}
 use lib.Dec.{eqb}
 use lib.ListN.{length}
 use Rattle.image.specs.Word.{wordAt}
-use Rattle.image.specs.Limits.{entryBytes}
+use Rattle.image.specs.Limits.{wordBytes, entryBytes}
 use Rattle.image.specs.Header.{rangeCount, entriesAt}
 use Rattle.image.specs.Check.{refusalOf}
 
@@ -25,4 +25,4 @@ pub record EntriesFrom (s : List ℕ) (a count : ℕ) : Type 0 where
 
 -- the two words from byte a on differ from those from byte b on
 unfoldable pub wordsDiffer : List ℕ → List ℕ → ℕ → ℕ → Bool
-wordsDiffer older newer a b = not (eqb (wordAt older a) (wordAt newer b)) || not (eqb (wordAt older (a + 4)) (wordAt newer (b + 4)))
+wordsDiffer older newer a b = not (eqb (wordAt older a) (wordAt newer b)) || not (eqb (wordAt older (a + wordBytes)) (wordAt newer (b + wordBytes)))

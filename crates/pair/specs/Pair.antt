@@ -1,5 +1,5 @@
 -- What the pair check of two images answers (docs/RULES.md, "Permitted changes", and refusals 10 and 11).
-use Prim.Native.Nat.{ℕ}
+use Prim.Native.Nat.{ℕ, _+_}
 use mathlib.Core.List.{List}
 use mathlib.Core.Bool.{Bool, true, false, not, _&&_, _||_, cond}
 use mathlib.Core.Option.{Option, none, some}
@@ -8,6 +8,7 @@ use Rattle.lists.specs.First.{firstWhere}
 use Rattle.utf8.specs.Scalar.{isScalar}
 use Rattle.refusal.specs.declared.Refusal.{Refusal}
 use Rattle.refusal.specs.declared.Refusal.the-variants as refusal
+use Rattle.image.specs.Limits.{lastCodePoint}
 use Rattle.image.specs.Header.{entryCount}
 use Rattle.image.specs.Profile.{pointAt, roleAt}
 use Rattle.image.specs.Check.{refusalOf, rangeClass}
@@ -21,7 +22,7 @@ forbiddenAt older newer x = isScalar x && not (permitted (rangeClass older x) (r
 
 -- one more than the last code point
 abbrev pub codePoints : ℕ
-codePoints = 0x110000
+codePoints = lastCodePoint + 1
 
 -- the smallest code point with a forbidden change; 110000 hex where there is none
 unfoldable pub firstForbidden : List ℕ → List ℕ → ℕ

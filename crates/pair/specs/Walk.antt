@@ -8,7 +8,7 @@ use lib.Dec.{ltb}
 use Rattle.image.specs.Limits.{lastCodePoint}
 use Rattle.image.specs.Header.{entriesAt}
 use Rattle.image.specs.Ranges.{rangeAt, classIn}
-use Rattle.lookup.specs.Stretch.{GoodRanges, Placed}
+use Rattle.lookup.specs.Placed.{GoodRanges, Placed}
 use Rattle.pair.specs.declared.Ahead.{Ahead}
 use Rattle.pair.specs.declared.Step.{Step}
 

@@ -3,6 +3,7 @@ ghost use mathlib.Core.Path.{_≡_};
 ghost use mathlib.Core.Option.{none};
 ghost use Prim.Native.Nat.{_+_, _≤_};
 ghost use lib.ListN.{length};
+ghost use Rattle.image.specs.Limits.{entryBytes, lastCodePoint};
 ghost use Rattle.image.specs.Header.{rangeCount};
 ghost use Rattle.image.specs.Check.{refusalOf};
 ghost use Rattle.pair.specs.Change.{isContinueClass, permitted};
@@ -10,15 +11,20 @@ ghost use Rattle.pair.specs.Walk.{Walk, placeAfter, AheadOf, StepOf};
 ghost use Rattle.pair.specs.Pair.{firstForbidden, sameEntries, sameProfile, comparedOf, pairOf};
 ghost use Rattle.pair.specs.Judged.{Judged, EntriesFrom, wordsDiffer};
 use image::Answer;
+use image::ENTRY_BYTES;
+use image::ENTRY_COUNT_AT;
+use image::HEADER_BYTES;
+use image::LAST_CODE_POINT;
+use image::NONSTART;
+use image::OTHER;
+use image::RANGE_BYTES;
+use image::ROLE_AT;
+use image::START;
+use image::UNASSIGNED;
 use refusal::Refusal;
 
-// The class of a code point in no range.
-const UNASSIGNED: u32 = 0;
-
-// The last code point, and how many there are.
-const LAST_CODE_POINT: u32 = 0x10FFFF;
-
-const CODE_POINTS: u32 = 0x110000;
+// How many code points there are.
+const CODE_POINTS: u32 = LAST_CODE_POINT + 1;
 
 // The answer of the pair check.
 pub enum Pair {
@@ -34,10 +40,10 @@ pub enum Pair {
 fn is_continue(class: u32) -> bool
     ensures { λ r. ⌜ r ≡ isContinueClass class ⌝ }
 {
-    if class == 1 {
+    if class == START {
         return true;
     }
-    class == 2
+    class == NONSTART
 }
 
 // Whether a class may become another, by their numbers.
@@ -47,17 +53,17 @@ pub fn is_permitted(older: u32, newer: u32) -> bool
     if newer == older {
         return true;
     }
-    if older == 0 {
+    if older == UNASSIGNED {
         if is_continue(newer) {
             return true;
         }
-        return newer == 5;
+        return newer == OTHER;
     }
-    if older == 5 {
+    if older == OTHER {
         return is_continue(newer);
     }
-    if older == 2 {
-        return newer == 1;
+    if older == NONSTART {
+        return newer == START;
     }
     false
 }
@@ -81,7 +87,7 @@ pub struct Step {
 // What begins at code point x of an image with n ranges, where i is the place of x among them.
 fn look_ahead(s: &[u8], n: usize, i: usize, x: u32) -> Ahead
     requires { ⌜ Walk (now s) n i x ⌝ }
-    requires { ⌜ x ≤ 0x10FFFF ⌝ }
+    requires { ⌜ x ≤ lastCodePoint ⌝ }
     ensures { λ r. ⌜ AheadOf (now (s .entry)) n i x r ⌝ }
 {
     if n <= i {
@@ -120,7 +126,7 @@ fn place_after(a: Ahead, i: usize, end: u32) -> usize
 fn walk_step(older: &[u8], newer: &[u8], n: usize, m: usize, i: usize, j: usize, x: u32) -> Step
     requires { ⌜ Walk (now older) n i x ⌝ }
     requires { ⌜ Walk (now newer) m j x ⌝ }
-    requires { ⌜ x ≤ 0x10FFFF ⌝ }
+    requires { ⌜ x ≤ lastCodePoint ⌝ }
     ensures { λ r. ⌜ StepOf (now (older .entry)) (now (newer .entry)) n m x r ⌝ }
 {
     let a = look_ahead(older, n, i, x);
@@ -161,13 +167,13 @@ fn first_forbidden(older: &[u8], newer: &[u8], n: usize, m: usize) -> u32
 
 // Whether the profile entries at byte a of one image and at byte b of the other differ.
 fn entries_differ(older: &[u8], newer: &[u8], a: usize, b: usize) -> bool
-    requires { ⌜ (a + 8 ≤ length (now older)) × (b + 8 ≤ length (now newer)) ⌝ }
+    requires { ⌜ (a + entryBytes ≤ length (now older)) × (b + entryBytes ≤ length (now newer)) ⌝ }
     ensures { λ r. ⌜ r ≡ wordsDiffer (now (older .entry)) (now (newer .entry)) a b ⌝ }
 {
     if image::word(older, a) != image::word(newer, b) {
         return true;
     }
-    image::word(older, a + 4) != image::word(newer, b + 4)
+    image::word(older, a + ROLE_AT) != image::word(newer, b + ROLE_AT)
 }
 
 // Whether the profile entries, `count` from byte a of one image and from byte b of the other, are the same.
@@ -178,7 +184,7 @@ fn are_entries_same(older: &[u8], newer: &[u8], a: usize, b: usize, count: usize
 {
     let mut i: usize = 0;
     while i < count {
-        if entries_differ(older, newer, a + 8 * i, b + 8 * i) {
+        if entries_differ(older, newer, a + ENTRY_BYTES * i, b + ENTRY_BYTES * i) {
             return false;
         }
         i += 1;
@@ -191,11 +197,17 @@ fn has_same_profile(older: &[u8], newer: &[u8], n: usize, m: usize) -> bool
     requires { ⌜ Judged (now older) (now newer) n m ⌝ }
     ensures { λ r. ⌜ r ≡ sameProfile (now (older .entry)) (now (newer .entry)) ⌝ }
 {
-    let count = image::word(older, 20) as usize;
-    if image::word(newer, 20) as usize != count {
+    let count = image::word(older, ENTRY_COUNT_AT) as usize;
+    if image::word(newer, ENTRY_COUNT_AT) as usize != count {
         return false;
     }
-    are_entries_same(older, newer, 32 + 12 * n, 32 + 12 * m, count)
+    are_entries_same(
+        older,
+        newer,
+        HEADER_BYTES + RANGE_BYTES * n,
+        HEADER_BYTES + RANGE_BYTES * m,
+        count,
+    )
 }
 
 // The pair check of two accepted images, with n and m ranges.

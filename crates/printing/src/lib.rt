@@ -10,12 +10,27 @@ pub fn print_number(n: usize) {
     io::print_decimal(STDOUT_FILENO, n as u64);
 }
 
+// A number after a space.
+pub fn print_next(n: usize) {
+    print_text(b" ");
+    print_number(n);
+}
+
+// A word after a space.
+pub fn print_word(w: u32) {
+    print_next(w as usize);
+}
+
+// A number in hex, with zeros in front up to `digits` digits.
+pub fn print_hex(n: u32, digits: usize) {
+    io::print_hex(STDOUT_FILENO, n as u64, digits);
+}
+
 // The line of a refusal without its end: `refused`, its number and what it carries, if anything.
 pub fn print_refusal(r: Refusal) {
-    print_text(b"refused ");
-    print_number(refusal::number(r) as usize);
+    print_text(b"refused");
+    print_next(refusal::number(r) as usize);
     if refusal::carried_count(r) == 1 {
-        print_text(b" ");
-        print_number(refusal::carried(r));
+        print_next(refusal::carried(r));
     }
 }

@@ -9,10 +9,10 @@ use lib.ListN.{length, take, drop, length-drop, drop-of-length-le, take-append-d
 use Rattle.lists.proofs.BoolLaws.{impossible}
 use Rattle.utf8.specs.declared.Step.{Step}
 use Rattle.utf8.specs.declared.Step.the-variants as step
-use Rattle.utf8.specs.Head.{stepOf}
-use Rattle.utf8.specs.Text.{Character, Encoded, NoSequence, decode, widthOf}
-use Rattle.utf8.proofs.TextLaws.{encodes, encoded-unique, says, decode-ill, decode-end}
-use Rattle.utf8.proofs.SequenceLaws.{end-empty, no-sequence-at, sequence-of-step}
+use Rattle.utf8.specs.Head.{stepOf, NoSequence, no-sequence}
+use Rattle.utf8.specs.Text.{Character, Encoded, decode, widthOf}
+use Rattle.utf8.proofs.TextLaws.{decode-means, means-decode, decode-ill, decode-end}
+use Rattle.utf8.proofs.SequenceLaws.{step-empty, end-empty, ill-not-empty, no-sequence-at, means-step}
 use Rattle.refusal.specs.declared.Refusal.{Refusal}
 use Rattle.refusal.specs.declared.Refusal.the-variants as refusal
 use Rattle.image.specs.Check.{refusalOf}
@@ -22,7 +22,7 @@ use Rattle.grammar.specs.Grammar.{Kind, Token as TokenOf}
 use Rattle.grammar.specs.Kinds.{kindNumber}
 use Rattle.grammar.specs.Reading.{maxText, meaningOf, rulesOf, readingOf, tokensOf}
 use Rattle.grammar.proofs.ScanLaws.{walk-nil}
-use Rattle.image.proofs.ImageLaws.{image-refused}
+use Rattle.image.proofs.ImageLaws.{refusal-number}
 use Rattle.grammar.proofs.GrammarLaws.{tokens-divide, tokens-unique}
 use Rattle.scan.specs.declared.First.{First}
 use Rattle.scan.specs.declared.First.the-variants as first
@@ -41,7 +41,7 @@ module _ (s text : List ℕ) (place : ℕ) where
       record {
         characters = decode (drop place text) .characters;
         rest = decode (drop place text) .rest;
-        encoded = encodes (drop place text);
+        encoded = decode-means (drop place text);
         kind = k;
         units = u;
         after = r;
@@ -78,7 +78,7 @@ module _ (s text : List ℕ) (place : ℕ) where
             stands = q;
             characters = decode part .characters;
             rest = decode part .rest;
-            encoded = encodes part;
+            encoded = decode-means part;
             none = none-by (readingOf s part .tokens) (readingOf s part .left) (decode part .characters) x l (tokens-divide (meaningOf s) (decode part .characters)) f;
           }
       go step.IllFormed q f = impossible (cc)
@@ -90,15 +90,15 @@ module _ (s text : List ℕ) (place : ℕ) where
   early refusal.Header e = e
   early (refusal.Range i) e = e
   early (refusal.Entry i) e = e
-  early refusal.TextLength e = let n = image-refused s refusal.TextLength e in absurd (omega arith)
-  early (refusal.IllFormed p) e = let n = image-refused s (refusal.IllFormed p) e in absurd (omega arith)
-  early (refusal.Characters p) e = let n = image-refused s (refusal.Characters p) e in absurd (omega arith)
-  early (refusal.Room k) e = let n = image-refused s (refusal.Room k) e in absurd (omega arith)
-  early (refusal.NotScalar x) e = let n = image-refused s (refusal.NotScalar x) e in absurd (omega arith)
-  early (refusal.Change x) e = let n = image-refused s (refusal.Change x) e in absurd (omega arith)
-  early refusal.Profiles e = let n = image-refused s refusal.Profiles e in absurd (omega arith)
-  early (refusal.Buffer k) e = let n = image-refused s (refusal.Buffer k) e in absurd (omega arith)
-  early refusal.Shape e = let n = image-refused s refusal.Shape e in absurd (omega arith)
+  early refusal.TextLength e = let n = refusal-number s refusal.TextLength e in absurd (omega arith)
+  early (refusal.IllFormed p) e = let n = refusal-number s (refusal.IllFormed p) e in absurd (omega arith)
+  early (refusal.Characters p) e = let n = refusal-number s (refusal.Characters p) e in absurd (omega arith)
+  early (refusal.Room k) e = let n = refusal-number s (refusal.Room k) e in absurd (omega arith)
+  early (refusal.NotScalar x) e = let n = refusal-number s (refusal.NotScalar x) e in absurd (omega arith)
+  early (refusal.Change x) e = let n = refusal-number s (refusal.Change x) e in absurd (omega arith)
+  early refusal.Profiles e = let n = refusal-number s refusal.Profiles e in absurd (omega arith)
+  early (refusal.Buffer k) e = let n = refusal-number s (refusal.Buffer k) e in absurd (omega arith)
+  early refusal.Shape e = let n = refusal-number s refusal.Shape e in absurd (omega arith)
 
   refused-early : (r : Refusal) → refusalOf s ≡ some r → takenOf s text place ≡ Refused r
   unfolding takenOf
@@ -126,7 +126,7 @@ module _ (s text : List ℕ) (place : ℕ) where
       (h, omega arith)
   placed-means h first.IllFormed q =
       let i = first-ill (tokensOf s (drop place text)) (stepOf (drop place text)) q in
-      let m = says (drop place text) step.IllFormed (sym i) in
+      let m = ill-not-empty (drop place text) i in
       let l = length-drop place text in
       (h, refl, omega arith, no-sequence-at (drop place text) i)
   placed-means h first.NoToken q = (h, refl, first-none q)
@@ -158,16 +158,14 @@ module _ (s text : List ℕ) (place : ℕ) where
   placed-taken : Placed s text place → (f : First) → firstOf s (drop place text) ≡ f → takenOf s text place ≡ takenBy place f
   placed-taken h f e = sym (taken-first s text place (h .accepted) (h .short) (h .within) f e)
 
-  step-ill : place < length text → NoSequence (drop place text) → (t : Step) → stepOf (drop place text) ≡ t → t ≡ step.IllFormed
-  step-ill l n step.IllFormed e = refl
-  step-ill l n step.End e = let z = ap length (end-empty (drop place text) e) in let d = length-drop place text in absurd (omega arith)
-  step-ill l n (step.Scalar x k) e = absurd (n (take k (drop place text)) (drop k (drop place text)) (sym (take-append-drop k (drop place text))) (sequence-of-step (drop place text) x k e .sequence))
+  step-ill : place < length text → NoSequence (drop place text) → stepOf (drop place text) ≡ step.IllFormed
+  step-ill l n = let d = length-drop place text in means-step (drop place text) step.IllFormed (no-sequence (omega arith) n)
 
   tokens-there : {cs : List Character} {rest : List ℕ} {ts : List (Tok Character Kind)} {left : List Character} →
       Encoded (drop place text) cs rest → Division (TokenOf (meaningOf s)) cs ts left → tokensOf s (drop place text) ≡ ts
   unfolding readingOf
   tokens-there {cs} {rest} {ts} {left} c d =
-      let e : decode (drop place text) .characters ≡ cs = ap (λ d. d .characters) (encoded-unique c) in
+      let e : decode (drop place text) .characters ≡ cs = ap (λ d. d .characters) (means-decode c) in
       let f : Division (TokenOf (meaningOf s)) (decode (drop place text) .characters) ts left = rw e d in
       tokens-unique (meaningOf s) (tokens-divide (meaningOf s) (decode (drop place text) .characters)) f .0
 
@@ -183,7 +181,7 @@ module _ (s text : List ℕ) (place : ℕ) where
       cc
 
   pub means-taken : (t : Taken) → Means s text place t → takenOf s text place ≡ t
-  unfolding firstOf stepOf
+  unfolding firstOf
   means-taken (Refused refusal.Length) m = refused-early refusal.Length m
   means-taken (Refused refusal.Header) m = refused-early refusal.Header m
   means-taken (Refused (refusal.Range i)) m = refused-early (refusal.Range i) m
@@ -191,7 +189,7 @@ module _ (s text : List ℕ) (place : ℕ) where
   means-taken (Refused refusal.TextLength) m = sym (taken-long s text place (m .0) (m .1))
   means-taken (Refused refusal.Shape) m = sym (taken-past s text place (m .0) (m .1) (m .2))
   means-taken (Refused (refusal.IllFormed p)) m =
-      let i = step-ill (m .2) (m .3) (stepOf (drop place text)) refl in
+      let i = step-ill (m .2) (m .3) in
       placed-taken (m .0) first.IllFormed (ap (firstBy (tokensOf s (drop place text))) i) ∙ ap (λ (p : ℕ). Refused (refusal.IllFormed p)) (sym (m .1))
   means-taken (Refused (refusal.Characters p)) m =
       let t = m .2 in
@@ -199,7 +197,7 @@ module _ (s text : List ℕ) (place : ℕ) where
   means-taken Done m =
       let l : length text ≤ place = omega (arith, m .1) in
       let d : drop place text ≡ [] = drop-of-length-le text l in
-      placed-taken (m .0) first.Nothing (ap (λ (u : List ℕ). firstBy (tokensOf s u) (stepOf u)) d)
+      placed-taken (m .0) first.Nothing (ap (firstBy (tokensOf s (drop place text))) (ap stepOf d ∙ step-empty))
   means-taken (Token n a e) m =
       let t = m .2 in
       let u = tokens-there (t .encoded) (takes (t .longest) (tokens-divide (meaningOf s) (t .after))) in

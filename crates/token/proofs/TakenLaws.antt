@@ -11,9 +11,12 @@ use Rattle.refusal.specs.declared.Refusal.{Refusal}
 use Rattle.refusal.specs.declared.Refusal.the-variants as refusal
 use Rattle.utf8.specs.declared.Step.{Step}
 use Rattle.utf8.specs.declared.Step.the-variants as step
+use Rattle.utf8.specs.declared.Text.{Text}
+use Rattle.utf8.specs.declared.Text.the-variants as form
 use Rattle.utf8.specs.Head.{stepOf}
-use Rattle.utf8.specs.Text.{Character, decode, widthOf, textBy, textOf}
-use Rattle.utf8.proofs.TextLaws.{taken, decode-scalar, text-ill, text-end, says, covers, cut}
+use Rattle.utf8.specs.Text.{Character, decode, widthOf, textOf}
+use Rattle.utf8.proofs.SequenceLaws.{end-empty, ill-not-empty}
+use Rattle.utf8.proofs.TextLaws.{step-bounds, decode-scalar, text-ill, text-end, well-rest, ill-rest, decode-covers, decode-before-ill}
 use Rattle.image.specs.Check.{refusalOf, checkOf}
 use Rattle.image.specs.declared.Answer.the-variants as answer
 use Rattle.image.specs.declared.Checked.{Checked}
@@ -39,27 +42,25 @@ takenBy place first.NoToken = Refused (refusal.Characters place)
 takenBy place (first.Token k e) = Token k place (place + e)
 
 -- the characters from the place on end at q
-stop-by : (place end w : ℕ) (r : List ℕ) → (r ≡ [] → end ≡ place + w) → stopBy place end (textBy w r) ≡ place + w
-stop-by place end w [] h = h refl
-stop-by place end w (b ∷ r) h = refl
-
 stop-width : (text : List ℕ) (place : ℕ) → place ≤ length text → stopOf text place ≡ place + widthOf (decode (drop place text) .characters)
-unfolding stopOf textOf
-stop-width text place h =
-    let part = drop place text in
-    let w = widthOf (decode part .characters) in
-    let c = covers part in
-    let l = length-drop place text in
-    stop-by place (length text) w (decode part .rest) (λ e.
-    let n = ap length (c .after ∙ e) in
-    let m = length-drop w part in
-    let z : length (drop w part) ≡ 0 = n in
-    omega (arith, c .within))
+unfolding stopOf
+stop-width text place h = go (textOf (drop place text)) refl
+  where
+    go : (t : Text) → textOf (drop place text) ≡ t → stopBy place (length text) t ≡ place + widthOf (decode (drop place text) .characters)
+    go form.WellFormed e =
+        let part = drop place text in
+        let w = widthOf (decode part .characters) in
+        let c = decode-covers part in
+        let l = length-drop place text in
+        let m = length-drop w part in
+        let n : length (drop w part) ≡ 0 = ap length (c .after ∙ well-rest part e) in
+        omega (arith, c .within)
+    go (form.IllFormed p) e = let r = ill-rest (drop place text) p e in omega arith
 
 -- reading the part up to q finds the same tokens
 same-tokens : (s part : List ℕ) → tokensOf s (take (widthOf (decode part .characters)) part) ≡ tokensOf s part
 unfolding readingOf
-same-tokens s part = ap (λ d. reading (rulesOf s) (d .characters) .tokens) (cut part)
+same-tokens s part = ap (λ d. reading (rulesOf s) (d .characters) .tokens) (decode-before-ill part)
 
 first-by : (place : ℕ) (ts : List (Tok Character Kind)) → firstAt place ts ≡ takenBy place (firstIn ts)
 first-by place [] = refl
@@ -70,19 +71,19 @@ module _ (s text : List ℕ) (place : ℕ) (within : place ≤ length text) wher
   unfolding tokenAt stopOf
   at-step step.End e =
       let l = length-drop place text in
-      let (n, d) = says (drop place text) step.End (sym e) in
+      let n = end-empty (drop place text) e in
       let z = ap length n in
       let q : place ≡ length text = omega arith in
       rw (text-end (drop place text) n) (simp (eq-eqb place (length text) q))
   at-step step.IllFormed e =
       let l = length-drop place text in
-      let (n, d) = says (drop place text) step.IllFormed (sym e) in
+      let n = ill-not-empty (drop place text) e in
       let q : place ≡ place + 0 = omega arith in
       rw (text-ill (drop place text) e) (simp (eq-eqb place (place + 0) q, ne-eqb place (length text) (λ z. omega arith)))
   at-step (step.Scalar x n) e =
       let part = drop place text in
       let l = length-drop place text in
-      let t = taken part x n e in
+      let t = step-bounds part x n e in
       let d = ap (λ d. widthOf (d .characters)) (decode-scalar part x n e) in
       let w = stop-width text place within in
       let q : stopOf text place - place ≡ widthOf (decode part .characters) = omega arith in
@@ -105,7 +106,7 @@ unfolding firstOf readingOf
 first-within s text k e f =
     let w = readingOf s text in
     let c = ap widthOf (reading-covers (rulesOf s) (decode text .characters)) ∙ width-append (unitsOf (w .tokens)) (w .left) in
-    omega (arith, first-within-by (w .tokens) (stepOf text) k e f, tokens-width (w .tokens), covers text .within)
+    omega (arith, first-within-by (w .tokens) (stepOf text) k e f, tokens-width (w .tokens), decode-covers text .within)
 
 module _ (s text : List ℕ) (place : ℕ) where
   -- 1 to 4

@@ -6,8 +6,8 @@ use mathlib.Core.Option.{none, some}
 use lib.ListN.{length, drop}
 use Rattle.refusal.specs.declared.Refusal.the-variants as refusal
 use Rattle.utf8.specs.declared.Step.the-variants.{Scalar}
-use Rattle.utf8.specs.Head.{stepOf}
-use Rattle.utf8.specs.Text.{Character, Encoded, NoSequence, widthOf}
+use Rattle.utf8.specs.Head.{stepOf, NoSequence}
+use Rattle.utf8.specs.Text.{Character, Encoded, widthOf}
 use Rattle.image.specs.Check.{refusalOf}
 use Rattle.grammar.specs.Division.{Longest, NoToken}
 use Rattle.grammar.specs.Grammar.{Kind, Token as TokenOf}

@@ -1,20 +1,20 @@
 -- The lead of a byte is its row of Table 3-7, and the sequence at the head of a text is the one that its lead asks for.
 -- Assumes nothing.
-use Prim.Native.Nat.{ℕ, suc, _≤_, _<_}
+use Prim.Native.Nat.{ℕ, suc, _+_, _*_, _≤_, _<_}
 use mathlib.Core.Path.{_≡_, refl, sym, ap, _∙_}
 use mathlib.Core.Bool.{Bool, true, false, _&&_, cond}
-use mathlib.Core.List.{List, [], _∷_, _++_}
+use mathlib.Core.List.{List, [], _∷_, _++_, append-assoc}
 use native.Mathlib.Omega.{arith}
 use lib.Dec.{leb, ltb}
-use lib.ListN.{length, take, drop, getD, replicate, take-append-drop}
+use lib.ListN.{length, take, drop, getD, take-append-drop}
 use borrow.Author.Tests.{leb-true, ltb-true}
 use Rattle.lists.proofs.BoolLaws.{and-left, and-right, impossible}
 use Rattle.utf8.specs.declared.Lead.{Lead}
 use Rattle.utf8.specs.declared.Step.the-variants.{Scalar, IllFormed, End}
 use Rattle.utf8.specs.Table.{Bytes, _to_, Row, table, inside, fits, codePoint}
 use Rattle.utf8.specs.Head.{stepIn, stepOf}
-use Rattle.utf8.specs.Lead.{leadOfRow, leads, leadIn, leadOf, trailOf, stepAs, stepBy, byteFits, stepLength}
-use Rattle.utf8.proofs.TableLaws.{inside-in, inside-out, inside-above, inside-below, fits-in, fits-out, one-byte}
+use Rattle.utf8.specs.Lead.{leadOfRow, leads, leadIn, leadOf, trailOf, stepAs, stepBy, byteFits, packed}
+use Rattle.utf8.proofs.TableLaws.{inside-in, inside-out, inside-above, inside-below, byte-there, fits-in, fits-out, bytesAt, bytes-at}
 
 -- every row's first byte is below k; at k or above
 abbrev pub below : ℕ → List Row → Bool
@@ -53,51 +53,6 @@ nowhere ((g ∷ gs) ∷ rs) k b t h =
     let l = leb-true k (g .low) (and-left (leb k (g .low)) (above k rs) t) in
     simp (inside-below g b (omega arith)) (nowhere rs k b (and-right (leb k (g .low)) (above k rs) t) h)
 nowhere ([] ∷ rs) k b t h = impossible (cc)
-
--- the sequence that a lead asks for, byte by byte
-abbrev pub later : Bytes
-later = 0x80 to 0xBF
-
-module _ (l : Lead) (s : List ℕ) where
-  as-long : (n : ℕ) → l .len ≡ n → stepBy l s ≡ stepAs n (trailOf n (l .low) (l .high)) s
-  unfolding stepBy
-  as-long n e = ap (λ (k : ℕ). stepAs k (trailOf k (l .low) (l .high)) s) e
-
-  judged : (n : ℕ) (t : Bool) (q : List ℕ) → l .len ≡ suc n → fits (trailOf (suc n) (l .low) (l .high)) (drop 1 s) ≡ t → take (suc n) s ≡ q →
-      stepBy l s ≡ cond t (Scalar (codePoint q) (suc n)) IllFormed
-  judged n t q e f g = as-long (suc n) e ∙ (λ i. cond (f i) (Scalar (codePoint (g i)) (suc n)) IllFormed)
-
-  whole : (n : ℕ) → l .len ≡ suc n → fits (trailOf (suc n) (l .low) (l .high)) (drop 1 s) ≡ true → suc n ≡ stepLength (stepBy l s)
-  whole n e f = sym (ap stepLength (judged n true (take (suc n) s) e f refl))
-
-  broken : (n : ℕ) → l .len ≡ suc n → fits (trailOf (suc n) (l .low) (l .high)) (drop 1 s) ≡ false → 0 ≡ stepLength (stepBy l s)
-  broken n e f = sym (ap stepLength (judged n false (take (suc n) s) e f refl))
-
-  pub no-lead : l .len ≡ 0 → IllFormed ≡ stepBy l s
-  no-lead e = sym (as-long 0 e)
-
-  pub alone : l .len ≡ 1 → 0 < length s → Scalar (codePoint (getD s 0 0 ∷ [])) 1 ≡ stepBy l s
-  alone e h = sym (judged 0 true (getD s 0 0 ∷ []) e refl (one-byte s h))
-
-  pub no-second : (n : ℕ) → l .len ≡ suc (suc n) → byteFits (l .low to l .high) s 1 ≡ false → 0 ≡ stepLength (stepBy l s)
-  no-second n e f = broken (suc n) e (fits-out _ (replicate n later) s 1 f)
-
-  module _ (f : byteFits (l .low to l .high) s 1 ≡ true) where
-    pub two : l .len ≡ 2 → 2 ≡ stepLength (stepBy l s)
-    two e = whole 1 e (fits-in _ [] s 1 f)
-
-    pub no-third : (n : ℕ) → l .len ≡ suc (suc (suc n)) → byteFits later s 2 ≡ false → 0 ≡ stepLength (stepBy l s)
-    no-third n e g = broken (suc (suc n)) e (fits-in _ (later ∷ replicate n later) s 1 f ∙ fits-out _ (replicate n later) s 2 g)
-
-    module _ (g : byteFits later s 2 ≡ true) where
-      pub three : l .len ≡ 3 → 3 ≡ stepLength (stepBy l s)
-      three e = whole 2 e (fits-in _ (later ∷ []) s 1 f ∙ fits-in _ [] s 2 g)
-
-      pub no-fourth : l .len ≡ 4 → byteFits later s 3 ≡ false → 0 ≡ stepLength (stepBy l s)
-      no-fourth e h = broken 3 e (fits-in _ (later ∷ later ∷ []) s 1 f ∙ (fits-in _ (later ∷ []) s 2 g ∙ fits-out _ [] s 3 h))
-
-      pub four : byteFits later s 3 ≡ true → l .len ≡ 4 → 4 ≡ stepLength (stepBy l s)
-      four h e = whole 3 e (fits-in _ (later ∷ later ∷ []) s 1 f ∙ (fits-in _ (later ∷ []) s 2 g ∙ fits-in _ [] s 3 h))
 
 -- the rows' first bytes rise from m on
 abbrev pub rising : ℕ → List Row → Bool
@@ -146,8 +101,8 @@ row-here g (h ∷ gs) rs b s e f a =
     simp (e, f) (ap (λ (r : Row). cond (fits r s) (Scalar (codePoint q) (suc (suc (length gs)))) IllFormed) a)
 
 by-rows : (rs : List Row) (m b : ℕ) (s : List ℕ) → rising m rs ≡ true → Shaped rs → stepIn rs (b ∷ s) ≡ stepBy (leadIn rs b) (b ∷ s)
-unfolding leadIn
-by-rows [] m b s t a = no-lead (leadOfRow []) (b ∷ s) refl
+unfolding leadIn stepBy
+by-rows [] m b s t a = refl
 by-rows ([] ∷ rs) m b s t a = impossible (cc)
 by-rows ((g ∷ gs) ∷ rs) m b s t a =
     let p = rising-parts m g gs rs t in
@@ -179,15 +134,55 @@ lead-short (r ∷ rs) b h = go (leads r b) (lead-short rs b (h .1))
     go true l = h .0
     go false l = l
 
-pub lead-le : (b : ℕ) → leadOf b .len ≤ 4
+pub lead-le : (b : ℕ) {l : Lead} → l ≡ leadOf b → l .len ≤ 4
 unfolding leadOf
-lead-le b = lead-short table b (omega arith)
+lead-le b {l} e = rw e (lead-short table b (omega arith))
+
+-- l is the lead of the text's first byte, and after it stand n bytes as the ranges p say
+pub record Begun (s : List ℕ) (l : Lead) (p : Row) (n : ℕ) : Type 0 where
+  pub lead : l ≡ leadOf (getD s 0 0)
+  pub within : n < length s
+  pub left : (gs : Row) → fits (p ++ gs) (drop 1 s) ≡ fits gs (drop (suc n) s)
+
+pub begins : (s : List ℕ) (l : Lead) → l ≡ leadOf (getD s 0 0) → 0 < length s → Begun s l [] 0
+begins s l e h = record { lead = e; within = h; left = λ gs. refl }
+
+module _ {s : List ℕ} {l : Lead} {p : Row} {n : ℕ} (d : Begun s l p n) where
+  asked : (k : ℕ) → l .len ≡ k → stepOf s ≡ stepAs k (trailOf k (l .low) (l .high)) s
+  unfolding stepBy
+  asked k e = by-first s (let h = d .within in omega arith) ∙ ap (λ (m : Lead). stepBy m s) (sym (d .lead)) ∙ ap (λ (k : ℕ). stepAs k (trailOf k (l .low) (l .high)) s) e
+
+  judged : (k : ℕ) (gs : Row) (t : Bool) → l .len ≡ suc k → trailOf (suc k) (l .low) (l .high) ≡ p ++ gs → fits gs (drop (suc n) s) ≡ t →
+      packed (stepOf s) ≡ packed (cond t (Scalar (codePoint (take (suc k) s)) (suc k)) IllFormed)
+  judged k gs t e r f =
+      let g = ap (λ (q : Row). fits q (drop 1 s)) r ∙ d .left gs ∙ f in
+      ap packed (asked (suc k) e) ∙ ap (λ (u : Bool). packed (cond u (Scalar (codePoint (take (suc k) s)) (suc k)) IllFormed)) g
+
+  -- no row has the first byte
+  pub no-lead : l .len ≡ 0 → 0 ≡ packed (stepOf s)
+  no-lead e = sym (ap packed (asked 0 e))
+
+  -- the next byte is in its range
+  pub next-in : (g : Bytes) → byteFits g s (suc n) ≡ true → Begun s l (p ++ (g ∷ [])) (suc n)
+  next-in g f = record {
+    lead = d .lead;
+    within = byte-there g [] s (suc n) f;
+    left = λ gs. ap (λ (q : Row). fits q (drop 1 s)) (append-assoc p (g ∷ []) gs) ∙ d .left (g ∷ gs) ∙ fits-in g gs s (suc n) f;
+  }
+
+  -- it isn't: no sequence begins
+  pub next-out : (g : Bytes) (gs : Row) (k : ℕ) → l .len ≡ suc k → trailOf (suc k) (l .low) (l .high) ≡ p ++ (g ∷ gs) → byteFits g s (suc n) ≡ false → 0 ≡ packed (stepOf s)
+  next-out g gs k e r f = sym (judged k (g ∷ gs) false e r (fits-out g gs s (suc n) f))
+
+  -- the row ends here
+  pub whole : l .len ≡ suc n → trailOf (suc n) (l .low) (l .high) ≡ p ++ [] → codePoint (bytesAt (suc n) 0 s) * 8 + suc n ≡ packed (stepOf s)
+  whole e r = ap (λ (q : List ℕ). codePoint q * 8 + suc n) (sym (bytes-at s 0 (suc n) (let h = d .within in omega arith))) ∙ sym (judged n [] true e r refl)
 
 -- a byte below 80 is a sequence by itself
 pub ascii : (s : List ℕ) → 0 < length s → getD s 0 0 < 0x80 → Scalar (codePoint (getD s 0 0 ∷ [])) 1 ≡ stepOf s
 ascii s h b =
     let e : leadOf (getD s 0 0) ≡ leadOfRow (0x00 to 0x7F ∷ []) = past 0 0 (getD s 0 0) refl (omega arith) ∙ here _ _ _ (getD s 0 0) (omega arith) (omega arith) in
-    alone (leadOfRow (0x00 to 0x7F ∷ [])) s refl h ∙ sym (by-first s h ∙ ap (λ (l : Lead). stepBy l s) e)
+    ap (λ (q : List ℕ). Scalar (codePoint q) 1) (sym (bytes-at s 0 1 (omega arith))) ∙ sym (asked (begins s _ (sym e) h) 1 refl)
 
 pub at-end : (s : List ℕ) → length s ≡ 0 → End ≡ stepOf s
 unfolding stepOf

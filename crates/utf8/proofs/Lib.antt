@@ -1,3 +1,4 @@
+pub mod ScalarLaws
 pub mod TableLaws
 pub mod LeadLaws
 pub mod SequenceLaws

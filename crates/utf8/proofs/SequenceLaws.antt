@@ -6,14 +6,14 @@ use mathlib.Core.Bool.{Bool, true, false, false≢true, cond}
 use mathlib.Core.List.{List, [], _∷_, _++_}
 use mathlib.Core.Logic.{inl, inr}
 use native.Mathlib.Omega.{arith}
-use lib.ListN.{length, take}
-use borrow.Author.Tests.{lt-ltb, le-ltb, le-leb}
+use lib.ListN.{length, take, drop, take-append-drop}
 use Rattle.lists.proofs.BoolLaws.{and-left, and-right, impossible}
 use Rattle.utf8.specs.declared.Step.{Step}
 use Rattle.utf8.specs.declared.Step.the-variants.{Scalar, IllFormed, End}
-use Rattle.utf8.specs.Scalar.{isScalar}
+use Rattle.utf8.specs.Scalar.{isScalar, below-surrogates, above-surrogates}
 use Rattle.utf8.specs.Table.{Bytes, _to_, Row, table, inside, fits, Fills, FillsOne, Sequence, codePoint}
-use Rattle.utf8.specs.Head.{stepIn, stepOf}
+use Rattle.utf8.specs.Head.{stepIn, stepOf, NoSequence, StepMeans, sequence, no-sequence, empty}
+use Rattle.utf8.proofs.ScalarLaws.{means-scalar}
 use Rattle.utf8.proofs.TableLaws.{inside-in, inside-out, inside-above}
 use Rattle.utf8.proofs.LeadLaws.{rising, rising-parts}
 
@@ -103,7 +103,7 @@ looks-no-further s t x n e =
     step-of-sequence (take n s) t (f .sequence) ∙ (λ i. Scalar (sym (f .code) i) (sym (f .long) i))
 
 -- where the head is ill-formed no sequence begins
-pub no-sequence-at : (s : List ℕ) → stepOf s ≡ IllFormed → (q r : List ℕ) → s ≡ q ++ r → Sequence q → ⊥
+pub no-sequence-at : (s : List ℕ) → stepOf s ≡ IllFormed → NoSequence s
 no-sequence-at s e q r p f =
     let g = step-of-sequence q r f in
     let h = ap stepOf p in
@@ -122,14 +122,38 @@ end-empty (b ∷ s) e = absurd (go table e)
         pick ih true g = let h : Scalar (codePoint (take (length r) (b ∷ s))) (length r) ≡ End = rw (g, stepIn) at f in impossible (cc)
         pick ih false g = ih (rw (g, stepIn) at f)
 
+pub step-empty : stepOf [] ≡ End
+unfolding stepOf
+step-empty = refl
+
+pub ill-not-empty : (s : List ℕ) → stepOf s ≡ IllFormed → 0 < length s
+ill-not-empty [] e = let f = step-empty in impossible (cc)
+ill-not-empty (b ∷ s) e = omega arith
+
+-- each step, exactly when
+pub step-means : (s : List ℕ) (t : Step) → stepOf s ≡ t → StepMeans s t
+step-means s (Scalar x n) e =
+    let f = sequence-of-step s x n e in
+    sequence (take n s) (drop n s) (sym (take-append-drop n s)) (f .sequence) (f .code) (f .long)
+step-means s IllFormed e = no-sequence (ill-not-empty s e) (no-sequence-at s e)
+step-means s End e = empty (end-empty s e)
+
+pub means-step : (s : List ℕ) (t : Step) → StepMeans s t → stepOf s ≡ t
+means-step s t (sequence q r p f c l) = ap stepOf p ∙ step-of-sequence q r f ∙ (λ i. Scalar (sym c i) (sym l i))
+means-step s t (no-sequence h n) = go (stepOf s) (step-means s (stepOf s) refl)
+  where
+    go : (u : Step) → StepMeans s u → u ≡ IllFormed
+    go u (sequence q r p f c l) = absurd (n q r p f)
+    go u (no-sequence k m) = refl
+    go u (empty e) = let l = ap length e in absurd (omega arith)
+means-step s t (empty e) = ap stepOf e ∙ step-empty
+
 -- every sequence has one to four bytes and stands for a scalar value
 low : (x : ℕ) → x < 0xD800 → isScalar x ≡ true
-unfolding isScalar
-low x h = simp (lt-ltb _ _ h)
+low x h = means-scalar x true (below-surrogates h)
 
 high : (x : ℕ) → 0xE000 ≤ x → x ≤ 0x10FFFF → isScalar x ≡ true
-unfolding isScalar
-high x h l = let g : 0xD800 ≤ x = omega arith in simp (le-ltb _ _ g, le-ltb _ _ h, le-leb _ _ l)
+high x h l = means-scalar x true (above-surrogates h l)
 
 abbrev Right : List ℕ → Type 0
 Right q = (0 < length q) × (length q ≤ 4) × (isScalar (codePoint q) ≡ true)

@@ -1,6 +1,6 @@
 -- Bytes and rows of Table 3-7: whether a byte is in a range, and whether a text begins with the bytes of a row, byte by byte.
 -- Assumes nothing.
-use Prim.Native.Nat.{ℕ, suc, _≤_, _<_}
+use Prim.Native.Nat.{ℕ, zero, suc, _+_, _≤_, _<_}
 use mathlib.Core.Path.{_≡_, refl, sym, ap, _∙_}
 use mathlib.Core.Bool.{Bool, true, false, not, _&&_}
 use mathlib.Core.List.{List, [], _∷_}
@@ -62,25 +62,15 @@ module _ (g : Bytes) (gs : Row) (s : List ℕ) (i : ℕ) where
       go true f = let h = ltb-true i (length s) f in fits-step h ∙ rw (sym (byte-here h) ∙ e)
       go false f = ap (fits (g ∷ gs)) (drop-of-length-le s (let z : length s ≤ i = omega (arith, ltb-false i (length s) f) in z))
 
--- the first bytes of a text, one by one
-pub first-bytes : (s : List ℕ) (i n : ℕ) → i < length s → take (suc n) (drop i s) ≡ getD s i 0 ∷ take n (drop (suc i) s)
-first-bytes s i n h = ap (take (suc n)) (drop-cons s i 0 h)
+-- n bytes of a text from byte i on, one by one
+abbrev pub bytesAt : ℕ → ℕ → List ℕ → List ℕ
+bytesAt zero i s = []
+bytesAt (suc n) i s = getD s i 0 ∷ bytesAt n (suc i) s
 
-module _ (s : List ℕ) where
-  pub one-byte : 0 < length s → take 1 s ≡ getD s 0 0 ∷ []
-  one-byte h = first-bytes s 0 0 h
+pub bytes-at : (s : List ℕ) (i n : ℕ) → i + n ≤ length s → take n (drop i s) ≡ bytesAt n i s
+bytes-at s i zero h = refl
+bytes-at s i (suc n) h =
+    ap (take (suc n)) (drop-cons s i 0 (omega arith)) ∙ ap (λ (l : List ℕ). getD s i 0 ∷ l) (bytes-at s (suc i) n (omega arith))
 
-  pub two-bytes : 1 < length s → take 2 s ≡ getD s 0 0 ∷ getD s 1 0 ∷ []
-  two-bytes h = first-bytes s 0 1 (omega arith) ∙ ap (λ (l : List ℕ). getD s 0 0 ∷ l) (first-bytes s 1 0 h)
-
-  pub three-bytes : 2 < length s → take 3 s ≡ getD s 0 0 ∷ getD s 1 0 ∷ getD s 2 0 ∷ []
-  three-bytes h =
-      first-bytes s 0 2 (omega arith)
-      ∙ ap (λ (l : List ℕ). getD s 0 0 ∷ l) (first-bytes s 1 1 (omega arith) ∙ ap (λ (l : List ℕ). getD s 1 0 ∷ l) (first-bytes s 2 0 h))
-
-  pub four-bytes : 3 < length s → take 4 s ≡ getD s 0 0 ∷ getD s 1 0 ∷ getD s 2 0 ∷ getD s 3 0 ∷ []
-  four-bytes h =
-      first-bytes s 0 3 (omega arith)
-      ∙ ap (λ (l : List ℕ). getD s 0 0 ∷ l)
-      (first-bytes s 1 2 (omega arith)
-      ∙ ap (λ (l : List ℕ). getD s 1 0 ∷ l) (first-bytes s 2 1 (omega arith) ∙ ap (λ (l : List ℕ). getD s 2 0 ∷ l) (first-bytes s 3 0 h)))
+pub four-bytes : (s : List ℕ) → 3 < length s → take 4 s ≡ getD s 0 0 ∷ getD s 1 0 ∷ getD s 2 0 ∷ getD s 3 0 ∷ []
+four-bytes s h = bytes-at s 0 4 (omega arith)

@@ -6,8 +6,6 @@ use mathlib.Core.Bool.{true}
 use mathlib.Core.List.{List, [], _∷_, _++_}
 use native.Mathlib.Nat.{add-assoc}
 use native.Mathlib.Omega.{arith}
-use native.Mathlib.Decide.{decLt}
-use borrow.Author.Tests.{le-ltb, leb-true}
 use lib.ListN.{length, take, drop, getD, length-take, length-drop, take-append-drop, drop-of-length-le}
 use lib.Seq.{drop-drop, drop-append-seam, take-add, getD-drop}
 use Rattle.lists.proofs.BoolLaws.{impossible}
@@ -17,8 +15,8 @@ use Rattle.utf8.specs.declared.Text.{Text}
 use Rattle.utf8.specs.declared.Text.the-variants as text
 use Rattle.utf8.specs.Scalar.{isScalar}
 use Rattle.utf8.specs.Table.{codePoint}
-use Rattle.utf8.specs.Head.{stepOf}
-use Rattle.utf8.specs.Lead.{stepLength, packed}
+use Rattle.utf8.specs.Head.{stepOf, NoSequence}
+use Rattle.utf8.specs.Lead.{packed}
 use Rattle.utf8.specs.Text.{
   Character,
   Decoded,
@@ -30,13 +28,15 @@ use Rattle.utf8.specs.Text.{
   widthOf,
   textBy,
   textOf,
-  NoSequence,
   characterOf,
   Encoded,
   ends,
   takes,
   TextMeans,
+  well-formed,
+  ill-formed,
 }
+use Rattle.utf8.proofs.ScalarLaws.{scalar-le}
 use Rattle.utf8.proofs.LeadLaws.{ascii}
 use Rattle.utf8.proofs.SequenceLaws.{
   sequence-of-step,
@@ -46,33 +46,24 @@ use Rattle.utf8.proofs.SequenceLaws.{
   looks-no-further,
   no-sequence-at,
   end-empty,
+  ill-not-empty,
   not-empty,
 }
 
 -- a sequence has one to four bytes, all within the text, and stands for a scalar value
-pub record Taken (s : List ℕ) (x n : ℕ) : Type 0 where
+pub record StepBounds (s : List ℕ) (x n : ℕ) : Type 0 where
   pub some-bytes : 0 < n
   pub short : n ≤ 4
   pub within : n ≤ length s
   pub scalar : isScalar x ≡ true
 
-pub taken : (s : List ℕ) (x n : ℕ) → stepOf s ≡ Scalar x n → Taken s x n
-taken s x n e =
+pub step-bounds : (s : List ℕ) (x n : ℕ) → stepOf s ≡ Scalar x n → StepBounds s x n
+step-bounds s x n e =
     let f = sequence-of-step s x n e in
     let l = sequence-length (take n s) (f .sequence) in
     let m = f .long in
     let c = simp length-take at m in
     record { some-bytes = omega arith; short = omega arith; within = omega arith; scalar = ap isScalar (f .code) ∙ sequence-scalar (take n s) (f .sequence) }
-
-scalar-le : (x : ℕ) → isScalar x ≡ true → x ≤ 0x10FFFF
-unfolding isScalar
-scalar-le x e = go (decLt x 0xE000)
-  where
-    go : Dec (x < 0xE000) → x ≤ 0x10FFFF
-    go (yes p) = omega arith
-    go (no p) =
-        let f = simp (le-ltb x 0xD800 (omega arith), le-ltb x 0xE000 (omega arith)) at e in
-        leb-true x 0x10FFFF f
 
 -- what a packed sequence tells: the length is its last octal digit, the code point the others
 pub record Unpacked (s : List ℕ) (d : ℕ) : Type 0 where
@@ -82,7 +73,7 @@ pub record Unpacked (s : List ℕ) (d : ℕ) : Type 0 where
 
 unpacked-by : (s : List ℕ) (t : Step) → stepOf s ≡ t → 0 < length s → Unpacked s (packed t)
 unpacked-by s (Scalar x n) e h =
-    let t = taken s x n e in
+    let t = step-bounds s x n e in
     let l : (x * 8 + n) % 8 ≡ n = omega (arith, t .short) in
     let c : (x * 8 + n) / 8 ≡ x = omega (arith, t .short) in
     record {
@@ -96,58 +87,16 @@ unpacked-by s End e h = let l = ap length (end-empty s e) in absurd (omega arith
 pub unpacked : (s : List ℕ) (d : ℕ) → d ≡ packed (stepOf s) → 0 < length s → Unpacked s d
 unpacked s d e h = subst (λ (k : ℕ). Unpacked s k) (sym e) (unpacked-by s (stepOf s) refl h)
 
--- the length of the sequence at the head tells what stands there
-length-by : (s : List ℕ) (t : Step) → stepOf s ≡ t → (stepLength t ≤ length s) × (stepLength t ≤ 4)
-length-by s (Scalar x n) e = let t = taken s x n e in (t .within, t .short)
-length-by s IllFormed e = (omega arith, omega arith)
-length-by s End e = (omega arith, omega arith)
-
-pub measured : (s : List ℕ) (n : ℕ) → n ≡ stepLength (stepOf s) → (n ≤ length s) × (n ≤ 4)
-measured s n e = let l = length-by s (stepOf s) refl in (omega arith, omega arith)
-
-none-by : (s : List ℕ) (t : Step) → stepOf s ≡ t → 0 < length s → stepLength t ≡ 0 → IllFormed ≡ t
-none-by s (Scalar x n) e h z = let t = taken s x n e in absurd (omega arith)
-none-by s IllFormed e h z = refl
-none-by s End e h z = let l = ap length (end-empty s e) in absurd (omega arith)
-
-pub none-measured : (s : List ℕ) → 0 < length s → 0 ≡ stepLength (stepOf s) → IllFormed ≡ stepOf s
-none-measured s h e = none-by s (stepOf s) refl h (sym e)
-
--- no length, no packed sequence
-pub none-packed : (s : List ℕ) → 0 ≡ stepLength (stepOf s) → 0 ≡ packed (stepOf s)
-none-packed s e = go (stepOf s) refl e
-  where
-    go : (t : Step) → stepOf s ≡ t → 0 ≡ stepLength t → 0 ≡ packed t
-    go (Scalar x n) f z = let t = taken s x n f in absurd (omega (arith, t .some-bytes))
-    go IllFormed f z = refl
-    go End f z = refl
-
-step-by : (s : List ℕ) (t : Step) → stepOf s ≡ t → (stepLength t ≡ 0 → ⊥) → (x : ℕ) × (stepOf s ≡ Scalar x (stepLength t))
-step-by s (Scalar x n) e f = (x, e)
-step-by s IllFormed e f = absurd (f refl)
-step-by s End e f = absurd (f refl)
-
-pub found-step : (s : List ℕ) (n : ℕ) → n ≡ stepLength (stepOf s) → (n ≡ 0 → ⊥) → (x : ℕ) × (stepOf s ≡ Scalar x n)
-found-step s n e f = let t = step-by s (stepOf s) refl (λ z. f (e ∙ z)) in (t .0, t .1 ∙ ap (Scalar (t .0)) (sym e))
-
--- the code point of the bytes of that length
-pub found : (s q : List ℕ) (x n k : ℕ) → n ≡ suc k → n ≡ stepLength (stepOf s) → x ≡ codePoint q → take (suc k) s ≡ q → Scalar x n ≡ stepOf s
-found s q x n k e f c t =
-    let g = found-step s n f (λ z. absurd (omega arith)) in
-    let i = sequence-of-step s (g .0) n (g .1) in
-    let y : x ≡ g .0 = c ∙ ap codePoint (sym t) ∙ ap (λ (m : ℕ). codePoint (take m s)) (sym e) ∙ sym (i .code) in
-    ap (λ (v : ℕ). Scalar v n) y ∙ sym (g .1)
-
 -- more steps than bytes change nothing
 none-left : (f : List ℕ → Decoded) (s : List ℕ) (t : Step) → stepOf s ≡ t → length s ≤ 0 → decodeBy f s t ≡ ended s
-none-left f s (Scalar x n) e h = let r = taken s x n e in absurd (omega arith)
+none-left f s (Scalar x n) e h = let r = step-bounds s x n e in absurd (omega arith)
 none-left f s IllFormed e h = refl
 none-left f s End e h = refl
 
 same-after :
     (f g : List ℕ → Decoded) (s : List ℕ) (t : Step) → stepOf s ≡ t → ((u : List ℕ) → length u < length s → f u ≡ g u) → decodeBy f s t ≡ decodeBy g s t
 same-after f g s (Scalar x n) e h =
-    let r = taken s x n e in
+    let r = step-bounds s x n e in
     let l = length-drop n s in
     ap (before (record { code = x; width = n })) (h (drop n s) (omega arith))
 same-after f g s IllFormed e h = refl
@@ -174,22 +123,6 @@ decode-ill s e = decode-step s ∙ ap (decodeBy decode s) e
 
 pub decode-end : (s : List ℕ) → stepOf s ≡ End → decode s ≡ ended s
 decode-end s e = decode-step s ∙ ap (decodeBy decode s) e
-
--- what a step tells of the text: the one law that a caller of `utf8::decode` needs
-abbrev pub Says : List ℕ → Step → Type 0
-Says s (Scalar x n) = Taken s x n × (decode s ≡ before (record { code = x; width = n }) (decode (drop n s)))
-Says s IllFormed = (0 < length s) × (decode s ≡ ended s)
-Says s End = (s ≡ []) × (decode s ≡ ended s)
-
-ill-not-empty : (s : List ℕ) → stepOf s ≡ IllFormed → 0 < length s
-unfolding stepOf
-ill-not-empty [] e = impossible (cc)
-ill-not-empty (b ∷ s) e = omega arith
-
-pub says : (s : List ℕ) (t : Step) → t ≡ stepOf s → Says s t
-says s (Scalar x n) e = (taken s x n (sym e), decode-scalar s x n (sym e))
-says s IllFormed e = (ill-not-empty s (sym e), decode-ill s (sym e))
-says s End e = (end-empty s (sym e), decode-end s (sym e))
 
 -- the first ill-formed place, from a later place on
 abbrev pub shift : ℕ → Text → Text
@@ -232,7 +165,7 @@ module _ (P : List ℕ → Type 0)
   where
     one-step : (s : List ℕ) (t : Step) → stepOf s ≡ t → ((u : List ℕ) → length u < length s → P u) → P s
     one-step s (Scalar x n) e h =
-        let r = taken s x n e in
+        let r = step-bounds s x n e in
         let l = length-drop n s in
         scalar s x n e (h (drop n s) (omega arith))
     one-step s IllFormed e h = ill s e
@@ -259,53 +192,72 @@ none-at-end : (s : List ℕ) → s ≡ [] → NoSequence s
 none-at-end s e [] r p f = not-empty f
 none-at-end s e (b ∷ q) r p f = impossible (cc)
 
-pub encodes : (s : List ℕ) → Encoded s (decode s .characters) (decode s .rest)
-encodes =
+pub decode-means : (s : List ℕ) → Encoded s (decode s .characters) (decode s .rest)
+decode-means =
     by-steps (λ (s : List ℕ). Encoded s (decode s .characters) (decode s .rest)) encodes-scalar
     (λ s e. rw (decode-ill s e) (ends (no-sequence-at s e)))
     (λ s e. rw (decode-end s e) (ends (none-at-end s (end-empty s e))))
 
 -- .. and there is no other reading
-pub encoded-unique : {s r : List ℕ} {cs : List Character} → Encoded s cs r → decode s ≡ record { characters = cs; rest = r }
-encoded-unique {s} (ends n) = go (stepOf s) refl
+pub means-decode : {s r : List ℕ} {cs : List Character} → Encoded s cs r → decode s ≡ record { characters = cs; rest = r }
+means-decode {s} (ends n) = go (stepOf s) refl
   where
     go : (t : Step) → stepOf s ≡ t → decode s ≡ ended s
     go (Scalar x k) e = absurd (n (take k s) (drop k s) (sym (take-append-drop k s)) (sequence-of-step s x k e .sequence))
     go IllFormed e = decode-ill s e
     go End e = decode-end s e
-encoded-unique {s} (takes q r e f d) =
+means-decode {s} (takes q r e f d) =
     let g = ap stepOf e ∙ step-of-sequence q r f in
     decode-scalar s (codePoint q) (length q) g
     ∙ ap (λ (u : List ℕ). before (characterOf q) (decode u)) (ap (drop (length q)) e ∙ drop-append-seam q r)
-    ∙ ap (before (characterOf q)) (encoded-unique d)
+    ∙ ap (before (characterOf q)) (means-decode d)
 
 -- what the answer of the check of a text means
-means-by : (s : List ℕ) (cs : List Character) (r : List ℕ) → Encoded s cs r → TextMeans s (textBy (widthOf cs) r)
-means-by s cs [] e = (cs, e)
-means-by s cs (b ∷ r) e = record { characters = cs; rest = b ∷ r; encoded = e; left = omega arith; place = refl }
-
 pub text-means : (s : List ℕ) (t : Text) → textOf s ≡ t → TextMeans s t
 unfolding textOf
-text-means s t e = subst (TextMeans s) e (means-by s (decode s .characters) (decode s .rest) (encodes s))
+text-means s t e = subst (TextMeans s) e (go (decode s .rest) (decode-means s))
+  where
+    go : (r : List ℕ) → Encoded s (decode s .characters) r → TextMeans s (textBy (widthOf (decode s .characters)) r)
+    go [] d = well-formed d
+    go (b ∷ r) d = ill-formed d (omega arith) refl
 
 -- and back: where it is so, that is the answer
 pub means-text : (s : List ℕ) (t : Text) → TextMeans s t → textOf s ≡ t
 unfolding textOf
-means-text s text.WellFormed (cs, e) = rw (encoded-unique e)
-means-text s (text.IllFormed p) h = rw (encoded-unique (h .encoded)) (go (h .rest) (h .left) ∙ ap text.IllFormed (sym (h .place)))
+means-text s t (well-formed d) = rw (means-decode d)
+means-text s t (ill-formed {p} {cs} {rest} d l e) = rw (means-decode d) (go rest l ∙ ap text.IllFormed (sym e))
   where
-    go : (r : List ℕ) → 0 < length r → textBy (widthOf (h .characters)) r ≡ text.IllFormed (widthOf (h .characters))
+    go : (r : List ℕ) → 0 < length r → textBy (widthOf cs) r ≡ text.IllFormed (widthOf cs)
     go [] l = absurd (omega arith)
     go (b ∷ r) l = refl
+
+-- the same of what decoding leaves
+pub well-rest : (s : List ℕ) → textOf s ≡ text.WellFormed → decode s .rest ≡ []
+well-rest s e = go (text-means s text.WellFormed e)
+  where
+    go : TextMeans s text.WellFormed → decode s .rest ≡ []
+    go (well-formed d) = ap (λ (c : Decoded). c .rest) (means-decode d)
+
+pub rest-well : (s : List ℕ) → decode s .rest ≡ [] → textOf s ≡ text.WellFormed
+rest-well s e = means-text s text.WellFormed (well-formed (subst (λ (r : List ℕ). Encoded s (decode s .characters) r) e (decode-means s)))
+
+pub ill-rest : (s : List ℕ) (p : ℕ) → textOf s ≡ text.IllFormed p → (p ≡ widthOf (decode s .characters)) × (0 < length (decode s .rest))
+ill-rest s p e = go (text-means s (text.IllFormed p) e)
+  where
+    go : TextMeans s (text.IllFormed p) → (p ≡ widthOf (decode s .characters)) × (0 < length (decode s .rest))
+    go (ill-formed d l q) = rw (means-decode d) (q, l)
+
+pub rest-ill : (s : List ℕ) → 0 < length (decode s .rest) → textOf s ≡ text.IllFormed (widthOf (decode s .characters))
+rest-ill s l = means-text s _ (ill-formed (decode-means s) l refl)
 
 -- every character is a scalar value
 abbrev pub AllScalar : List Character → Type 0
 AllScalar [] = Unit {0}
 AllScalar (c ∷ cs) = (isScalar (c .code) ≡ true) × AllScalar cs
 
-pub scalars : (s : List ℕ) → AllScalar (decode s .characters)
-scalars =
-    by-steps (λ (s : List ℕ). AllScalar (decode s .characters)) (λ s x n e ih. rw (decode-scalar s x n e) (taken s x n e .scalar, ih))
+pub characters-scalar : (s : List ℕ) → AllScalar (decode s .characters)
+characters-scalar =
+    by-steps (λ (s : List ℕ). AllScalar (decode s .characters)) (λ s x n e ih. rw (decode-scalar s x n e) (step-bounds s x n e .scalar, ih))
     (λ s e. rw (decode-ill s e) tt)
     (λ s e. rw (decode-end s e) tt)
 
@@ -317,8 +269,8 @@ pub record Covers (s : List ℕ) (w : ℕ) (r : List ℕ) : Type 0 where
 covers-nothing : (s : List ℕ) → Covers s 0 s
 covers-nothing s = record { within = omega arith; after = refl }
 
-pub covers : (s : List ℕ) → Covers s (widthOf (decode s .characters)) (decode s .rest)
-covers =
+pub decode-covers : (s : List ℕ) → Covers s (widthOf (decode s .characters)) (decode s .rest)
+decode-covers =
     by-steps (λ (s : List ℕ). Covers s (widthOf (decode s .characters)) (decode s .rest)) step
     (λ s e. rw (decode-ill s e) (covers-nothing s))
     (λ s e. rw (decode-end s e) (covers-nothing s))
@@ -326,12 +278,25 @@ covers =
     step : (s : List ℕ) (x n : ℕ) → stepOf s ≡ Scalar x n → Covers (drop n s) (widthOf (decode (drop n s) .characters)) (decode (drop n s) .rest) →
         Covers s (widthOf (decode s .characters)) (decode s .rest)
     step s x n e ih =
-        let t = taken s x n e in
+        let t = step-bounds s x n e in
         let l = length-drop n s in
         let w = widthOf (decode (drop n s) .characters) in
         rw (decode-scalar s x n e) (record { within = omega arith; after = sym (drop-drop w n s) ∙ ih .after })
 
+pub covers : (s : List ℕ) → Covers s (widthOf (decode s .characters)) (decode s .rest)
+covers = decode-covers
+
+-- an ill-formed place is within the text
+pub ill-within : (s : List ℕ) (p : ℕ) → textOf s ≡ text.IllFormed p → p < length s
+ill-within s p e =
+    let r = ill-rest s p e in
+    let c = decode-covers s in
+    let l = length-drop (widthOf (decode s .characters)) s in
+    let n = ap length (c .after) in
+    omega (arith, c .within)
+
 -- a text splits at each boundary between characters
+
 abbrev Split : List ℕ → Type 0
 Split s =
     (n : ℕ) → n ≤ length (decode s .characters)
@@ -349,16 +314,16 @@ split-scalar s x n e ih (suc k) h = go h
     go = rw (decode-scalar s x n e)
         (λ m. ap decode (sym (drop-drop (widthOf (take k (decode (drop n s) .characters))) n s)) ∙ ih k (omega arith))
 
-pub splits : (s : List ℕ) → Split s
-splits = by-steps Split split-scalar (λ s e. split-none s (decode-ill s e)) (λ s e. split-none s (decode-end s e))
+pub decode-at-boundary : (s : List ℕ) → Split s
+decode-at-boundary = by-steps Split split-scalar (λ s e. split-none s (decode-ill s e)) (λ s e. split-none s (decode-end s e))
 
-decode-empty : decode [] ≡ ended []
+pub decode-empty : decode [] ≡ ended []
 unfolding decode decodeIn
 decode-empty = refl
 
 -- the text up to its first ill-formed place is well-formed, with the same characters
-pub cut : (s : List ℕ) → decode (take (widthOf (decode s .characters)) s) ≡ record { characters = decode s .characters; rest = [] }
-cut =
+pub decode-before-ill : (s : List ℕ) → decode (take (widthOf (decode s .characters)) s) ≡ record { characters = decode s .characters; rest = [] }
+decode-before-ill =
     by-steps (λ (s : List ℕ). decode (take (widthOf (decode s .characters)) s) ≡ record { characters = decode s .characters; rest = [] }) step
     (λ s e. rw (decode-ill s e) decode-empty)
     (λ s e. rw (decode-end s e) decode-empty)
@@ -383,7 +348,7 @@ pub record Turn (s : List ℕ) (at n : ℕ) : Type 0 where
 
 pub turn : (s : List ℕ) (at x n : ℕ) → at ≤ length s → stepOf (drop at s) ≡ Scalar x n → Turn s at n
 turn s at x n h e =
-    let t = taken (drop at s) x n e in
+    let t = step-bounds (drop at s) x n e in
     let l = length-drop at s in
     record {
       some-bytes = t .some-bytes;

@@ -1,11 +1,12 @@
 -- What stands at the head of a text, by the rows of Table 3-7.
-use Prim.Native.Nat.{ℕ}
+use Prim.Native.Nat.{ℕ, _<_}
+use mathlib.Core.Path.{_≡_}
 use mathlib.Core.Bool.{Bool, true, false, cond}
-use mathlib.Core.List.{List, [], _∷_}
+use mathlib.Core.List.{List, [], _∷_, _++_}
 use lib.ListN.{length, take}
 use Rattle.utf8.specs.declared.Step.{Step}
 use Rattle.utf8.specs.declared.Step.the-variants.{Scalar, IllFormed, End}
-use Rattle.utf8.specs.Table.{Row, table, fits, codePoint}
+use Rattle.utf8.specs.Table.{Row, table, fits, Sequence, codePoint}
 
 -- the first row whose bytes begin the text gives the sequence; no row: ill-formed
 abbrev pub stepIn : List Row → List ℕ → Step
@@ -16,3 +17,13 @@ stepIn (r ∷ rs) s = cond (fits r s) (Scalar (codePoint (take (length r) s)) (l
 unfoldable pub stepOf : List ℕ → Step
 stepOf [] = End
 stepOf (b ∷ s) = stepIn table (b ∷ s)
+
+-- no well-formed sequence begins the text
+abbrev pub NoSequence : List ℕ → Type 0
+NoSequence s = (q r : List ℕ) → s ≡ q ++ r → Sequence q → ⊥
+
+-- what `stepOf` means: a sequence q of the table begins the text, x its code point and n its length; none does; nothing is left
+pub data StepMeans (s : List ℕ) : Step → Type 0 where
+  sequence : {x n : ℕ} (q r : List ℕ) → s ≡ q ++ r → Sequence q → x ≡ codePoint q → n ≡ length q → StepMeans s (Scalar x n)
+  no-sequence : 0 < length s → NoSequence s → StepMeans s IllFormed
+  empty : s ≡ [] → StepMeans s End

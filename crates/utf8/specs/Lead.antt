@@ -7,7 +7,7 @@ use lib.ListN.{length, take, drop, getD, replicate}
 use Rattle.utf8.specs.declared.Lead.{Lead}
 use Rattle.utf8.specs.declared.Step.{Step}
 use Rattle.utf8.specs.declared.Step.the-variants.{Scalar, IllFormed, End}
-use Rattle.utf8.specs.Table.{Bytes, _to_, Row, table, inside, fits, codePoint}
+use Rattle.utf8.specs.Table.{Bytes, _to_, later, Row, table, inside, fits, codePoint}
 
 -- the length of a row, and the bounds of its second byte, 0 where it has none
 abbrev pub leadOfRow : Row → Lead
@@ -32,7 +32,7 @@ leadOf b = leadIn table b
 abbrev pub trailOf : ℕ → ℕ → ℕ → Row
 trailOf zero low high = []
 trailOf (suc zero) low high = []
-trailOf (suc (suc n)) low high = low to high ∷ replicate n (0x80 to 0xBF)
+trailOf (suc (suc n)) low high = low to high ∷ replicate n later
 
 -- the sequence at the head of a text whose first byte has this lead
 abbrev pub stepAs : ℕ → Row → List ℕ → Step
@@ -45,12 +45,6 @@ stepBy l s = stepAs (l .len) (trailOf (l .len) (l .low) (l .high)) s
 -- byte i of the text is there and in the range
 unfoldable pub byteFits : Bytes → List ℕ → ℕ → Bool
 byteFits g s i = ltb i (length s) && inside g (getD s i 0)
-
--- the length of the sequence that was found; 0 where none was
-abbrev pub stepLength : Step → ℕ
-stepLength (Scalar x n) = n
-stepLength IllFormed = 0
-stepLength End = 0
 
 -- a sequence as one number: 8 times its code point, and its length; 0 where there is none
 abbrev pub packed : Step → ℕ

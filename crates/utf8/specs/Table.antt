@@ -15,6 +15,10 @@ infix 70 _to_
 abbrev pub _to_ : ℕ → ℕ → Bytes
 a to b = record { low = a; high = b }
 
+-- the range of each byte past the second
+abbrev pub later : Bytes
+later = 0x80 to 0xBF
+
 -- a row of the table: a range for each byte of the sequence
 abbrev pub Row : Type 0
 Row = List Bytes

@@ -8,7 +8,7 @@ use Rattle.utf8.specs.declared.Step.the-variants.{Scalar, IllFormed, End
 use Rattle.utf8.specs.declared.Text.{Text}
 use Rattle.utf8.specs.declared.Text.the-variants as text
 use Rattle.utf8.specs.Table.{Sequence, codePoint}
-use Rattle.utf8.specs.Head.{stepOf}
+use Rattle.utf8.specs.Head.{stepOf, NoSequence}
 
 -- a code point and the number of its bytes
 pub record Character : Type 0 where
@@ -55,9 +55,6 @@ unfoldable pub textOf : List ℕ → Text
 textOf s = textBy (widthOf (decode s .characters)) (decode s .rest)
 
 -- what `decode` means: well-formed sequences one after the other, up to the place where none begins
-abbrev pub NoSequence : List ℕ → Type 0
-NoSequence s = (q r : List ℕ) → s ≡ q ++ r → Sequence q → ⊥
-
 abbrev pub characterOf : List ℕ → Character
 characterOf q = record { code = codePoint q; width = length q }
 
@@ -66,13 +63,6 @@ pub data Encoded : List ℕ → List Character → List ℕ → Type 0 where
   takes : {s : List ℕ} {cs : List Character} {rest : List ℕ} (q r : List ℕ) → s ≡ q ++ r → Sequence q → Encoded r cs rest → Encoded s (characterOf q ∷ cs) rest
 
 -- what `textOf` means: the sequences go to the text's end, or p is the place where they end, and bytes are left there
-pub record IllFormedAt (s : List ℕ) (p : ℕ) : Type 0 where
-  pub characters : List Character
-  pub rest : List ℕ
-  pub encoded : Encoded s characters rest
-  pub left : 0 < length rest
-  pub place : p ≡ widthOf characters
-
-abbrev pub TextMeans : List ℕ → Text → Type 0
-TextMeans s text.WellFormed = (cs : List Character) × Encoded s cs []
-TextMeans s (text.IllFormed p) = IllFormedAt s p
+pub data TextMeans (s : List ℕ) : Text → Type 0 where
+  well-formed : {cs : List Character} → Encoded s cs [] → TextMeans s text.WellFormed
+  ill-formed : {p : ℕ} {cs : List Character} {rest : List ℕ} → Encoded s cs rest → 0 < length rest → p ≡ widthOf cs → TextMeans s (text.IllFormed p)

@@ -1,12 +1,12 @@
 // UTF-8 of the Unicode Standard, Table 3-7: the sequence at the head of a text, and the first ill-formed place.
 ghost use mathlib.Core.Path.{_≡_};
 ghost use mathlib.Core.Bool.{not};
-ghost use Prim.Native.Nat.{_≤_, _<_};
+ghost use Prim.Native.Nat.{_+_, _*_, _≤_};
 ghost use lib.ListN.{length, drop};
 ghost use Rattle.utf8.specs.Scalar.{isScalar};
 ghost use Rattle.utf8.specs.Table.{_to_, codePoint};
 ghost use Rattle.utf8.specs.Head.{stepOf};
-ghost use Rattle.utf8.specs.Lead.{leadOf, stepBy, byteFits, stepLength, packed};
+ghost use Rattle.utf8.specs.Lead.{leadOf, byteFits, packed};
 ghost use Rattle.utf8.specs.Text.{textOf};
 ghost use mathlib.Core.List.{[], _∷_};
 
@@ -99,29 +99,30 @@ fn read_lead(b: u8) -> Lead
     }
 }
 
-// The bits of a sequence of one, two, three and four bytes, put together (Table 3-6).
-fn join1(a: u8) -> u32
-    ensures { λ r. ⌜ r ≡ codePoint (a ∷ []) ⌝ }
+// A sequence of one, two, three and four bytes as one number: 8 times its code point (Table 3-6), and its length.
+fn pack1(a: u8) -> usize
+    ensures { λ r. ⌜ r ≡ codePoint (a ∷ []) * 8 + 1 ⌝ }
 {
-    a as u32
+    a as usize * 8 + 1
 }
 
-fn join2(a: u8, b: u8) -> u32
-    ensures { λ r. ⌜ r ≡ codePoint (a ∷ b ∷ []) ⌝ }
+fn pack2(a: u8, b: u8) -> usize
+    ensures { λ r. ⌜ r ≡ codePoint (a ∷ b ∷ []) * 8 + 2 ⌝ }
 {
-    (a as u32 % 32) * 64 + b as u32 % 64
+    ((a as usize % 32) * 64 + b as usize % 64) * 8 + 2
 }
 
-fn join3(a: u8, b: u8, c: u8) -> u32
-    ensures { λ r. ⌜ r ≡ codePoint (a ∷ b ∷ c ∷ []) ⌝ }
+fn pack3(a: u8, b: u8, c: u8) -> usize
+    ensures { λ r. ⌜ r ≡ codePoint (a ∷ b ∷ c ∷ []) * 8 + 3 ⌝ }
 {
-    ((a as u32 % 16) * 64 + b as u32 % 64) * 64 + c as u32 % 64
+    (((a as usize % 16) * 64 + b as usize % 64) * 64 + c as usize % 64) * 8 + 3
 }
 
-fn join4(a: u8, b: u8, c: u8, d: u8) -> u32
-    ensures { λ r. ⌜ r ≡ codePoint (a ∷ b ∷ c ∷ d ∷ []) ⌝ }
+fn pack4(a: u8, b: u8, c: u8, d: u8) -> usize
+    ensures { λ r. ⌜ r ≡ codePoint (a ∷ b ∷ c ∷ d ∷ []) * 8 + 4 ⌝ }
 {
-    (((a as u32 % 8) * 64 + b as u32 % 64) * 64 + c as u32 % 64) * 64 + d as u32 % 64
+    ((((a as usize % 8) * 64 + b as usize % 64) * 64 + c as usize % 64) * 64 + d as usize % 64) * 8
+        + 4
 }
 
 // Whether byte `i` of `s` is missing or out of the bounds.
@@ -138,58 +139,40 @@ fn misses(s: &[u8], i: usize, low: u8, high: u8) -> bool
     high < b
 }
 
-// The length of the sequence at the head of `s`, whose first byte has this lead; 0 where none begins.
-fn measure_by(s: &[u8], lead: Lead) -> usize
-    requires { ⌜ (0 < length (now s)) × (lead .len ≤ 4) ⌝ }
-    ensures { λ r. ⌜ r ≡ stepLength (stepBy lead (now (s .entry))) ⌝ }
+// The sequence at the head of `s` as one number; 0 where none begins.
+fn pack(s: &[u8]) -> usize
+    ensures { λ r. ⌜ r ≡ packed (stepOf (now (s .entry))) ⌝ }
 {
+    if s.len() == 0 {
+        return 0;
+    }
+    let a = s[0];
+    let lead = read_lead(a);
     let len = lead.len;
     if len == 0 {
         return 0;
     }
     if len == 1 {
-        return 1;
+        return pack1(a);
     }
     if misses(s, 1, lead.low, lead.high) {
         return 0;
     }
+    let b = s[1];
     if len == 2 {
-        return 2;
+        return pack2(a, b);
     }
     if misses(s, 2, 0x80, 0xBF) {
         return 0;
     }
+    let c = s[2];
     if len == 3 {
-        return 3;
+        return pack3(a, b, c);
     }
     if misses(s, 3, 0x80, 0xBF) {
         return 0;
     }
-    4
-}
-
-// The length of the sequence at the head of `s`; 0 where none begins.
-fn measure(s: &[u8]) -> usize
-    ensures { λ r. ⌜ r ≡ stepLength (stepOf (now (s .entry))) ⌝ }
-{
-    if s.len() == 0 {
-        return 0;
-    }
-    let b = s[0];
-    measure_by(s, read_lead(b))
-}
-
-// The code point of the sequence at the head of `s`, whose length is `len`.
-fn code_point(s: &[u8], len: usize) -> u32
-    requires { ⌜ (0 < len) × (len ≡ stepLength (stepOf (now s))) ⌝ }
-    ensures { λ r. ⌜ Step.Scalar r len ≡ stepOf (now (s .entry)) ⌝ }
-{
-    match len {
-        1 => join1(s[0]),
-        2 => join2(s[0], s[1]),
-        3 => join3(s[0], s[1], s[2]),
-        _ => join4(s[0], s[1], s[2], s[3]),
-    }
+    pack4(a, b, c, s[3])
 }
 
 // The sequence at a place of `s` as one number: 8 times its code point, and its length; 0 where none begins.
@@ -197,12 +180,7 @@ pub fn decode_packed(s: &[u8], at: usize) -> usize
     requires { ⌜ at ≤ length (now s) ⌝ }
     ensures { λ r. ⌜ r ≡ packed (stepOf (drop at (now (s .entry)))) ⌝ }
 {
-    let part = &s[at..];
-    let len = measure(part);
-    if len == 0 {
-        return 0;
-    }
-    code_point(part, len) as usize * 8 + len
+    pack(&s[at..])
 }
 
 // The sequence at the head of `s`.
@@ -212,12 +190,13 @@ pub fn decode(s: &[u8]) -> Step
     if s.len() == 0 {
         return Step::End;
     }
-    let len = measure(s);
+    let d = pack(s);
+    let len = d % 8;
     if len == 0 {
         return Step::IllFormed;
     }
     Step::Scalar {
-        code: code_point(s, len),
+        code: (d / 8) as u32,
         len,
     }
 }

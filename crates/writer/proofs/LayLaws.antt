@@ -1,4 +1,4 @@
--- Bytes laid into a buffer through its parts, turn by turn. Assumes nothing.
+-- Bytes laid into a buffer after those at its front. Assumes nothing.
 use Prim.Native.Nat.{ℕ, _+_, _-_, _≤_}
 use mathlib.Core.Path.{_≡_, sym, ap, _∙_}
 use mathlib.Core.List.{List, _++_}
@@ -7,18 +7,6 @@ use lib.ListN.{length, take, drop}
 use borrow.Rule.Slice.PartMut.{putMid}
 use Rattle.lists.specs.Laid.{laid}
 use Rattle.lists.proofs.LaidLaws.{laid-step, length-laid, lent}
-
--- the part of `out` from `at` on was lent, and came back as `ys`, with `b` at its front
-module _ (out b ys : List ℕ) (at next : ℕ) (fits : at + length b ≤ length out) (goes : at + length b ≡ next) (e : ys ≡ laid (take (length out - at) (drop at out)) 0 b) where
-  pub kept : length (putMid at (length out - at) out ys) ≡ length out
-  kept = ap length (lent out b at fits ys e) ∙ length-laid out b at fits
-
-  pub turned : (more base : List ℕ) → laid out at (b ++ more) ≡ base → laid (putMid at (length out - at) out ys) next more ≡ base
-  turned more base h =
-      ap (λ (l : List ℕ). laid l next more) (lent out b at fits ys e)
-      ∙ ap (λ (k : ℕ). laid (laid out at b) k more) (sym goes)
-      ∙ sym (laid-step out b at fits more)
-      ∙ h
 
 -- `a` was laid at the front, and then `b` after it, through the part from there on
 pub joined :

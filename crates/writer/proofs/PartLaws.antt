@@ -1,6 +1,6 @@
 -- The ranges of a list of words are its words, and an image is its header, its ranges and its entries, one after the other.
 -- Assumes nothing.
-use Prim.Native.Nat.{ℕ, zero, suc, _+_, _-_, _*_, _%_, _≤_}
+use Prim.Native.Nat.{ℕ, zero, suc, _+_, _*_, _≤_}
 use mathlib.Core.Path.{_≡_, refl, sym, ap, _∙_}
 use mathlib.Core.List.{List, [], _∷_, _++_, append-assoc}
 use native.Mathlib.Nat.{add-zero}
@@ -10,10 +10,12 @@ use lib.Seq.{getD-drop, drop-drop}
 use Rattle.lists.specs.Each.{each, eachFrom}
 use Rattle.lists.proofs.EachLaws.{length-each}
 use Rattle.image.specs.declared.Profile.{Profile}
+use Rattle.image.specs.Limits.{wordsPerRange}
 use Rattle.image.specs.Header.{imageEnd}
 use Rattle.image.specs.Ranges.{rangeIn, rangeWords}
 use Rattle.image.specs.Image.{headerWords, entryWords, imageWords, bytesOfAll, imageOf}
 use Rattle.writer.specs.Write.{rangesIn}
+use Rattle.writer.specs.Writable.{Shaped}
 use Rattle.writer.proofs.WordLaws.{length-all, all-append}
 
 three : (l : List ℕ) → 3 ≤ length l → l ≡ getD l 0 0 ∷ getD l 1 0 ∷ getD l 2 0 ∷ drop 3 l
@@ -29,23 +31,23 @@ three-from l i h = three (drop i l) (rw length-drop (omega arith)) ∙ simp (get
 abbrev pub wordsOf : List ℕ → ℕ → List ℕ
 wordsOf words i = rangeWords (rangeIn words i)
 
-words-from : (words : List ℕ) (k i : ℕ) → length words ≡ 3 * (i + k) → eachFrom (wordsOf words) k i ≡ drop (3 * i) words
+words-from : (words : List ℕ) (k i : ℕ) → length words ≡ wordsPerRange * (i + k) → eachFrom (wordsOf words) k i ≡ drop (wordsPerRange * i) words
 unfolding eachFrom rangeIn
-words-from words zero i h = let z : length words ≤ 3 * i = omega arith in sym (drop-of-length-le words z)
+words-from words zero i h = let z : length words ≤ wordsPerRange * i = omega arith in sym (drop-of-length-le words z)
 words-from words (suc k) i h =
     let r = words-from words k (suc i) (omega arith) in
-    let z : 3 * suc i ≡ 3 * i + 3 = omega arith in
-    ap (λ (l : List ℕ). wordsOf words i ++ l) (r ∙ ap (λ (j : ℕ). drop j words) z) ∙ sym (three-from words (3 * i) (omega arith))
+    let z : wordsPerRange * suc i ≡ wordsPerRange * i + wordsPerRange = omega arith in
+    ap (λ (l : List ℕ). wordsOf words i ++ l) (r ∙ ap (λ (j : ℕ). drop j words) z) ∙ sym (three-from words (wordsPerRange * i) (omega arith))
 
-pub whole : (words : List ℕ) → length words % 3 ≡ 0 → length words ≡ 3 * rangesIn words
+pub whole : (words : List ℕ) → Shaped words → length words ≡ wordsPerRange * rangesIn words
 whole words e = omega arith
 
 -- the words of all ranges are the words
-pub words-back : (words : List ℕ) → length words % 3 ≡ 0 → each (wordsOf words) (rangesIn words) ≡ words
+pub words-back : (words : List ℕ) → Shaped words → each (wordsOf words) (rangesIn words) ≡ words
 unfolding each
 words-back words e = let w = whole words e in words-from words (rangesIn words) 0 (omega arith)
 
-module _ (version : ℕ) (words : List ℕ) (p : Profile) (e : length words % 3 ≡ 0) where
+module _ (version : ℕ) (words : List ℕ) (p : Profile) (e : Shaped words) where
   -- the image's numbers: those of the header, the words, and the entries
   pub image-words : imageWords version (rangeIn words) (rangesIn words) p ≡ headerWords version (rangesIn words) (p .used) ++ (words ++ each (entryWords p) (p .used))
   unfolding imageWords
@@ -65,7 +67,7 @@ module _ (version : ℕ) (words : List ℕ) (p : Profile) (e : length words % 3 
   pub length-entries : length (each (entryWords p) (p .used)) ≡ 2 * p .used
   length-entries = length-each (entryWords p) 2 (λ i. refl) (p .used)
 
-  pub length-words : length (imageWords version (rangeIn words) (rangesIn words) p) ≡ 8 + 3 * rangesIn words + 2 * p .used
+  pub length-words : length (imageWords version (rangeIn words) (rangesIn words) p) ≡ 8 + wordsPerRange * rangesIn words + 2 * p .used
   length-words =
       let w = whole words e in
       let l = length-entries in

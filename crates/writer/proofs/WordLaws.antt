@@ -1,16 +1,14 @@
--- The bytes of numbers: lengths, joining, and one number at a time. Assumes nothing.
+-- The bytes of numbers: lengths, joining, one number at a time, and the numbers read from bytes. Assumes nothing.
 use Prim.Native.Nat.{ℕ, zero, suc, _+_, _-_, _*_, _/_, _%_, _≤_, _<_}
 use mathlib.Core.Path.{_≡_, refl, sym, ap, _∙_}
 use mathlib.Core.List.{List, [], _∷_, _++_, append-assoc}
-use native.Mathlib.Numerals.{add-one}
 use native.Mathlib.Nat.{add-zero, add-assoc, mul-zero, mul-suc, div-div-eq-div-mul, mod-add-div, mod-eq-of-lt}
 use native.Mathlib.Omega.{arith}
 use lib.ListN.{length, take, drop, getD, length-append, length-drop, drop-of-length-le}
 use lib.Seq.{drop-cons, drop-drop, take-add, getD-drop, getD-append-add}
 use Rattle.lists.specs.Each.{eachFrom}
-use Rattle.lists.proofs.EachLaws.{each-next, each-end}
 use Rattle.utf8.proofs.TableLaws.{four-bytes}
-use Rattle.image.specs.Word.{AllBytes, wordAt, bytesOf, joinOf}
+use Rattle.image.specs.Word.{AllBytes, IsWord, wordAt, bytesOf, joinOf}
 use Rattle.image.specs.Image.{bytesOfAll}
 
 pub length-four : (w : ℕ) → length (bytesOf w) ≡ 4
@@ -27,30 +25,25 @@ unfolding bytesOfAll
 all-append [] b = refl
 all-append (w ∷ a) b = let h = all-append a b in rw (h, append-assoc)
 
--- the numbers from index i on: that at i, then the others
-pub all-next : (ws : List ℕ) (i : ℕ) → i < length ws → bytesOfAll (drop i ws) ≡ bytesOf (getD ws i 0) ++ bytesOfAll (drop (i + 1) ws)
-unfolding bytesOfAll
-all-next ws i h = rw (add-one, drop-cons ws i 0)
+-- the bytes of numbers, and of lists of numbers, index by index
+pub bytes-each-word : (ws : List ℕ) (k i : ℕ) → i + k ≡ length ws → eachFrom (λ (j : ℕ). bytesOf (getD ws j 0)) k i ≡ bytesOfAll (drop i ws)
+unfolding bytesOfAll eachFrom
+bytes-each-word ws zero i e = let h : length ws ≤ i = omega arith in rw drop-of-length-le
+bytes-each-word ws (suc k) i e =
+    let h : i < length ws = omega arith in
+    rw (drop-cons ws i 0) (ap (λ (l : List ℕ). bytesOf (getD ws i 0) ++ l) (bytes-each-word ws k (suc i) (omega arith)))
 
-pub all-end : (ws : List ℕ) (i : ℕ) → length ws ≤ i → bytesOfAll (drop i ws) ≡ []
-unfolding bytesOfAll
-all-end ws i h = rw drop-of-length-le
-
--- the same of lists made from a function of the index
-module _ (f : ℕ → List ℕ) (n i : ℕ) where
-  pub each-all-next : i < n → bytesOfAll (eachFrom f (n - i) i) ≡ bytesOfAll (f i) ++ bytesOfAll (eachFrom f (n - (i + 1)) (i + 1))
-  each-all-next h = ap bytesOfAll (each-next f n i h) ∙ all-append (f i) (eachFrom f (n - (i + 1)) (i + 1))
-
-  pub each-all-end : n ≤ i → bytesOfAll (eachFrom f (n - i) i) ≡ []
-  unfolding bytesOfAll
-  each-all-end h = ap bytesOfAll (each-end f n i h)
+pub bytes-each-list : (f : ℕ → List ℕ) (k i : ℕ) → eachFrom (λ (j : ℕ). bytesOfAll (f j)) k i ≡ bytesOfAll (eachFrom f k i)
+unfolding bytesOfAll eachFrom
+bytes-each-list f zero i = refl
+bytes-each-list f (suc k) i = rw (all-append, bytes-each-list f k (suc i))
 
 regroup :
     (w a b c d q r t : ℕ) → a + 0x100 * q ≡ w → b + 0x100 * r ≡ q → c + 0x100 * t ≡ r → d ≡ t → joinOf a b c d ≡ w
 regroup w a b c d q r t e f g h = omega arith
 
 -- four bytes make the number that has them
-join-four : (w : ℕ) → w < 0x100000000 → joinOf (w % 0x100) (w / 0x100 % 0x100) (w / 0x10000 % 0x100) (w / 0x1000000 % 0x100) ≡ w
+join-four : (w : ℕ) → IsWord w → joinOf (w % 0x100) (w / 0x100 % 0x100) (w / 0x10000 % 0x100) (w / 0x1000000 % 0x100) ≡ w
 join-four w h =
     let q = w / 0x100 in
     let r = w / 0x10000 in
@@ -84,12 +77,12 @@ word-past : (p s : List ℕ) (i : ℕ) → wordAt (p ++ s) (length p + i) ≡ wo
 unfolding wordAt
 word-past p s i = simp (add-assoc, getD-append-add)
 
-word-front : (v : ℕ) (s : List ℕ) → v < 0x100000000 → wordAt (bytesOf v ++ s) 0 ≡ v
+word-front : (v : ℕ) (s : List ℕ) → IsWord v → wordAt (bytesOf v ++ s) 0 ≡ v
 unfolding wordAt bytesOf
 word-front v s l = join-four v l
 
 -- the number at index i, read from the bytes
-pub word-is : (ws : List ℕ) (i v : ℕ) → i < length ws → getD ws i 0 ≡ v → v < 0x100000000 → wordAt (bytesOfAll ws) (4 * i) ≡ v
+pub word-is : (ws : List ℕ) (i v : ℕ) → i < length ws → getD ws i 0 ≡ v → IsWord v → wordAt (bytesOfAll ws) (4 * i) ≡ v
 unfolding bytesOfAll
 word-is [] i v h e l = absurd (omega arith)
 word-is (w ∷ ws) zero v h e l = rw e (word-front v (bytesOfAll ws) l)

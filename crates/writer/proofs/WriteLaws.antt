@@ -1,46 +1,45 @@
--- What the writer's answers say of the words, the profile and the buffer, each refusal exactly when. Assumes nothing.
+-- What the writer's answers say of the words, the profile and the buffer, exactly when. Assumes nothing.
 use Prim.Native.Nat.{ℕ, _%_, _≤_}
-use mathlib.Core.Path.{_≡_, refl, sym, ap, subst, _∙_}
+use mathlib.Core.Path.{_≡_, refl, ap, _∙_}
 use mathlib.Core.List.{List}
 use mathlib.Core.Bool.{Bool, true, false, cond}
-use mathlib.Core.Logic.{inl, inr}
 use mathlib.Core.Option.{Option, none, some}
-use native.Mathlib.Omega.{arith}
 use lib.ListN.{length}
-use lib.Dec.{leb, ltb, eqb}
-use borrow.Author.Tests.{leb-true, leb-false, eqb-true, eqb-false, ltb-true, ltb-false, le-leb, lt-leb, eq-eqb, ne-eqb, lt-ltb, le-ltb}
-use Rattle.lists.specs.First.{AllGood}
-use Rattle.lists.specs.Laid.{laid}
-use Rattle.lists.proofs.FirstLaws.{first-bad, all-good, first-is-bad, first-is-none}
+use lib.Dec.{leb, eqb}
+use borrow.Author.Tests.{leb-true, leb-false, eqb-true, eqb-false, le-leb, lt-leb, eq-eqb, ne-eqb}
+use Rattle.lists.proofs.BoolLaws.{impossible}
 use Rattle.refusal.specs.declared.Refusal.{Refusal}
 use Rattle.refusal.specs.declared.Refusal.the-variants as refusal
 use Rattle.image.specs.declared.Profile.{Profile}
-use Rattle.image.specs.Limits.{maxRanges, maxEntries}
-use Rattle.image.specs.Ranges.{rangeIn, goodRange, firstBadRange}
-use Rattle.image.specs.Profile.{pointIn, roleIn, goodEntry, firstBadEntry}
-use Rattle.image.specs.Image.{imageOf}
-use Rattle.image.specs.Check.{refuseAt}
+use Rattle.image.specs.Limits.{maxRanges, maxEntries, wordsPerRange}
+use Rattle.image.specs.Ranges.{rangeIn}
+use Rattle.image.specs.Profile.{pointIn, roleIn}
+use Rattle.image.specs.Check.{recordsRefusal}
+use Rattle.image.proofs.RecordsLaws.{records-mean, range-refused, entry-refused, none-refused}
 use Rattle.writer.specs.declared.Written.{Written}
 use Rattle.writer.specs.declared.Written.the-variants as written
-use Rattle.writer.specs.Writable.{Counted, Writable, Because}
+use Rattle.writer.specs.Writable.{
+  Shaped,
+  Counted,
+  Writable,
+  WriteMeans,
+  bad-shape,
+  many-ranges,
+  many-entries,
+  bad-range,
+  bad-entry,
+  lacks-room,
+  is-written,
+}
 use Rattle.writer.specs.Write.{rangesIn, bytesNeeded, writeRefusal, writtenBy, writeOf, bytesBy, bytesAfter}
 
-module _ (words : List ℕ) (p : Profile) (room : ℕ) where
-  abbrev badRange : ℕ
-  badRange = firstBadRange (rangeIn words) (rangesIn words)
-
-  abbrev badEntry : ℕ
-  badEntry = firstBadEntry (pointIn p) (roleIn p) (p .used)
-
-  -- what is left to refuse after the entries, the ranges, each count and the shape
-  abbrev afterEntries : Option Refusal
-  afterEntries = cond (leb (bytesNeeded words p) room) none (some (refusal.Buffer (bytesNeeded words p)))
-
-  abbrev afterRanges : Option Refusal
-  afterRanges = refuseAt refusal.Entry badEntry (p .used) afterEntries
+module _ (version : ℕ) (words : List ℕ) (p : Profile) (out : List ℕ) where
+  -- what is left to refuse after the records, each count and the shape
+  abbrev afterRecords : Option Refusal
+  afterRecords = cond (leb (bytesNeeded words p) (length out)) none (some (refusal.Buffer (bytesNeeded words p)))
 
   abbrev afterCounts : Option Refusal
-  afterCounts = refuseAt refusal.Range badRange (rangesIn words) afterRanges
+  afterCounts = recordsRefusal (rangeIn words) (rangesIn words) (pointIn p) (roleIn p) (p .used) afterRecords
 
   abbrev afterFirst : Option Refusal
   afterFirst = cond (leb (p .used) maxEntries) afterCounts (some refusal.Header)
@@ -48,107 +47,83 @@ module _ (words : List ℕ) (p : Profile) (room : ℕ) where
   abbrev afterShape : Option Refusal
   afterShape = cond (leb (rangesIn words) maxRanges) afterFirst (some refusal.Header)
 
-  because-buffer : Writable words p → (b : Bool) → leb (bytesNeeded words p) room ≡ b → Because words p room (cond b none (some (refusal.Buffer (bytesNeeded words p))))
-  because-buffer w true e = (w, leb-true _ _ e)
-  because-buffer w false e = (w, refl, leb-false _ _ e)
+  -- what the answer and the buffer say, where it is known what refuses
+  abbrev By : Option Refusal → Type 0
+  By o = WriteMeans version words p out (writtenBy words p o) (bytesBy version words p out o)
 
-  because-entries :
-      Counted words p → AllGood (goodRange (rangeIn words)) (rangesIn words) → (b : Bool) → ltb badEntry (p .used) ≡ b
-      → Because words p room (cond b (some (refusal.Entry badEntry)) afterEntries)
-  unfolding firstBadEntry
-  because-entries h g true e = (h, g, first-bad (goodEntry (pointIn p) (roleIn p)) (p .used) (ltb-true _ _ e))
-  because-entries h g false e =
-      because-buffer (record { counted = h; ranges = g; entries = all-good (goodEntry (pointIn p) (roleIn p)) (p .used) (ltb-false _ _ e) }) _ refl
+  by-room : Writable words p → (b : Bool) → leb (bytesNeeded words p) (length out) ≡ b → By (cond b none (some (refusal.Buffer (bytesNeeded words p))))
+  by-room w true e = is-written w (leb-true _ _ e)
+  by-room w false e = lacks-room w (leb-false _ _ e)
 
-  because-ranges : Counted words p → (b : Bool) → ltb badRange (rangesIn words) ≡ b → Because words p room (cond b (some (refusal.Range badRange)) afterRanges)
-  unfolding firstBadRange
-  because-ranges h true e = (h, first-bad (goodRange (rangeIn words)) (rangesIn words) (ltb-true _ _ e))
-  because-ranges h false e = because-entries h (all-good (goodRange (rangeIn words)) (rangesIn words) (ltb-false _ _ e)) _ refl
+  by-records : Counted words p → By afterCounts
+  by-records h =
+      records-mean (rangeIn words) (rangesIn words) (pointIn p) (roleIn p) (p .used) afterRecords By (λ i f. bad-range h f) (λ g i f. bad-entry h g f)
+      (λ g k. by-room (record { counted = h; ranges = g; entries = k }) _ refl)
 
-  because-used :
-      length words % 3 ≡ 0 → rangesIn words ≤ maxRanges → (b : Bool) → leb (p .used) maxEntries ≡ b
-      → Because words p room (cond b afterCounts (some refusal.Header))
-  because-used t n true e = because-ranges (record { thirds = t; few-ranges = n; few-entries = leb-true _ _ e }) _ refl
-  because-used t n false e = (t, inr (leb-false _ _ e))
+  by-used : Shaped words → rangesIn words ≤ maxRanges → (b : Bool) → leb (p .used) maxEntries ≡ b → By (cond b afterCounts (some refusal.Header))
+  by-used t n true e = by-records (record { shaped = t; few-ranges = n; few-entries = leb-true _ _ e })
+  by-used t n false e = many-entries t (leb-false _ _ e)
 
-  because-count : length words % 3 ≡ 0 → (b : Bool) → leb (rangesIn words) maxRanges ≡ b → Because words p room (cond b afterFirst (some refusal.Header))
-  because-count t true e = because-used t (leb-true _ _ e) _ refl
-  because-count t false e = (t, inl (leb-false _ _ e))
+  by-count : Shaped words → (b : Bool) → leb (rangesIn words) maxRanges ≡ b → By (cond b afterFirst (some refusal.Header))
+  by-count t true e = by-used t (leb-true _ _ e) _ refl
+  by-count t false e = many-ranges t (leb-false _ _ e)
 
-  because-shape : (b : Bool) → eqb (length words % 3) 0 ≡ b → Because words p room (cond b afterShape (some refusal.Shape))
-  because-shape true e = because-count (eqb-true _ _ e) _ refl
-  because-shape false e = eqb-false _ _ e
+  by-shape : (b : Bool) → eqb (length words % wordsPerRange) 0 ≡ b → By (cond b afterShape (some refusal.Shape))
+  by-shape true e = by-count (eqb-true _ _ e) _ refl
+  by-shape false e = bad-shape (eqb-false _ _ e)
 
-  -- why the writer refuses, or doesn't
-  pub because : Because words p room (writeRefusal words p room)
+  -- what the answer and the buffer say
+  pub write-means : (a : Written) (b : List ℕ) → writeOf words p (length out) ≡ a → bytesAfter version words p out ≡ b → WriteMeans version words p out a b
+  unfolding writeOf bytesAfter writeRefusal
+  write-means a b e f = rw (← e, ← f) (by-shape _ refl)
+
+  write-by :
+      (o : Option Refusal) → writeRefusal words p (length out) ≡ o
+      → (writeOf words p (length out) ≡ writtenBy words p o) × (bytesAfter version words p out ≡ bytesBy version words p out o)
+  unfolding writeOf bytesAfter
+  write-by o e = (ap (writtenBy words p) e, ap (bytesBy version words p out) e)
+
+  past-shape : Shaped words → writeRefusal words p (length out) ≡ afterShape
   unfolding writeRefusal
-  because = because-shape _ refl
+  past-shape t = simp (eq-eqb (length words % wordsPerRange) 0 t)
 
-  pub why : (o : Option Refusal) → writeRefusal words p room ≡ o → Because words p room o
-  why o e = subst (Because words p room) e because
+  past-counts : Counted words p → writeRefusal words p (length out) ≡ afterCounts
+  past-counts h = past-shape (h .shaped) ∙ simp (le-leb _ _ (h .few-ranges), le-leb _ _ (h .few-entries))
 
-  past-shape : length words % 3 ≡ 0 → writeRefusal words p room ≡ afterShape
+  past-records : Writable words p → writeRefusal words p (length out) ≡ afterRecords
+  past-records w = past-counts (w .counted) ∙ none-refused _ _ _ _ _ afterRecords (w .ranges) (w .entries)
+
+  few-or-many : (b : Bool) → afterFirst ≡ some refusal.Header → cond b afterFirst (some refusal.Header) ≡ some refusal.Header
+  few-or-many true e = e
+  few-or-many false e = refl
+
+  -- and back: where it is so, those are they
+  pub means-write :
+      (a : Written) (b : List ℕ) → WriteMeans version words p out a b → (writeOf words p (length out) ≡ a) × (bytesAfter version words p out ≡ b)
   unfolding writeRefusal
-  past-shape t = simp (eq-eqb (length words % 3) 0 t)
-
-  past-counts : Counted words p → writeRefusal words p room ≡ afterCounts
-  past-counts h = past-shape (h .thirds) ∙ simp (le-leb _ _ (h .few-ranges), le-leb _ _ (h .few-entries))
-
-  past-ranges : Counted words p → AllGood (goodRange (rangeIn words)) (rangesIn words) → writeRefusal words p room ≡ afterRanges
-  unfolding firstBadRange
-  past-ranges h g =
-      let e = first-is-none (goodRange (rangeIn words)) (rangesIn words) g in
-      past-counts h ∙ simp (le-ltb badRange (rangesIn words) (omega arith))
-
-  past-entries : Writable words p → writeRefusal words p room ≡ afterEntries
-  unfolding firstBadEntry
-  past-entries w =
-      let e = first-is-none (goodEntry (pointIn p) (roleIn p)) (p .used) (w .entries) in
-      past-ranges (w .counted) (w .ranges) ∙ simp (le-ltb badEntry (p .used) (omega arith))
-
-  -- and back: where it is so, that is the refusal
-  pub decides : (o : Option Refusal) → Because words p room o → writeRefusal words p room ≡ o
-  unfolding writeRefusal firstBadRange firstBadEntry
-  decides none (w, l) = past-entries w ∙ simp (le-leb _ _ l)
-  decides (some refusal.Header) (t, inl l) = past-shape t ∙ simp (lt-leb _ _ l)
-  decides (some refusal.Header) (t, inr l) = past-shape t ∙ go (leb (rangesIn words) maxRanges)
-    where
-      go : (b : Bool) → cond b afterFirst (some refusal.Header) ≡ some refusal.Header
-      go true = simp (lt-leb _ _ l)
-      go false = refl
-  decides (some (refusal.Range i)) (h, f) =
-      let e = first-is-bad (goodRange (rangeIn words)) (rangesIn words) i f in
-      past-counts h ∙ simp (e, lt-ltb i (rangesIn words) (f .within))
-  decides (some (refusal.Entry i)) (h, g, f) =
-      let e = first-is-bad (goodEntry (pointIn p) (roleIn p)) (p .used) i f in
-      past-ranges h g ∙ simp (e, lt-ltb i (p .used) (f .within))
-  decides (some (refusal.Buffer k)) (w, e, l) =
-      past-entries w ∙ rw e (simp (lt-leb (bytesNeeded words p) room (omega arith)))
-  decides (some refusal.Shape) n = simp (ne-eqb (length words % 3) 0 n)
-
--- what an answer of the writer says, and what the buffer then holds
-abbrev pub Says : ℕ → List ℕ → Profile → List ℕ → Written → Type 0
-Says version words p out (written.Refused r) = (writeRefusal words p (length out) ≡ some r) × (bytesAfter version words p out ≡ out)
-Says version words p out (written.Image len) =
-    Writable words p
-    × (len ≡ bytesNeeded words p)
-    × (len ≤ length out)
-    × (bytesAfter version words p out ≡ laid out 0 (imageOf version (rangeIn words) (rangesIn words) p))
-
-module _ (version : ℕ) (words : List ℕ) (p : Profile) (out : List ℕ) where
-  says-by : (o : Option Refusal) → writeRefusal words p (length out) ≡ o → Says version words p out (writtenBy words p o)
-  unfolding bytesAfter
-  says-by none e = let w = why words p (length out) none e in (w .0, refl, w .1, ap (bytesBy version words p out) e)
-  says-by (some r) e = (e, ap (bytesBy version words p out) e)
-
-  says-of : Says version words p out (writeOf words p (length out))
-  unfolding writeOf
-  says-of = says-by (writeRefusal words p (length out)) refl
-
-  -- for a caller that has the answer w in hand, and knows that it is x
-  pub says : (w x : Written) → w ≡ writeOf words p (length out) → w ≡ x → (x ≡ writeOf words p (length out)) × Says version words p out x
-  says w x e f = let g = sym f ∙ e in (g, subst (Says version words p out) (sym g) says-of)
+  means-write _ _ (bad-shape n) = write-by (some refusal.Shape) (simp (ne-eqb (length words % wordsPerRange) 0 n))
+  means-write _ _ (many-ranges t l) = write-by (some refusal.Header) (past-shape t ∙ simp (lt-leb _ _ l))
+  means-write _ _ (many-entries t l) = write-by (some refusal.Header) (past-shape t ∙ few-or-many (leb (rangesIn words) maxRanges) (simp (lt-leb _ _ l)))
+  means-write _ _ (bad-range {i} h f) = write-by _ (past-counts h ∙ range-refused _ _ _ _ _ afterRecords i f)
+  means-write _ _ (bad-entry {i} h g f) = write-by _ (past-counts h ∙ entry-refused _ _ _ _ _ afterRecords g i f)
+  means-write _ _ (lacks-room w l) = write-by (some (refusal.Buffer (bytesNeeded words p))) (past-records w ∙ simp (lt-leb _ _ l))
+  means-write _ _ (is-written w l) = write-by none (past-records w ∙ simp (le-leb _ _ l))
 
   -- a refused call leaves the buffer as it was
-  pub refused-keeps : (r : Refusal) → writeOf words p (length out) ≡ written.Refused r → bytesAfter version words p out ≡ out
-  refused-keeps r e = says (writeOf words p (length out)) (written.Refused r) refl e .1 .1
+  pub write-kept : (r : Refusal) → writeOf words p (length out) ≡ written.Refused r → bytesAfter version words p out ≡ out
+  write-kept r e = go _ refl
+    where
+      go : (o : Option Refusal) → writeRefusal words p (length out) ≡ o → bytesAfter version words p out ≡ out
+      go none f = let g = write-by none f .0 in impossible (cc)
+      go (some q) f = write-by (some q) f .1
+
+  -- an answer with a length: what was written
+  pub written-means :
+      (len : ℕ) → writeOf words p (length out) ≡ written.Image len
+      → Writable words p × (len ≡ bytesNeeded words p) × (len ≤ length out) × (bytesAfter version words p out ≡ bytesBy version words p out none)
+  written-means len e = go len _ (write-means (written.Image len) _ e refl)
+    where
+      go :
+          (len : ℕ) (b : List ℕ) → WriteMeans version words p out (written.Image len) b
+          → Writable words p × (len ≡ bytesNeeded words p) × (len ≤ length out) × (b ≡ bytesBy version words p out none)
+      go _ _ (is-written w l) = (w, refl, l, refl)

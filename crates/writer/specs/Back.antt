@@ -3,12 +3,10 @@ use Prim.Native.Nat.{ℕ, _≤_, _<_}
 use mathlib.Core.Path.{_≡_}
 use mathlib.Core.List.{List}
 use mathlib.Core.Option.{none}
-use Rattle.lists.specs.Each.{each}
 use Rattle.image.specs.declared.Profile.{Profile}
 use Rattle.image.specs.Header.{versionOf, rangeCount}
-use Rattle.image.specs.Ranges.{rangeAt, rangeWords}
 use Rattle.image.specs.Profile.{pointIn, roleIn, profileOf}
-use Rattle.image.specs.Check.{refusalOf}
+use Rattle.image.specs.Check.{refusalOf, rangesOf}
 use Rattle.writer.specs.Write.{rangesIn}
 
 -- profiles are the same if the used lengths and the entries before them are
@@ -22,6 +20,6 @@ pub record ReadBack (version : ℕ) (words : List ℕ) (p : Profile) (s : List �
   pub is-accepted : refusalOf s ≡ none
   pub same-version : versionOf s ≡ version
   pub same-count : rangeCount s ≡ rangesIn words
-  pub same-words : each (λ (i : ℕ). rangeWords (rangeAt s i)) (rangeCount s) ≡ words
+  pub same-words : rangesOf s ≡ words
   pub same-entries : SameEntries p (profileOf s)
   pub zeros : (i : ℕ) → p .used ≤ i → (pointIn (profileOf s) i ≡ 0) × (roleIn (profileOf s) i ≡ 0)

@@ -9,18 +9,18 @@ use Rattle.lists.specs.Laid.{laid}
 use Rattle.refusal.specs.declared.Refusal.{Refusal}
 use Rattle.refusal.specs.declared.Refusal.the-variants as refusal
 use Rattle.image.specs.declared.Profile.{Profile}
-use Rattle.image.specs.Limits.{maxRanges, maxEntries}
+use Rattle.image.specs.Limits.{maxRanges, maxEntries, wordsPerRange}
 use Rattle.image.specs.Header.{imageEnd}
-use Rattle.image.specs.Ranges.{rangeIn, firstBadRange}
-use Rattle.image.specs.Profile.{pointIn, roleIn, firstBadEntry}
+use Rattle.image.specs.Ranges.{rangeIn}
+use Rattle.image.specs.Profile.{pointIn, roleIn}
 use Rattle.image.specs.Image.{imageOf}
-use Rattle.image.specs.Check.{refuseAt}
+use Rattle.image.specs.Check.{recordsRefusal}
 use Rattle.writer.specs.declared.Written.{Written}
 use Rattle.writer.specs.declared.Written.the-variants as written
 
 -- a range is three words
 abbrev pub rangesIn : List ℕ → ℕ
-rangesIn words = length words / 3
+rangesIn words = length words / wordsPerRange
 
 -- the bytes of the image with these ranges and this profile
 abbrev pub bytesNeeded : List ℕ → Profile → ℕ
@@ -34,12 +34,11 @@ valueAt l i = getD l i 0
 -- 12: the buffer of `room` bytes is too short. Entries past the used length are not looked at.
 unfoldable pub writeRefusal : List ℕ → Profile → ℕ → Option Refusal
 writeRefusal words p room =
-    cond (eqb (length words % 3) 0)
+    cond (eqb (length words % wordsPerRange) 0)
     (cond (leb (rangesIn words) maxRanges)
     (cond (leb (p .used) maxEntries)
-    (refuseAt refusal.Range (firstBadRange (rangeIn words) (rangesIn words)) (rangesIn words)
-    (refuseAt refusal.Entry (firstBadEntry (pointIn p) (roleIn p) (p .used)) (p .used)
-    (cond (leb (bytesNeeded words p) room) none (some (refusal.Buffer (bytesNeeded words p))))))
+    (recordsRefusal (rangeIn words) (rangesIn words) (pointIn p) (roleIn p) (p .used)
+    (cond (leb (bytesNeeded words p) room) none (some (refusal.Buffer (bytesNeeded words p)))))
     (some refusal.Header))
     (some refusal.Header))
     (some refusal.Shape)

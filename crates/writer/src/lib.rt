@@ -6,16 +6,22 @@ ghost use lib.ListN.{length};
 ghost use Rattle.lists.specs.Laid.{laid};
 ghost use Rattle.lists.specs.Each.{each};
 ghost use Rattle.image.specs.Word.{bytesOf};
-ghost use Rattle.image.specs.Limits.{maxRanges, maxEntries};
+ghost use Rattle.image.specs.Limits.{maxRanges, maxEntries, wordBytes, entryBytes, wordsPerRange};
 ghost use Rattle.image.specs.Ranges.{rangeIn, goodRange, firstBadRange};
 ghost use Rattle.image.specs.Profile.{profileBy, goodEntry, firstBadEntry};
 ghost use Rattle.image.specs.Header.{imageEnd};
 ghost use Rattle.image.specs.Image.{entryWords, bytesOfAll, imageOf};
 ghost use Rattle.writer.specs.Write.{valueAt, rangesIn, writeOf, bytesAfter};
+use image::ENTRY_BYTES;
+use image::FORMAT;
+use image::HEADER_BYTES;
 use image::MAX_ENTRIES;
 use image::MAX_RANGES;
 use image::Profile;
+use image::RANGE_BYTES;
+use image::RANGE_WORDS;
 use image::Range;
+use image::WORD_BYTES;
 use refusal::Refusal;
 
 pub enum Written {
@@ -27,7 +33,7 @@ pub enum Written {
 
 // Writes a number's four bytes at the front of `out`.
 fn put_word(out: &mut [u8], w: u32)
-    requires { ⌜ 4 ≤ length (now out) ⌝ }
+    requires { ⌜ wordBytes ≤ length (now out) ⌝ }
     ensures { λ _. ⌜ now (out .exit) ≡ laid (now (out .entry)) 0 (bytesOf w) ⌝ }
 {
     out[0] = (w % 0x100) as u8;
@@ -38,12 +44,12 @@ fn put_word(out: &mut [u8], w: u32)
 
 // Writes the bytes of numbers, one after the other, at the front of `out`.
 fn put_words(out: &mut [u8], words: &[u32])
-    requires { ⌜ 4 * length (now words) ≤ length (now out) ⌝ }
+    requires { ⌜ wordBytes * length (now words) ≤ length (now out) ⌝ }
     ensures { λ _. ⌜ now (out .exit) ≡ laid (now (out .entry)) 0 (bytesOfAll (now (words .entry))) ⌝ }
 {
     let mut i = 0;
     while i < words.len() {
-        let at = 4 * i;
+        let at = WORD_BYTES * i;
         put_word(&mut out[at..], words[i]);
         i += 1;
     }
@@ -51,11 +57,11 @@ fn put_words(out: &mut [u8], words: &[u32])
 
 // Writes the bytes of a profile entry at the front of `out`.
 fn put_entry(out: &mut [u8], point: u32, role: u32)
-    requires { ⌜ 8 ≤ length (now out) ⌝ }
+    requires { ⌜ entryBytes ≤ length (now out) ⌝ }
     ensures { λ _. ⌜ now (out .exit) ≡ laid (now (out .entry)) 0 (bytesOfAll (point ∷ role ∷ [])) ⌝ }
 {
     put_word(out, point);
-    put_word(&mut out[4..], role);
+    put_word(&mut out[WORD_BYTES..], role);
 }
 
 // Writes the bytes of the first `m` profile entries at the front of `out`.
@@ -65,12 +71,12 @@ fn put_entries<'a>(
     roles: &'a [u32; MAX_ENTRIES],
     m: usize,
 )
-    requires { ⌜ (m ≤ maxEntries) × (8 * m ≤ length (now out)) ⌝ }
+    requires { ⌜ (m ≤ maxEntries) × (entryBytes * m ≤ length (now out)) ⌝ }
     ensures { λ _. ⌜ now (out .exit) ≡ laid (now (out .entry)) 0 (bytesOfAll (each (entryWords (profileBy (now (points .entry)) (now (roles .entry)) m)) m)) ⌝ }
 {
     let mut i = 0;
     while i < m {
-        let at = 8 * i;
+        let at = ENTRY_BYTES * i;
         put_entry(&mut out[at..], points[i], roles[i]);
         i += 1;
     }
@@ -85,24 +91,33 @@ fn put_image<'a>(
     m: usize,
     out: &mut [u8],
 )
-    requires { ⌜ (length (now words) % 3 ≡ 0) × (rangesIn (now words) ≤ maxRanges) × (m ≤ maxEntries) × (imageEnd (rangesIn (now words)) m ≤ length (now out)) ⌝ }
+    requires { ⌜ (length (now words) % wordsPerRange ≡ 0) × (rangesIn (now words) ≤ maxRanges) × (m ≤ maxEntries) × (imageEnd (rangesIn (now words)) m ≤ length (now out)) ⌝ }
     ensures { λ _. ⌜ now (out .exit) ≡ laid (now (out .entry)) 0 (imageOf version (rangeIn (now (words .entry))) (rangesIn (now (words .entry))) (profileBy (now (points .entry)) (now (roles .entry)) m)) ⌝ }
 {
-    let n = words.len() / 3;
-    let at = 32 + 12 * n;
-    let end = at + 8 * m;
-    let head = [1, version, end as u32, n as u32, 32, m as u32, at as u32, 0];
+    let n = words.len() / RANGE_WORDS;
+    let at = HEADER_BYTES + RANGE_BYTES * n;
+    let end = at + ENTRY_BYTES * m;
+    let head = [
+        FORMAT,
+        version,
+        end as u32,
+        n as u32,
+        HEADER_BYTES as u32,
+        m as u32,
+        at as u32,
+        0,
+    ];
     put_words(out, &head);
-    put_words(&mut out[32..], words);
+    put_words(&mut out[HEADER_BYTES..], words);
     put_entries(&mut out[at..], points, roles, m);
 }
 
 // Range i of a list of words.
 fn range_in(words: &[u32], i: usize) -> Range
-    requires { ⌜ 3 * i + 3 ≤ length (now words) ⌝ }
+    requires { ⌜ wordsPerRange * i + wordsPerRange ≤ length (now words) ⌝ }
     ensures { λ r. ⌜ r ≡ rangeIn (now (words .entry)) i ⌝ }
 {
-    let at = 3 * i;
+    let at = RANGE_WORDS * i;
     Range {
         first: words[at],
         last: words[at + 1],
@@ -111,7 +126,7 @@ fn range_in(words: &[u32], i: usize) -> Range
 }
 
 fn is_good_range(words: &[u32], i: usize) -> bool
-    requires { ⌜ 3 * i + 3 ≤ length (now words) ⌝ }
+    requires { ⌜ wordsPerRange * i + wordsPerRange ≤ length (now words) ⌝ }
     ensures { λ t. ⌜ t ≡ goodRange (rangeIn (now (words .entry))) i ⌝ }
 {
     let r = range_in(words, i);
@@ -126,7 +141,7 @@ fn is_good_range(words: &[u32], i: usize) -> bool
 
 // The index of the first bad range of n, or n.
 fn first_bad_range(words: &[u32], n: usize) -> usize
-    requires { ⌜ 3 * n ≤ length (now words) ⌝ }
+    requires { ⌜ wordsPerRange * n ≤ length (now words) ⌝ }
     ensures { λ r. ⌜ r ≡ firstBadRange (rangeIn (now (words .entry))) n ⌝ }
 {
     let mut i = 0;
@@ -188,10 +203,10 @@ fn judge<'a>(
 ) -> Written
     ensures { λ r. ⌜ r ≡ writeOf (now (words .entry)) (profileBy (now (points .entry)) (now (roles .entry)) m) room ⌝ }
 {
-    if words.len() % 3 != 0 {
+    if words.len() % RANGE_WORDS != 0 {
         return Written::Refused(Refusal::Shape);
     }
-    let n = words.len() / 3;
+    let n = words.len() / RANGE_WORDS;
     if MAX_RANGES < n {
         return Written::Refused(Refusal::Header);
     }
@@ -203,7 +218,7 @@ fn judge<'a>(
         return Written::Refused(Refusal::Range(i));
     }
     let j = first_bad_entry(points, roles, m);
-    let len = 32 + 12 * n + 8 * m;
+    let len = HEADER_BYTES + RANGE_BYTES * n + ENTRY_BYTES * m;
     if j < m {
         return Written::Refused(Refusal::Entry(j));
     }

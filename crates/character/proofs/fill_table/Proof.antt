@@ -6,15 +6,15 @@ use native.Mathlib.Omega.{arith}
 use borrow.Author.Needs.{needs}
 use lib.ListN.{length}
 use Rattle.character.specs.Read.{MemoOf, Filled}
-use Rattle.character.proofs.CharacterLaws.{opened-traits, filled-more}
+use Rattle.character.proofs.CharacterLaws.{traits-small, filled-more}
 use Rattle.character.proofs.fill_table.Statement.{statement}
 use Rattle.character.proofs.fill_table.Tie as tie
 
 abbrev Inv-loop : tie.InvT-loop
-Inv-loop image n points roles used table₀ memo₀ i₀ table memo i = (i ≤ 128) × Filled image table i × MemoOf image memo
+Inv-loop image table₀ memo₀ i₀ table memo i = (i ≤ 128) × Filled image table i × MemoOf image memo
 
 abbrev μ-loop : tie.MeasureT-loop
-μ-loop image n points roles used table₀ memo₀ i₀ table memo i = 128 - i
+μ-loop image table₀ memo₀ i₀ table memo i = 128 - i
 
 no-memo-requires : tie.Need-no-memo-requires Inv-loop μ-loop
 no-memo-requires c κs = search needs
@@ -32,7 +32,7 @@ recall-requires c κs = (c .before .before .before .before .pre, c .before .loop
 cast-table : tie.Need-cast-table Inv-loop μ-loop
 cast-table c =
     let m = c .before .recall .ensures in
-    omega (arith, sym (m .all _ (m .from) (m .to)), opened-traits (c .before .before .before .before .before .before .pre) (c .before .before .before .loop .i))
+    omega (arith, sym (m .all _ (m .from) (m .to)), traits-small _ (c .before .before .before .loop .i) (c .before .before .before .before .before .before .pre))
 
 array-write-table : tie.Need-array-write-table Inv-loop μ-loop
 array-write-table c = c .before .before .loop-test .taken

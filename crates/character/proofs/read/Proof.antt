@@ -2,7 +2,7 @@
 use native.Mathlib.Omega.{arith}
 use lib.ListN.{drop, getD, length-drop}
 use Rattle.utf8.proofs.TextLaws.{Unpacked, unpacked}
-use Rattle.character.proofs.CharacterLaws.{opened-traits, ascii-at, read-settled}
+use Rattle.character.proofs.CharacterLaws.{traits-small, ascii-at, read-settled}
 use borrow.Author.Needs.{needs}
 use Rattle.character.proofs.read.Statement.{statement}
 use Rattle.character.proofs.read.Tie as tie
@@ -10,18 +10,21 @@ use Rattle.character.proofs.read.Tie as tie
 shared-slice-read-b : tie.Need-shared-slice-read-b
 shared-slice-read-b c = search needs
 
-cast-t15 : tie.Need-cast-t15
-cast-t15 c = search needs
+cast-t11 : tie.Need-cast-t11
+cast-t11 c = search needs
 
-element-copy-out-t18 : tie.Need-element-copy-out-t18
-element-copy-out-t18 c = search needs
+cast-t12 : tie.Need-cast-t12
+cast-t12 c = search needs
 
-cast-t19 : tie.Need-cast-t19
-cast-t19 c =
+element-copy-out-t15 : tie.Need-element-copy-out-t15
+element-copy-out-t15 c = search needs
+
+cast-t16 : tie.Need-cast-t16
+cast-t16 c =
     omega (
       arith,
       c .before .before .before .before .before .pre .1 .0 .each _ (c .before .if1 .taken),
-      opened-traits (c .before .before .before .before .before .pre .0) (getD (c .before .before .before .before .before .args .text .now) (c .before .before .before .before .before .args .at) 0),
+      traits-small _ (getD (c .before .before .before .before .before .args .text .now) (c .before .before .before .before .before .args .at) 0) (c .before .before .before .before .before .pre .0),
     )
 
 -- what the packed sequence tells
@@ -36,7 +39,7 @@ returns c =
     record {
       memo = c .before .before .before .before .before .pre .1 .1 .0;
       none = λ e. absurd (omega arith);
-      some = λ l. (_, ascii-at _ _ (c .before .before .before .before .before .pre .1 .1 .1) (c .before .if1 .taken), c .before .before .before .before .before .pre .1 .0 .each _ (c .before .if1 .taken));
+      some = λ l. (ascii-at _ _ (c .before .before .before .before .before .pre .1 .1 .1) (c .before .if1 .taken), c .before .before .before .before .before .pre .1 .0 .each _ (c .before .if1 .taken));
     }
 
 decode-packed-requires : tie.Need-decode-packed-requires
@@ -53,9 +56,10 @@ read-spec =
     tie.close
     (tie.spec
     shared-slice-read-b
-    cast-t15
-    element-copy-out-t18
-    cast-t19
+    cast-t11
+    cast-t12
+    element-copy-out-t15
+    cast-t16
     returns
     decode-packed-requires
     settle-requires

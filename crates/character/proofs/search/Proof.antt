@@ -1,29 +1,30 @@
--- `character::search` meets its contract: the stretch of x in the ranges, narrowed to one role. Assumes nothing.
-use mathlib.Core.Path.{_≡_, refl, _∙_}
-use Rattle.lookup.specs.Stretch.{StretchOf}
-use Rattle.image.specs.Ranges.{rangeAt}
-use Rattle.character.proofs.CharacterLaws.{opened-fits, opened-good, opened-used, memo-of-reach}
+-- `character::search` meets its contract: the part that the two stretches of x share. Assumes nothing.
+use mathlib.Core.Logic.{⊎-elim}
+use native.Mathlib.Omega.{arith}
+use Rattle.lookup.proofs.RecordLaws.{range-known}
+use Rattle.character.proofs.CharacterLaws.{memo-of}
 use borrow.Author.Needs.{needs}
 use Rattle.character.proofs.search.Statement.{statement}
 use Rattle.character.proofs.search.Tie as tie
 
--- the stretch that was found
-around : (c : tie.After-find-stretch) → StretchOf (rangeAt (c .before .before .args .image .now)) (c .before .before .args .n) (c .before .before .args .x) (c .find-stretch .result)
-around c = c .find-stretch .ensures (opened-good (c .before .before .pre))
-
 find-stretch-requires : tie.Need-find-stretch-requires
-find-stretch-requires c κs = opened-fits (c .before .pre)
+find-stretch-requires c κs = search needs
 
-narrow-requires : tie.Need-narrow-requires
-narrow-requires c κs = (opened-used (c .before .before .pre), (around c .from, around c .to))
+find-stretch-requires-2 : tie.Need-find-stretch-requires-2
+find-stretch-requires-2 c κs = search needs
 
 join-traits-requires : tie.Need-join-traits-requires
-join-traits-requires c κs = search needs
+join-traits-requires c κs =
+    let f = c .before .before .before .before .before .find-stretch .ensures in
+    let b = c .before .before .before .before .before .before .before in
+    omega (arith, f .same (b .args .x) (f .from) (f .to), range-known _ (b .pre) (b .args .x))
 
 returns : tie.Need-returns
 returns c =
-    memo-of-reach (c .before .before .before .before .pre) _ _ _ (around (c .before .before)) (c .before .narrow .ensures) _ refl refl (c .join-traits .ensures)
+    let f = c .before .before .before .before .before .before .find-stretch .ensures in
+    let g = c .before .before .before .before .before .find-stretch2 .ensures in
+    memo-of _ _ _ _ _ f g (⊎-elim (λ w. (omega arith, omega arith, omega arith)) (λ w. (omega arith, omega arith, omega arith)) (c .before .before .before .if1 .came)) (⊎-elim (λ w. (omega arith, omega arith, omega arith)) (λ w. (omega arith, omega arith, omega arith)) (c .before .if2 .came)) (c .join-traits .ensures)
 
 pub search-spec : {M : Type 1} → statement M
 search-spec =
-    tie.close (tie.spec find-stretch-requires narrow-requires join-traits-requires returns)
+    tie.close (tie.spec find-stretch-requires find-stretch-requires-2 join-traits-requires returns)

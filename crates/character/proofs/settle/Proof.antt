@@ -23,6 +23,7 @@ returns c =
     record {
       memo = all;
       len = refl;
+      code = refl;
       traits = sym (all _ (leb-true _ _ (and-left (leb (m .first) x) (leb x (m .last)) e)) (leb-true _ _ (and-right (leb (m .first) x) (leb x (m .last)) e)));
     }
 
@@ -32,7 +33,7 @@ search-requires c κs = search needs
 returns-2 : tie.Need-returns-2
 returns-2 c =
     let m = c .search .ensures in
-    record { memo = m .all; len = refl; traits = sym (m .all _ (m .from) (m .to)) }
+    record { memo = m .all; len = refl; code = refl; traits = sym (m .all _ (m .from) (m .to)) }
 
 pub settle-spec : {M : Type 1} → statement M
 settle-spec = tie.close (tie.spec cast-code is-known-requires returns search-requires returns-2)

@@ -15,6 +15,9 @@ last-decides p q r e f = rw (e, f)
 word-requires : tie.Need-word-requires
 word-requires c κs = search needs
 
+cast-if1 : tie.Need-cast-if1
+cast-if1 c = search needs
+
 returns : tie.Need-returns
 returns c = simp (← c .before .word .ensures, ne-eqb _ _ (c .if1 .taken))
 
@@ -55,6 +58,7 @@ are-offsets-right-spec =
     tie.close
     (tie.spec
     word-requires
+    cast-if1
     returns
     mul-entries
     add-entries

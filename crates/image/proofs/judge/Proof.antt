@@ -1,6 +1,6 @@
 -- `image::judge` meets its contract. Assumes nothing.
 use mathlib.Core.Path.{sym, _∙_}
-use Rattle.image.proofs.ImageLaws.{long-enough, refuses, header-refused, length-refused}
+use Rattle.image.proofs.ImageLaws.{sized, refuses, header-refused, length-refused}
 use borrow.Author.Needs.{needs}
 use Rattle.image.proofs.judge.Statement.{statement}
 use Rattle.image.proofs.judge.Tie as tie
@@ -9,16 +9,19 @@ is-length-right-requires : tie.Need-is-length-right-requires
 is-length-right-requires c κs = search needs
 
 is-header-right-requires : tie.Need-is-header-right-requires
-is-header-right-requires c κs = long-enough _ (sym (c .before .is-length-right .ensures) ∙ c .if1 .taken)
+is-header-right-requires c κs = sized _ (sym (c .before .is-length-right .ensures) ∙ c .if1 .taken) .long
 
 judge-records-requires : tie.Need-judge-records-requires
-judge-records-requires c κs = (sym (c .before .before .before .is-length-right .ensures) ∙ c .before .before .if1 .taken, sym (c .before .is-header-right .ensures) ∙ c .if2 .taken)
+judge-records-requires c κs =
+    (sym (c .before .before .before .is-length-right .ensures) ∙ c .before .before .if1 .taken, sym (c .before .is-header-right .ensures) ∙ c .if2 .taken)
 
 returns : tie.Need-returns
 returns c = search needs
 
 returns-2 : tie.Need-returns-2
-returns-2 c = refuses _ _ (header-refused _ (sym (c .before .before .before .is-length-right .ensures) ∙ c .before .before .if1 .taken) (sym (c .before .is-header-right .ensures) ∙ c .if2 .left))
+returns-2 c =
+    let b = c .before .before in
+    refuses _ _ (header-refused _ (sym (b .before .is-length-right .ensures) ∙ b .if1 .taken) (sym (c .before .is-header-right .ensures) ∙ c .if2 .left))
 
 returns-3 : tie.Need-returns-3
 returns-3 c = refuses _ _ (length-refused _ (sym (c .before .is-length-right .ensures) ∙ c .if1 .left))

@@ -3,12 +3,12 @@ use Prim.Native.Nat.{ℕ, _-_, _*_}
 use mathlib.Core.Path.{refl, ap, _∙_}
 use mathlib.Core.List.{List}
 use native.Mathlib.Omega.{arith}
-use lib.ListN.{length-take, length-drop}
+use lib.ListN.{length, take, drop, length-take, length-drop}
 use Rattle.lists.specs.Laid.{laid}
-use Rattle.lists.proofs.LaidLaws.{lent}
+use Rattle.image.specs.Limits.{wordsPerRange}
 use Rattle.image.specs.Ranges.{rangeAt, rangeWords}
 use Rattle.image.specs.declared.Range.{Range}
-use Rattle.lists.proofs.WritingLaws.{Writing, writing-begins, writing-next, writing-ends}
+use Rattle.lists.proofs.WritingLaws.{Writing, writing-begins, writing-lent, writing-ends}
 use Rattle.image.proofs.write_ranges.Statement.{statement}
 use Rattle.image.proofs.write_ranges.Tie as tie
 
@@ -16,13 +16,13 @@ abbrev wordsOf : List ℕ → ℕ → List ℕ
 wordsOf s i = rangeWords (rangeAt s i)
 
 abbrev Inv-loop : tie.InvT-loop
-Inv-loop image n out₀ i₀ out i = Writing (wordsOf image) 3 n out₀ out i
+Inv-loop image n out₀ i₀ out i = Writing (wordsOf image) wordsPerRange n out₀ out i
 
 abbrev μ-loop : tie.MeasureT-loop
 μ-loop image n out₀ i₀ out i = n - i
 
 loop-holds : tie.Need-loop-holds Inv-loop μ-loop
-loop-holds c = writing-begins (wordsOf _) 3 _ _
+loop-holds c = writing-begins (wordsOf _) wordsPerRange _ _
 
 range-at-requires : tie.Need-range-at-requires Inv-loop μ-loop
 range-at-requires c κs = omega arith
@@ -52,19 +52,19 @@ loop-less : tie.Need-loop-less Inv-loop μ-loop
 loop-less c = omega arith
 
 loop-again : tie.Need-loop-again Inv-loop μ-loop
-loop-again c = let a = c .before .before .before .before .before .before .before .before .before .args in
+loop-again c =
     let l = c .before .before .before .before .before .before .loop in
-    let s = a .image .now in
-    let r = c .before .before .before .before .range-at in
-    writing-next (wordsOf s) 3 _ _ (l .out) (l .i) (l .inv) refl (omega arith) (omega arith) _
-    (lent (l .out) (rangeWords (r .result)) (3 * l .i) (omega arith) _ (c .before .before .put-range .ensures)
-    ∙ ap (λ (x : Range). laid (l .out) (3 * l .i) (rangeWords x)) (r .ensures))
+    let s = c .before .before .before .before .before .before .before .before .before .args .image .now in
+    let at = wordsPerRange * l .i in
+    writing-lent (wordsOf s) wordsPerRange _ _ (l .out) (l .i) (l .inv) refl (omega arith) (omega arith) _
+    (c .before .before .put-range .ensures
+    ∙ ap (λ (x : Range). laid (take (length (l .out) - at) (drop at (l .out))) 0 (rangeWords x)) (c .before .before .before .before .range-at .ensures))
 
 same-length : tie.Need-same-length Inv-loop μ-loop
 same-length c = c .before .loop .inv .size
 
 returns : tie.Need-returns Inv-loop μ-loop
-returns c = writing-ends (wordsOf _) 3 _ _ _ _ (c .before .loop .inv) (c .loop-test .left)
+returns c = writing-ends (wordsOf _) wordsPerRange _ _ _ _ (c .before .loop .inv) (c .loop-test .left)
 
 pub write-ranges-spec : {M : Type 1} → statement M
 write-ranges-spec =

@@ -30,6 +30,12 @@ enum-known-counted c = search needs
 print-refusal-requires : tie.Need-print-refusal-requires
 print-refusal-requires c κs = search needs
 
+slice-aggregate-print-text : tie.Need-slice-aggregate-print-text
+slice-aggregate-print-text c = search needs
+
+print-text-requires : tie.Need-print-text-requires
+print-text-requires c κs = search needs
+
 enum-known-counted-2 : tie.Need-enum-known-counted-2
 enum-known-counted-2 c = search needs
 
@@ -57,6 +63,8 @@ main-spec =
     list-read-requires
     enum-known-counted
     print-refusal-requires
+    slice-aggregate-print-text
+    print-text-requires
     enum-known-counted-2
     slice-aggregate-print-tokens
     print-tokens-requires

@@ -10,20 +10,20 @@ Inv-loop words count i₀ i = i ≤ count
 abbrev μ-loop : tie.MeasureT-loop
 μ-loop words count i₀ i = count - i
 
-slice-aggregate-write-all : tie.Need-slice-aggregate-write-all Inv-loop μ-loop
-slice-aggregate-write-all c = search needs
+slice-aggregate-print-text : tie.Need-slice-aggregate-print-text Inv-loop μ-loop
+slice-aggregate-print-text c = search needs
 
-write-all-requires : tie.Need-write-all-requires Inv-loop μ-loop
-write-all-requires c κs = search needs
+print-text-requires : tie.Need-print-text-requires Inv-loop μ-loop
+print-text-requires c κs = search needs
 
-print-number-requires : tie.Need-print-number-requires Inv-loop μ-loop
-print-number-requires c κs = search needs
+print-next-requires : tie.Need-print-next-requires Inv-loop μ-loop
+print-next-requires c κs = search needs
 
-slice-aggregate-write-all-2 : tie.Need-slice-aggregate-write-all-2 Inv-loop μ-loop
-slice-aggregate-write-all-2 c = search needs
+slice-aggregate-print-text-2 : tie.Need-slice-aggregate-print-text-2 Inv-loop μ-loop
+slice-aggregate-print-text-2 c = search needs
 
-write-all-requires-2 : tie.Need-write-all-requires-2 Inv-loop μ-loop
-write-all-requires-2 c κs = search needs
+print-text-requires-2 : tie.Need-print-text-requires-2 Inv-loop μ-loop
+print-text-requires-2 c κs = search needs
 
 loop-holds : tie.Need-loop-holds Inv-loop μ-loop
 loop-holds c = search needs
@@ -52,11 +52,11 @@ print-tokens-spec =
     (tie.spec
     Inv-loop
     μ-loop
-    slice-aggregate-write-all
-    write-all-requires
-    print-number-requires
-    slice-aggregate-write-all-2
-    write-all-requires-2
+    slice-aggregate-print-text
+    print-text-requires
+    print-next-requires
+    slice-aggregate-print-text-2
+    print-text-requires-2
     loop-holds
     mul-print-token
     print-token-requires

@@ -1,26 +1,29 @@
--- `utf8::decode` meets its contract: nothing is left, or no sequence begins, or the one that was measured. Assumes nothing.
-use mathlib.Core.Path.{sym, _∙_}
+-- `utf8::decode` meets its contract: nothing is left, or what the packed sequence tells. Assumes nothing.
+use mathlib.Core.Path.{sym}
 use native.Mathlib.Omega.{arith}
-use Rattle.utf8.proofs.LeadLaws.{at-end}
-use Rattle.utf8.proofs.TextLaws.{none-measured}
 use borrow.Author.Needs.{needs}
+use Rattle.utf8.proofs.LeadLaws.{at-end}
+use Rattle.utf8.proofs.TextLaws.{Unpacked, unpacked}
 use Rattle.utf8.proofs.decode.Statement.{statement}
 use Rattle.utf8.proofs.decode.Tie as tie
+
+told : (c : tie.After-pack) → Unpacked (c .before .before .before .args .s .now) (c .pack .result)
+told c = unpacked _ _ (c .pack .ensures) (omega arith)
 
 returns : tie.Need-returns
 returns c = at-end _ (c .if1 .taken)
 
-measure-requires : tie.Need-measure-requires
-measure-requires c κs = search needs
+pack-requires : tie.Need-pack-requires
+pack-requires c κs = search needs
 
 returns-2 : tie.Need-returns-2
-returns-2 c = none-measured _ (omega arith) (sym (c .if2 .taken) ∙ c .before .measure .ensures)
+returns-2 c = sym (told (c .before) .none (c .if2 .taken))
 
-code-point-requires : tie.Need-code-point-requires
-code-point-requires c κs = search needs
+cast-t6 : tie.Need-cast-t6
+cast-t6 c = let t = told (c .before) in omega (arith, t .small)
 
 returns-3 : tie.Need-returns-3
-returns-3 c = search needs
+returns-3 c = sym (told (c .before) .some (omega arith))
 
 pub decode-spec : {M : Type 1} → statement M
-decode-spec = tie.close (tie.spec returns measure-requires returns-2 code-point-requires returns-3)
+decode-spec = tie.close (tie.spec returns pack-requires returns-2 cast-t6 returns-3)

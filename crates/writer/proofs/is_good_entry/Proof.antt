@@ -1,6 +1,6 @@
 -- `writer::is_good_entry` meets its contract. Assumes nothing.
 use borrow.Author.Tests.{eq-eqb, ne-eqb}
-use Rattle.image.proofs.ImageLaws.{entry-parts}
+use Rattle.image.specs.Profile.{goodEntry}
 use borrow.Author.Needs.{needs}
 use Rattle.writer.proofs.is_good_entry.Statement.{statement}
 use Rattle.writer.proofs.is_good_entry.Tie as tie
@@ -21,7 +21,8 @@ is-good-entry-alone-requires : tie.Need-is-good-entry-alone-requires
 is-good-entry-alone-requires c κs = search needs
 
 returns : tie.Need-returns
-returns c = simp (entry-parts, ← c .before .before .is-good-entry-alone .ensures, c .before .if1 .taken, eq-eqb _ _ (c .if2 .taken))
+unfolding goodEntry
+returns c = simp (← c .before .before .is-good-entry-alone .ensures, c .before .if1 .taken, eq-eqb _ _ (c .if2 .taken))
 
 sub-result : tie.Need-sub-result
 sub-result c = search needs
@@ -33,10 +34,12 @@ element-copy-out-result : tie.Need-element-copy-out-result
 element-copy-out-result c = search needs
 
 returns-2 : tie.Need-returns-2
-returns-2 c = simp (entry-parts, ← c .before .before .before .is-good-entry-alone .ensures, c .before .before .if1 .taken, ne-eqb _ _ (c .before .if2 .left))
+unfolding goodEntry
+returns-2 c = simp (← c .before .before .before .is-good-entry-alone .ensures, c .before .before .if1 .taken, ne-eqb _ _ (c .before .if2 .left))
 
 returns-3 : tie.Need-returns-3
-returns-3 c = simp (entry-parts, ← c .before .is-good-entry-alone .ensures, c .if1 .left)
+unfolding goodEntry
+returns-3 c = simp (← c .before .is-good-entry-alone .ensures, c .if1 .left)
 
 pub is-good-entry-spec : {M : Type 1} → statement M
 is-good-entry-spec =

@@ -1,27 +1,28 @@
 -- `writer::judge` meets its contract. Assumes nothing.
 use borrow.Author.Tests.{eq-eqb, ne-eqb, le-leb, lt-leb, lt-ltb, le-ltb}
+use Rattle.image.specs.Check.{recordsRefusal}
 use Rattle.writer.specs.Write.{writeOf, writeRefusal}
 use borrow.Author.Needs.{needs}
 use Rattle.writer.proofs.judge.Statement.{statement}
 use Rattle.writer.proofs.judge.Tie as tie
 
 returns : tie.Need-returns
-unfolding writeOf writeRefusal
+unfolding writeOf writeRefusal recordsRefusal
 returns c = simp (ne-eqb _ _ (c .if1 .taken))
 
 returns-2 : tie.Need-returns-2
-unfolding writeOf writeRefusal
+unfolding writeOf writeRefusal recordsRefusal
 returns-2 c = simp (eq-eqb _ _ (c .before .if1 .left), lt-leb _ _ (c .if2 .taken))
 
 returns-3 : tie.Need-returns-3
-unfolding writeOf writeRefusal
+unfolding writeOf writeRefusal recordsRefusal
 returns-3 c = simp (eq-eqb _ _ (c .before .before .if1 .left), le-leb _ _ (c .before .if2 .left), lt-leb _ _ (c .if3 .taken))
 
 first-bad-range-requires : tie.Need-first-bad-range-requires
 first-bad-range-requires c κs = search needs
 
 returns-4 : tie.Need-returns-4
-unfolding writeOf writeRefusal
+unfolding writeOf writeRefusal recordsRefusal
 returns-4 c =
     let a = c .before .before in
     simp (eq-eqb _ _ (a .before .before .if1 .left), le-leb _ _ (a .before .if2 .left), le-leb _ _ (a .if3 .left), ← c .before .first-bad-range .ensures, lt-ltb _ _ (c .if4 .taken))
@@ -30,7 +31,7 @@ first-bad-entry-requires : tie.Need-first-bad-entry-requires
 first-bad-entry-requires c κs = search needs
 
 returns-5 : tie.Need-returns-5
-unfolding writeOf writeRefusal
+unfolding writeOf writeRefusal recordsRefusal
 returns-5 c =
     let b = c .before .before in
     let a = b .before .before in
@@ -49,7 +50,7 @@ add-len-2 : tie.Need-add-len-2
 add-len-2 c = search needs
 
 returns-6 : tie.Need-returns-6
-unfolding writeOf writeRefusal
+unfolding writeOf writeRefusal recordsRefusal
 returns-6 c =
     let d = c .before in
     let b = d .before .before in
@@ -57,7 +58,7 @@ returns-6 c =
     simp (eq-eqb _ _ (a .before .before .if1 .left), le-leb _ _ (a .before .if2 .left), le-leb _ _ (a .if3 .left), ← b .before .first-bad-range .ensures, le-ltb _ _ (b .if4 .left), ← d .before .first-bad-entry .ensures, le-ltb _ _ (d .if5 .left), lt-leb _ _ (c .if6 .taken))
 
 returns-7 : tie.Need-returns-7
-unfolding writeOf writeRefusal
+unfolding writeOf writeRefusal recordsRefusal
 returns-7 c =
     let d = c .before in
     let b = d .before .before in

@@ -1,34 +1,30 @@
--- `writer::put_entries` meets its contract. The loop's invariant: laying the bytes of the entries that are left gives what laying all gave.
--- Assumes nothing.
-use Prim.Native.Nat.{_+_, _-_, _*_, _≤_}
-use mathlib.Core.Path.{_≡_, refl, sym, ap, _∙_}
+-- `writer::put_entries` meets its contract. The loop: the bytes of the first i entries stand in the buffer. Assumes nothing.
+use Prim.Native.Nat.{ℕ, _-_}
+use mathlib.Core.Path.{ap, _∙_}
 use mathlib.Core.List.{List}
 use native.Mathlib.Omega.{arith}
-use lib.ListN.{length, length-take, length-drop}
+use lib.ListN.{length-take, length-drop}
 use Rattle.lists.specs.Laid.{laid}
-use Rattle.lists.specs.Each.{each, eachFrom}
-use Rattle.lists.proofs.LaidLaws.{laid-none}
-use Rattle.lists.proofs.EachLaws.{each-begins}
+use Rattle.lists.specs.Each.{each}
+use Rattle.lists.proofs.WritingLaws.{Writing, writing-begins, writing-lent, writing-ends}
+use Rattle.image.specs.Limits.{entryBytes}
 use Rattle.image.specs.Profile.{profileBy}
 use Rattle.image.specs.Image.{entryWords, bytesOfAll}
-use Rattle.writer.proofs.WordLaws.{length-all, each-all-next, each-all-end}
-use Rattle.writer.proofs.LayLaws.{kept, turned}
+use Rattle.writer.proofs.WordLaws.{length-all, bytes-each-list}
 use Rattle.writer.proofs.put_entries.Statement.{statement}
 use Rattle.writer.proofs.put_entries.Tie as tie
 
+abbrev bytesIn : List ℕ → List ℕ → ℕ → ℕ → List ℕ
+bytesIn points roles m i = bytesOfAll (entryWords (profileBy points roles m) i)
+
 abbrev Inv-loop : tie.InvT-loop
-Inv-loop out₀ points roles m i₀ out i =
-    (i ≤ m)
-    × (length out ≡ length out₀)
-    × (laid out (8 * i) (bytesOfAll (eachFrom (entryWords (profileBy points roles m)) (m - i) i)) ≡ laid out₀ 0 (bytesOfAll (each (entryWords (profileBy points roles m)) m)))
+Inv-loop out₀ points roles m i₀ out i = Writing (bytesIn points roles m) entryBytes m out₀ out i
 
 abbrev μ-loop : tie.MeasureT-loop
 μ-loop out₀ points roles m i₀ out i = m - i
 
 loop-holds : tie.Need-loop-holds Inv-loop μ-loop
-loop-holds c =
-    let s = c .before .args in
-    (omega arith, refl, ap (λ (l : List _). laid (s .out .now) 0 (bytesOfAll l)) (each-begins (entryWords (profileBy (s .points .now) (s .roles .now) (s .m))) (s .m)))
+loop-holds c = let a = c .before .args in writing-begins (bytesIn (a .points .now) (a .roles .now) (a .m)) entryBytes _ _
 
 mul-at : tie.Need-mul-at Inv-loop μ-loop
 mul-at c = omega arith
@@ -65,27 +61,20 @@ loop-less c = omega arith
 
 loop-again : tie.Need-loop-again Inv-loop μ-loop
 loop-again c =
-    let s = c .before .before .before .before .before .before .before .before .before .args in
+    let a = c .before .before .before .before .before .before .before .before .before .args in
     let l = c .before .before .before .before .before .before .before .loop in
-    let f = entryWords (profileBy (s .points .now) (s .roles .now) (s .m)) in
-    let b = bytesOfAll (f (l .i)) in
-    let eight = length-all (f (l .i)) in
-    let fits : 8 * l .i + length b ≤ length (l .out) = omega arith in
-    let goes : 8 * l .i + length b ≡ 8 * (l .i + 1) = omega arith in
-    let p = c .before .before .put-entry .ensures in (
-      omega arith,
-      kept (l .out) b _ (8 * l .i) _ fits goes p ∙ l .inv .1,
-      turned (l .out) b _ (8 * l .i) _ fits goes p _ _ (ap (laid (l .out) (8 * l .i)) (sym (each-all-next f (s .m) (l .i) (omega arith))) ∙ l .inv .2),
-    )
+    let f = bytesIn (a .points .now) (a .roles .now) (a .m) in
+    writing-lent f entryBytes _ _ (l .out) (l .i) (l .inv) (length-all _) (omega arith) (omega arith) _ (c .before .before .put-entry .ensures)
 
 same-length : tie.Need-same-length Inv-loop μ-loop
-same-length c = c .before .loop .inv .1
+same-length c = c .before .loop .inv .size
 
 returns : tie.Need-returns Inv-loop μ-loop
+unfolding each
 returns c =
-    let l = c .before .loop in
-    let s = c .before .before .before .args in
-    sym (laid-none (l .out) (8 * l .i)) ∙ ap (laid (l .out) (8 * l .i)) (sym (each-all-end (entryWords (profileBy (s .points .now) (s .roles .now) (s .m))) (s .m) (l .i) (omega arith))) ∙ l .inv .2
+    let a = c .before .before .before .args in
+    writing-ends (bytesIn (a .points .now) (a .roles .now) (a .m)) entryBytes _ _ _ _ (c .before .loop .inv) (c .loop-test .left)
+    ∙ ap (laid (a .out .now) 0) (bytes-each-list (entryWords (profileBy (a .points .now) (a .roles .now) (a .m))) (a .m) 0)
 
 pub put-entries-spec : {M : Type 1} → statement M
 put-entries-spec =

@@ -6,6 +6,8 @@ use native.Mathlib.Omega.{arith}
 use lib.ListN.{length, length-append}
 use Rattle.lists.specs.Laid.{laid}
 use Rattle.lists.specs.Each.{each}
+use Rattle.image.specs.Limits.{headerBytes}
+use Rattle.image.specs.Header.{entriesAt}
 use Rattle.image.specs.Profile.{profileBy}
 use Rattle.image.specs.Image.{headerWords, entryWords, bytesOfAll}
 use Rattle.writer.specs.Write.{rangesIn}
@@ -39,6 +41,9 @@ cast-t14 c = search needs
 
 cast-t15 : tie.Need-cast-t15
 cast-t15 c = search needs
+
+cast-t16 : tie.Need-cast-t16
+cast-t16 c = search needs
 
 slice-aggregate-put-words : tie.Need-slice-aggregate-put-words
 slice-aggregate-put-words c = search needs
@@ -90,12 +95,12 @@ returns c =
     let g = length-all words in
     let f = length-all entries in
     let front = bytesOfAll header ++ bytesOfAll words in
-    let l : length front ≡ 32 + 12 * n = omega (arith, length-append (bytesOfAll header) (bytesOfAll words)) in
-    let u : 32 + length (bytesOfAll words) ≤ length out = omega arith in
-    let v : 32 + 12 * n + length (bytesOfAll entries) ≤ length out = omega arith in
+    let l : length front ≡ entriesAt n = omega (arith, length-append (bytesOfAll header) (bytesOfAll words)) in
+    let u : headerBytes + length (bytesOfAll words) ≤ length out = omega arith in
+    let v : entriesAt n + length (bytesOfAll entries) ≤ length out = omega arith in
     let x = c .before .before .before .before .before .before .before .before .before .before .put-words .ensures in
-    let y = joined out (bytesOfAll header) (bytesOfAll words) _ _ 32 h u x (c .before .before .before .before .before .before .put-words2 .ensures) in
-    joined out front (bytesOfAll entries) _ _ (32 + 12 * n) l v y (c .before .before .put-entries .ensures)
+    let y = joined out (bytesOfAll header) (bytesOfAll words) _ _ headerBytes h u x (c .before .before .before .before .before .before .put-words2 .ensures) in
+    joined out front (bytesOfAll entries) _ _ (entriesAt n) l v y (c .before .before .put-entries .ensures)
     ∙ ap (laid out 0) (sym (image-parts (a .version) words p e))
 
 pub put-image-spec : {M : Type 1} → statement M
@@ -110,6 +115,7 @@ put-image-spec =
     cast-t13
     cast-t14
     cast-t15
+    cast-t16
     slice-aggregate-put-words
     put-words-requires
     sub-put-words

@@ -1,27 +1,29 @@
--- `writer::put_words` meets its contract. The loop's invariant: laying the bytes of the numbers that are left gives what laying all gave.
--- Assumes nothing.
-use Prim.Native.Nat.{_+_, _-_, _*_, _≤_}
-use mathlib.Core.Path.{_≡_, refl, sym, ap, _∙_}
+-- `writer::put_words` meets its contract. The loop: the bytes of the first i numbers stand in the buffer. Assumes nothing.
+use Prim.Native.Nat.{ℕ, _-_}
+use mathlib.Core.Path.{sym, ap, _∙_}
+use mathlib.Core.List.{List}
 use native.Mathlib.Omega.{arith}
-use lib.ListN.{length, drop, getD, length-take, length-drop}
+use lib.ListN.{length, getD, length-take, length-drop}
 use Rattle.lists.specs.Laid.{laid}
-use Rattle.lists.proofs.LaidLaws.{laid-none}
+use Rattle.lists.specs.Each.{each}
+use Rattle.lists.proofs.WritingLaws.{Writing, writing-begins, writing-lent, writing-ends}
+use Rattle.image.specs.Limits.{wordBytes}
 use Rattle.image.specs.Word.{bytesOf}
-use Rattle.image.specs.Image.{bytesOfAll}
-use Rattle.writer.proofs.WordLaws.{length-four, all-next, all-end}
-use Rattle.writer.proofs.LayLaws.{kept, turned}
+use Rattle.writer.proofs.WordLaws.{length-four, bytes-each-word}
 use Rattle.writer.proofs.put_words.Statement.{statement}
 use Rattle.writer.proofs.put_words.Tie as tie
 
+abbrev bytesIn : List ℕ → ℕ → List ℕ
+bytesIn words i = bytesOf (getD words i 0)
+
 abbrev Inv-loop : tie.InvT-loop
-Inv-loop out₀ words i₀ out i =
-    (i ≤ length words) × (length out ≡ length out₀) × (laid out (4 * i) (bytesOfAll (drop i words)) ≡ laid out₀ 0 (bytesOfAll words))
+Inv-loop out₀ words i₀ out i = Writing (bytesIn words) wordBytes (length words) out₀ out i
 
 abbrev μ-loop : tie.MeasureT-loop
 μ-loop out₀ words i₀ out i = length words - i
 
 loop-holds : tie.Need-loop-holds Inv-loop μ-loop
-loop-holds c = (omega arith, refl, refl)
+loop-holds c = writing-begins (bytesIn (c .before .before .args .words .now)) wordBytes _ _
 
 mul-at : tie.Need-mul-at Inv-loop μ-loop
 mul-at c = omega arith
@@ -54,23 +56,17 @@ loop-again : tie.Need-loop-again Inv-loop μ-loop
 loop-again c =
     let words = c .before .before .before .before .before .before .before .before .before .args .words .now in
     let l = c .before .before .before .before .before .before .loop in
-    let b = bytesOf (getD words (l .i) 0) in
-    let four = length-four (getD words (l .i) 0) in
-    let fits : 4 * l .i + length b ≤ length (l .out) = omega arith in
-    let goes : 4 * l .i + length b ≡ 4 * (l .i + 1) = omega arith in
-    let p = c .before .before .put-word .ensures in (
-      omega arith,
-      kept (l .out) b _ (4 * l .i) _ fits goes p ∙ l .inv .1,
-      turned (l .out) b _ (4 * l .i) _ fits goes p _ _ (ap (laid (l .out) (4 * l .i)) (sym (all-next words (l .i) (omega arith))) ∙ l .inv .2),
-    )
+    writing-lent (bytesIn words) wordBytes _ _ (l .out) (l .i) (l .inv) (length-four _) (omega arith) (omega arith) _ (c .before .before .put-word .ensures)
 
 same-length : tie.Need-same-length Inv-loop μ-loop
-same-length c = c .before .loop .inv .1
+same-length c = c .before .loop .inv .size
 
 returns : tie.Need-returns Inv-loop μ-loop
+unfolding each
 returns c =
-    let l = c .before .loop in
-    sym (laid-none (l .out) (4 * l .i)) ∙ ap (laid (l .out) (4 * l .i)) (sym (all-end _ (l .i) (omega arith))) ∙ l .inv .2
+    let a = c .before .before .before .before .args in
+    writing-ends (bytesIn (a .words .now)) wordBytes _ _ _ _ (c .before .loop .inv) (c .loop-test .left)
+    ∙ ap (laid (a .out .now) 0) (bytes-each-word (a .words .now) (length (a .words .now)) 0 (omega arith))
 
 pub put-words-spec : {M : Type 1} → statement M
 put-words-spec =

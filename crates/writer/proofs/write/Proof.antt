@@ -1,7 +1,7 @@
 -- `writer::write` meets its contract. Assumes nothing.
 use mathlib.Core.Path.{sym, _∙_}
 use native.Mathlib.Omega.{arith}
-use Rattle.writer.proofs.WriteLaws.{says}
+use Rattle.writer.proofs.WriteLaws.{write-kept, written-means}
 use borrow.Author.Needs.{needs}
 use Rattle.writer.proofs.write.Statement.{statement}
 use Rattle.writer.proofs.write.Tie as tie
@@ -17,25 +17,28 @@ enum-known-answer-2 c = search needs
 
 put-image-requires : tie.Need-put-image-requires
 put-image-requires c κs =
-    let a = c .before .before .before .before .before .before .before .before .before .before .before .before .before .args in
-    let k = says (a .version) (a .words .now) (a .t3) (a .out .now) _ _ (c .before .before .before .before .before .before .before .judge .ensures) (c .before .before .before .before .before .answer2 .given .1) in
-    let n = k .1 .0 .counted in
-    (n .thirds, n .few-ranges, n .few-entries, omega arith)
+    let d = c .before .before .before .before .before in
+    let a = d .before .before .before .before .before .before .before .before .args in
+    let k = written-means (a .version) (a .words .now) (a .t3) (a .out .now) _ (sym (d .before .before .judge .ensures) ∙ d .answer2 .given .1) in
+    let n = k .0 .counted in
+    (n .shaped, n .few-ranges, n .few-entries, omega arith)
 
 returns : tie.Need-returns
 returns c =
     let a = c .before .before .before .before .before .before .before .before .before .args in
-    let k = says (a .version) (a .words .now) (a .t3) (a .out .now) _ _ (c .before .before .before .judge .ensures) (c .before .answer .given .1) in
-    (k .0, sym (k .1 .1))
+    let e = sym (c .before .before .before .judge .ensures) ∙ c .before .answer .given .1 in
+    (sym e, sym (write-kept (a .version) (a .words .now) (a .t3) (a .out .now) _ e))
 
 same-length : tie.Need-same-length
 same-length c = search needs
 
 returns-2 : tie.Need-returns-2
 returns-2 c =
-    let a = c .before .before .before .before .before .before .before .before .before .before .before .before .before .before .before .before .args in
-    let k = says (a .version) (a .words .now) (a .t3) (a .out .now) _ _ (c .before .before .before .before .before .before .before .before .before .before .judge .ensures) (c .before .before .before .before .before .before .before .before .answer2 .given .1) in
-    (k .0, c .before .before .put-image .ensures ∙ sym (k .1 .3))
+    let d = c .before .before .before .before .before .before .before .before in
+    let a = d .before .before .before .before .before .before .before .before .args in
+    let e = sym (d .before .before .judge .ensures) ∙ d .answer2 .given .1 in
+    let k = written-means (a .version) (a .words .now) (a .t3) (a .out .now) _ e in
+    (sym e, c .before .before .put-image .ensures ∙ sym (k .3))
 
 pub write-spec : {M : Type 1} → statement M
 write-spec =

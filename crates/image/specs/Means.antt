@@ -1,0 +1,35 @@
+-- What each answer of checking and of reading an image says (docs/RULES.md, "Named refusals" 1 to 4 and 8), exactly when.
+-- `proofs/ImageLaws.antt` joins this to the answers of `Check.antt`.
+use Prim.Native.Nat.{ℕ, _/_, _≤_, _<_}
+use mathlib.Core.List.{List}
+use mathlib.Core.Option.{Option, none, some}
+use lib.ListN.{length}
+use Rattle.lists.specs.First.{AllGood, FirstBad}
+use Rattle.lists.specs.Laid.{laid}
+use Rattle.refusal.specs.declared.Refusal.{Refusal}
+use Rattle.refusal.specs.declared.Refusal.the-variants as refusal
+use Rattle.image.specs.Limits.{wordsPerRange}
+use Rattle.image.specs.Header.{rangeCount, entryCount}
+use Rattle.image.specs.Ranges.{rangeAt}
+use Rattle.image.specs.Profile.{pointAt, roleAt}
+use Rattle.image.specs.Good.{GoodRange, GoodEntry}
+use Rattle.image.specs.Accepted.{Sized, Headed, Accepted}
+use Rattle.image.specs.Check.{acceptedOf, refusedBy, rangesOf}
+use Rattle.image.specs.declared.Checked.{Checked}
+
+-- no refusal, or one of 1 to 4
+pub data RefusalMeans (s : List ℕ) : Option Refusal → Type 0 where
+  is-accepted : Accepted s → RefusalMeans s none
+  bad-length : (Sized s → ⊥) → RefusalMeans s (some refusal.Length)
+  bad-header : Sized s → (Headed s → ⊥) → RefusalMeans s (some refusal.Header)
+  bad-range : {i : ℕ} → Headed s → FirstBad (GoodRange (rangeAt s)) (rangeCount s) i → RefusalMeans s (some (refusal.Range i))
+  bad-entry :
+      {i : ℕ} → Headed s → AllGood (GoodRange (rangeAt s)) (rangeCount s) → FirstBad (GoodEntry (pointAt s) (roleAt s)) (entryCount s) i
+      → RefusalMeans s (some (refusal.Entry i))
+
+-- a read into the buffer `out`, and what the buffer then holds: 1 to 4; 8 with the number of ranges; or version, number of ranges
+-- and profile, and the ranges at the buffer's front. A refused read leaves the buffer as it was.
+pub data ReadMeans (s out : List ℕ) : Checked → List ℕ → Type 0 where
+  read-refused : {r : Refusal} → RefusalMeans s (some r) → ReadMeans s out (refusedBy r) out
+  lacks-room : Accepted s → length out / wordsPerRange < rangeCount s → ReadMeans s out (refusedBy (refusal.Room (rangeCount s))) out
+  is-read : Accepted s → rangeCount s ≤ length out / wordsPerRange → ReadMeans s out (acceptedOf s) (laid out 0 (rangesOf s))

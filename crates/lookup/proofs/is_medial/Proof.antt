@@ -1,0 +1,12 @@
+-- `lookup::is_medial` meets its contract. Assumes nothing.
+use mathlib.Core.Path.{refl}
+use Rattle.image.specs.Profile.{isMedial}
+use Rattle.lookup.proofs.is_medial.Statement.{statement}
+use Rattle.lookup.proofs.is_medial.Tie as tie
+
+returns : tie.Need-returns
+unfolding isMedial
+returns c = refl
+
+pub is-medial-spec : {M : Type 1} → statement M
+is-medial-spec = tie.close (tie.spec returns)
