@@ -1,6 +1,7 @@
 //! The reader over ICU, if `LUFFINARC_ICU` names the file that holds it.
 
-use std::ffi::{c_void, CString};
+use luffinarc::TOKEN_WORDS;
+use std::ffi::{c_void, CStr, CString};
 use std::os::raw::c_char;
 
 extern "C" {
@@ -8,7 +9,7 @@ extern "C" {
     fn dlsym(library: *mut c_void, name: *const c_char) -> *mut c_void;
 }
 
-type Tokens = unsafe extern "C" fn(*const u8, i32, *mut u32) -> i64;
+type Tokens = unsafe extern "C" fn(*const u8, i32, *const c_char, *mut u32) -> i64;
 
 /// The reader over ICU.
 pub struct Icu(Tokens);
@@ -28,16 +29,18 @@ impl Icu {
         }
     }
 
-    /// Counts the text's tokens; -1 where it has none.
-    pub fn count(&self, text: &[u8]) -> i64 {
+    /// Counts the text's tokens with these medials; -1 where it has none.
+    pub fn count(&self, text: &[u8], medials: &CStr) -> i64 {
+        let none = std::ptr::null_mut();
         // Safety: the pointer is of a slice, with its length.
-        unsafe { (self.0)(text.as_ptr(), text.len() as i32, std::ptr::null_mut()) }
+        unsafe { (self.0)(text.as_ptr(), text.len() as i32, medials.as_ptr(), none) }
     }
 
     /// Lists the text's tokens in words that have room for one at each byte.
-    pub fn list(&self, text: &[u8], words: &mut [u32]) -> i64 {
-        assert!(words.len() >= 3 * text.len());
+    pub fn list(&self, text: &[u8], medials: &CStr, words: &mut [u32]) -> i64 {
+        assert!(words.len() >= TOKEN_WORDS * text.len());
+        let words = words.as_mut_ptr();
         // Safety: as above, and a token has a byte at least.
-        unsafe { (self.0)(text.as_ptr(), text.len() as i32, words.as_mut_ptr()) }
+        unsafe { (self.0)(text.as_ptr(), text.len() as i32, medials.as_ptr(), words) }
     }
 }

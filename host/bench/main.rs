@@ -1,17 +1,19 @@
-//! Times the library against the hand-written rival, both in this run: their turns alternate, and the least time of
-//! each counts. Prints a table of ratios, below 1 where the library is faster.
+//! Times the library against the hand-written rival and ICU, all in this run: two take turns, and the least time of
+//! each counts. Prints ratios only, below 1 where the library is faster.
 
 mod icu;
 
 use icu::Icu;
-use luffinarc::Image;
+use luffinarc::{write_image, Image, Profile, TOKEN_WORDS};
 use luffinarc_bench::rival::{self, Tables};
-use luffinarc_bench::texts;
+use luffinarc_bench::texts::{self, Sample};
+use std::ffi::CString;
+use std::io::Write;
 use std::time::Instant;
 
 const IMAGE: &str = concat!(env!("CARGO_MANIFEST_DIR"), "/../data/images/unicode-16.0.img");
 
-/// The least number of rounds of a row, and the seconds that it takes at least.
+/// The least number of rounds of a race, and the seconds that it takes at least.
 const ROUNDS: usize = 40;
 const SECONDS: f64 = 1.5;
 
@@ -50,8 +52,8 @@ fn time(calls: usize, call: &mut dyn FnMut()) -> f64 {
     (now() - start) / calls as f64
 }
 
-/// The least nanoseconds of a call of each; the first to go changes from round to round.
-fn race(calls: usize, ours: &mut dyn FnMut(), rival: &mut dyn FnMut()) -> (f64, f64) {
+/// The least time of our call, divided by that of the rival's; the first to go changes from round to round.
+fn race(calls: usize, ours: &mut dyn FnMut(), rival: &mut dyn FnMut()) -> f64 {
     let (mut best_ours, mut best_rival) = (f64::MAX, f64::MAX);
     let (start, mut round) = (Instant::now(), 0);
     while round < ROUNDS || start.elapsed().as_secs_f64() < SECONDS {
@@ -64,56 +66,100 @@ fn race(calls: usize, ours: &mut dyn FnMut(), rival: &mut dyn FnMut()) -> (f64, 
             best_ours = best_ours.min(time(calls, ours));
         }
     }
-    (best_ours, best_rival)
+    best_ours / best_rival
 }
 
-/// Prints a row: nanoseconds a unit of each, and their ratio.
-fn row(name: &str, unit: &str, units: usize, (ours, rival): (f64, f64)) {
-    let (ours, rival) = (ours / units as f64, rival / units as f64);
-    println!("{name:<22} {unit:<14} {ours:>9.3} {rival:>9.3} {:>7.2}", ours / rival);
+/// A text, under its profile, for every reader.
+struct Subject<'a> {
+    sample: &'a Sample,
+    image: Image<'a>,
+    tables: Tables,
+    medials: CString,
 }
 
-/// Counting and listing a text.
-fn text(image: &Image, tables: &Tables, name: &str, text: &str) {
-    let bytes = text.as_bytes();
-    let times = race(1, &mut || _ = black_box(image.count(black_box(bytes))), &mut || {
-        _ = black_box(tables.count(black_box(bytes)))
-    });
-    row(&format!("count {name}"), "ns a byte", bytes.len(), times);
-    let mut words = vec![0; 3 * bytes.len()];
-    let mut list = Vec::with_capacity(3 * bytes.len());
-    let count = image.list(bytes, &mut words).unwrap();
-    tables.list(bytes, &mut list).unwrap();
-    assert!(words[..3 * count] == list, "{name}: the lists differ");
-    let times =
-        race(1, &mut || _ = black_box(image.list(black_box(bytes), &mut words)), &mut || {
-            _ = black_box(tables.list(black_box(bytes), &mut list))
-        });
-    row(&format!("list {name}"), "ns a byte", bytes.len(), times);
+impl<'a> Subject<'a> {
+    /// With this image, which has the sample's profile.
+    fn new(sample: &'a Sample, bytes: &'a [u8]) -> Subject<'a> {
+        let image = Image::check(bytes).unwrap();
+        let tables = Tables::new(&image.ranges(), sample.profile);
+        let medials: Vec<u8> = sample.profile.iter().map(|entry| entry.0 as u8).collect();
+        Subject { sample, image, tables, medials: CString::new(medials).unwrap() }
+    }
+
+    /// Words with room for a token at each byte, written before.
+    fn words(&self) -> Vec<u32> {
+        vec![0; TOKEN_WORDS * self.sample.text.len()]
+    }
+
+    /// Counting, against the rival.
+    fn count(&self) -> f64 {
+        let text = self.sample.text.as_bytes();
+        race(1, &mut || _ = black_box(self.image.count(black_box(text))), &mut || {
+            _ = black_box(self.tables.count(black_box(text)))
+        })
+    }
+
+    /// Listing, against the rival.
+    fn list(&self) -> f64 {
+        let text = self.sample.text.as_bytes();
+        let (mut words, mut list) = (self.words(), Vec::with_capacity(self.words().len()));
+        let count = self.image.list(text, &mut words).unwrap();
+        self.tables.list(text, &mut list).unwrap();
+        assert!(words[..TOKEN_WORDS * count] == list, "{}: the lists differ", self.sample.name);
+        race(1, &mut || _ = black_box(self.image.list(black_box(text), &mut words)), &mut || {
+            _ = black_box(self.tables.list(black_box(text), &mut list))
+        })
+    }
+
+    /// Counting, against ICU.
+    fn count_icu(&self, icu: &Icu) -> f64 {
+        let text = self.sample.text.as_bytes();
+        race(1, &mut || _ = black_box(self.image.count(black_box(text))), &mut || {
+            _ = black_box(icu.count(black_box(text), &self.medials))
+        })
+    }
+
+    /// Listing, against ICU.
+    fn list_icu(&self, icu: &Icu) -> f64 {
+        let text = self.sample.text.as_bytes();
+        let (mut words, mut list) = (self.words(), self.words());
+        let count = self.image.list(text, &mut words).unwrap();
+        assert_eq!(icu.list(text, &self.medials, &mut list), count as i64, "{}", self.sample.name);
+        assert!(words == list, "{}: the lists differ", self.sample.name);
+        race(1, &mut || _ = black_box(self.image.list(black_box(text), &mut words)), &mut || {
+            _ = black_box(icu.list(black_box(text), &self.medials, &mut list))
+        })
+    }
 }
 
-/// Counting and listing a text, against ICU.
-fn text_of_icu(image: &Image, icu: &Icu, name: &str, text: &str) {
-    let bytes = text.as_bytes();
-    let mut words = vec![0; 3 * bytes.len()];
-    let mut list = words.clone();
-    let count = image.list(bytes, &mut words).unwrap();
-    assert_eq!(icu.list(bytes, &mut list), count as i64, "{name}");
-    assert!(words == list, "{name}: the lists differ");
-    let times = race(1, &mut || _ = black_box(image.count(black_box(bytes))), &mut || {
-        black_box(icu.count(black_box(bytes)));
-    });
-    row(&format!("count {name}"), "ns a byte", bytes.len(), times);
-    let times =
-        race(1, &mut || _ = black_box(image.list(black_box(bytes), &mut words)), &mut || {
-            black_box(icu.list(black_box(bytes), &mut list));
-        });
-    row(&format!("list {name}"), "ns a byte", bytes.len(), times);
+/// Prints a row of the table.
+fn row<T>(name: &str, cells: &[T], cell: impl Fn(&T) -> String) {
+    print!("| {name} |");
+    for of in cells {
+        print!(" {} |", cell(of));
+        std::io::stdout().flush().unwrap();
+    }
+    println!();
 }
 
-/// Looking up every scalar value, in this order of their numbers.
-fn lookup(image: &Image, tables: &Tables, name: &str, points: &[u32]) {
-    let times = race(
+/// Prints the table of counting and listing.
+fn tokens(subjects: &[Subject]) {
+    row("", subjects, |subject| subject.sample.name.to_string());
+    row("---", subjects, |_| "---".to_string());
+    row("count / hand-written", subjects, |subject| format!("{:.2}", subject.count()));
+    row("list / hand-written", subjects, |subject| format!("{:.2}", subject.list()));
+    match Icu::load() {
+        None => println!("\nICU is not there to compile against: left out."),
+        Some(icu) => {
+            row("count / ICU", subjects, |subject| format!("{:.2}", subject.count_icu(&icu)));
+            row("list / ICU", subjects, |subject| format!("{:.2}", subject.list_icu(&icu)));
+        }
+    }
+}
+
+/// Looking up these numbers, against the rival.
+fn lookup(image: &Image, tables: &Tables, points: &[u32]) -> f64 {
+    race(
         1,
         &mut || {
             for &point in points {
@@ -125,19 +171,20 @@ fn lookup(image: &Image, tables: &Tables, name: &str, points: &[u32]) {
                 black_box(tables.flags_of(black_box(point)));
             }
         },
-    );
-    row(&format!("lookup {name}"), "ns a number", points.len(), times);
+    )
 }
 
 fn main() {
     let bytes = std::fs::read(IMAGE).unwrap();
     let image = Image::check(&bytes).unwrap();
     let ranges = image.ranges();
-    let words: Vec<u32> = ranges.iter().flat_map(|r| [r.first, r.last, r.class.number()]).collect();
-    let tables = Tables::new(&words, &[]);
+    println!("Time of the library divided by the other's, least processor times of one run.");
     println!(
         "Image: Unicode 16.0, {} ranges, checked once before. Texts: 1 MiB each.",
         ranges.len()
+    );
+    println!(
+        "Dotted names are read under a profile that makes the hyphen and the full stop medial."
     );
     println!(
         "List: 3 words lent for every byte of the text, to both, and written before the clock."
@@ -145,28 +192,24 @@ fn main() {
     println!(
         "Library: as `rt staticlib` compiles it. Rival: Rust, opt-level 3. Both for plain x86-64."
     );
-    println!(
-        "They take turns, {ROUNDS} rounds or more in {SECONDS} s a row; the least processor time counts.\n"
-    );
-    println!("{:<22} {:<14} {:>9} {:>9} {:>7}", "", "", "library", "rival", "ratio");
-    for (name, script) in texts::all() {
-        text(&image, &tables, name, &script);
-    }
+    println!("They take turns, {ROUNDS} rounds or more in {SECONDS} s for each figure.\n");
+    let samples = texts::all();
+    let with_profile = |sample: &Sample| {
+        write_image(image.version(), &ranges, &Profile::new(sample.profile)).unwrap()
+    };
+    let images: Vec<Vec<u8>> = samples.iter().map(with_profile).collect();
+    let subjects: Vec<Subject> =
+        samples.iter().zip(&images).map(|(sample, bytes)| Subject::new(sample, bytes)).collect();
+    tokens(&subjects);
+    let tables = Tables::new(&ranges, &[]);
     let rising: Vec<u32> = (0..=0x10FFFF).filter(|&p| char::from_u32(p).is_some()).collect();
     let mixed: Vec<u32> = texts::mixed().chars().map(u32::from).collect();
-    lookup(&image, &tables, "every scalar", &rising);
-    lookup(&image, &tables, "of mixed", &mixed);
-    let times = race(50, &mut || _ = black_box(Image::check(black_box(&bytes))), &mut || {
+    let of_rising = lookup(&image, &tables, &rising);
+    println!("\nlookup of every scalar value / hand-written: {of_rising:.1}");
+    let of_mixed = lookup(&image, &tables, &mixed);
+    println!("lookup of the characters of mixed scripts / hand-written: {of_mixed:.1}");
+    let check = race(50, &mut || _ = black_box(Image::check(black_box(&bytes))), &mut || {
         _ = black_box(rival::check(black_box(&bytes)))
     });
-    row("image check", "ns a range", ranges.len(), times);
-    match Icu::load() {
-        None => println!("\nICU is not there to compile against: left out."),
-        Some(icu) => {
-            println!("\n{:<22} {:<14} {:>9} {:>9} {:>7}", "", "", "library", "ICU", "ratio");
-            for (name, script) in texts::all() {
-                text_of_icu(&image, &icu, name, &script);
-            }
-        }
-    }
+    println!("image check / hand-written: {check:.2}");
 }

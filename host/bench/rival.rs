@@ -1,20 +1,22 @@
 //! The reader that a Rust user would write by hand today: the standard
 //! library's UTF-8 check, then a lexer over two-stage tables.
 
+use luffinarc::{
+    Class, Kind, Range, Role, MAX_ENTRIES, MAX_IMAGE, MAX_RANGES, MAX_TEXT, TOKEN_WORDS,
+};
+
 const START: u8 = 1;
 const CONTINUE: u8 = 2;
 const SYNTAX: u8 = 4;
 const WHITE: u8 = 8;
 const MEDIAL: u8 = 16;
 
-const MAX_TEXT: usize = 1_048_576;
-
 /// Why a text is refused.
 #[derive(Clone, Copy, Debug, PartialEq, Eq)]
 pub enum Refused {
-    TooLong,
+    TextLength,
     IllFormed(usize),
-    NoToken(usize),
+    Characters(usize),
 }
 
 /// The flags of every code point: a block index and blocks of 256, and the
@@ -26,32 +28,30 @@ pub struct Tables {
 }
 
 /// The flags of a class and of being medial.
-fn flags(class: u32, medial: bool) -> u8 {
+fn flags(class: Class, medial: bool) -> u8 {
+    let medial = if medial { MEDIAL } else { 0 };
     match class {
-        1 => START | CONTINUE,
-        2 => CONTINUE,
-        3 if medial => SYNTAX | MEDIAL,
-        3 => SYNTAX,
-        4 if medial => WHITE | MEDIAL,
-        4 => WHITE,
-        _ if medial => MEDIAL,
-        _ => 0,
+        Class::Start => START | CONTINUE,
+        Class::Nonstart => CONTINUE,
+        Class::Syntax => SYNTAX | medial,
+        Class::White => WHITE | medial,
+        Class::Unassigned | Class::Other => medial,
     }
 }
 
 /// The flags of every code point in one flat table.
-fn flat(ranges: &[u32], profile: &[(u32, u32)]) -> Vec<u8> {
-    let mut classes = vec![0; 0x110000];
-    for range in ranges.chunks_exact(3) {
-        classes[range[0] as usize..=range[1] as usize].fill(range[2]);
+fn flat(ranges: &[Range], profile: &[(u32, Role)]) -> Vec<u8> {
+    let mut classes = vec![Class::Unassigned; 0x110000];
+    for range in ranges {
+        classes[range.first as usize..=range.last as usize].fill(range.class);
     }
     let mut all: Vec<u8> = classes.iter().map(|&class| flags(class, false)).collect();
     for &(point, role) in profile {
         all[point as usize] = match role {
-            1 => flags(1, false),
-            2 => flags(2, false),
-            3 => flags(classes[point as usize], true),
-            _ => flags(5, false),
+            Role::Start => flags(Class::Start, false),
+            Role::Nonstart => flags(Class::Nonstart, false),
+            Role::Medial => flags(classes[point as usize], true),
+            Role::Other => flags(Class::Other, false),
         };
     }
     all
@@ -64,13 +64,13 @@ fn word(bytes: &[u8], at: usize) -> u32 {
 
 /// The number of ranges of an accepted image, checked as a Rust user would; nothing for any other.
 pub fn check(image: &[u8]) -> Option<usize> {
-    if image.len() < 32 || image.len() > 49_696 || word(image, 8) as usize != image.len() {
+    if image.len() < 32 || image.len() > MAX_IMAGE || word(image, 8) as usize != image.len() {
         return None;
     }
     let (n, m) = (word(image, 12) as usize, word(image, 20) as usize);
-    let entries = 32 + 12 * n.min(4096);
+    let entries = 32 + 12 * n.min(MAX_RANGES);
     let fixed = word(image, 0) == 1 && word(image, 28) == 0 && word(image, 16) == 32;
-    let counts = n <= 4096 && m <= 64 && word(image, 24) as usize == entries;
+    let counts = n <= MAX_RANGES && m <= MAX_ENTRIES && word(image, 24) as usize == entries;
     if !fixed || !counts || image.len() != entries + 8 * m {
         return None;
     }
@@ -98,8 +98,8 @@ pub fn check(image: &[u8]) -> Option<usize> {
 }
 
 impl Tables {
-    /// From an accepted image's ranges, three words each, and its profile.
-    pub fn new(ranges: &[u32], profile: &[(u32, u32)]) -> Tables {
+    /// From an accepted image's ranges and its profile.
+    pub fn new(ranges: &[Range], profile: &[(u32, Role)]) -> Tables {
         let mut blocks: Vec<[u8; 256]> = Vec::new();
         let mut index = Vec::new();
         for block in flat(ranges, profile).chunks_exact(256) {
@@ -178,22 +178,22 @@ impl Tables {
 
     /// Hands each token's kind, start and end to the taker.
     #[inline(always)]
-    fn lex(&self, text: &[u8], mut take: impl FnMut(u32, u32, u32)) -> Result<(), Refused> {
+    fn lex(&self, text: &[u8], mut take: impl FnMut(Kind, u32, u32)) -> Result<(), Refused> {
         if text.len() > MAX_TEXT {
-            return Err(Refused::TooLong);
+            return Err(Refused::TextLength);
         }
         std::str::from_utf8(text).map_err(|error| Refused::IllFormed(error.valid_up_to()))?;
         let mut at = 0;
         while at < text.len() {
             let (found, length) = self.look(text, at);
             let (kind, end) = if found & START != 0 {
-                (1, self.identifier(text, at + length))
+                (Kind::Identifier, self.identifier(text, at + length))
             } else if found & WHITE != 0 {
-                (3, self.run(text, at + length, WHITE))
+                (Kind::Whitespace, self.run(text, at + length, WHITE))
             } else if found & SYNTAX != 0 {
-                (2, at + length)
+                (Kind::Syntax, at + length)
             } else {
-                return Err(Refused::NoToken(at));
+                return Err(Refused::Characters(at));
             };
             take(kind, at as u32, end as u32);
             at = end;
@@ -212,7 +212,7 @@ impl Tables {
     /// held; after a refusal it holds the tokens before the place.
     pub fn list(&self, text: &[u8], list: &mut Vec<u32>) -> Result<usize, Refused> {
         list.clear();
-        self.lex(text, |kind, start, end| list.extend_from_slice(&[kind, start, end]))?;
-        Ok(list.len() / 3)
+        self.lex(text, |kind, start, end| list.extend_from_slice(&[kind.number(), start, end]))?;
+        Ok(list.len() / TOKEN_WORDS)
     }
 }

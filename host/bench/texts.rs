@@ -1,10 +1,14 @@
 //! Texts of 1 MiB to time readers on. They are the same in every run and hold
 //! only identifiers, Pattern_Syntax signs and white space of Unicode 16.0.
 
+use luffinarc::{Role, MAX_TEXT};
 use luffinarc_reader::cases::Rng;
 
 /// The length of every text, the longest that is read.
-pub const LENGTH: usize = 1_048_576;
+pub const LENGTH: usize = MAX_TEXT;
+
+/// The medials of dotted names: the hyphen and the full stop.
+pub const MEDIALS: [(u32, Role); 2] = [(0x2D, Role::Medial), (0x2E, Role::Medial)];
 
 const KEYS: [&str; 24] = [
     "panel",
@@ -170,7 +174,35 @@ pub fn mixed() -> String {
     })
 }
 
-/// All texts with their names.
-pub fn all() -> [(&'static str, String); 4] {
-    [("ascii", ascii()), ("polish", polish()), ("adlam", adlam()), ("mixed", mixed())]
+/// Names of one to three parts, joined by medials, with blanks and line ends
+/// between.
+pub fn dotted() -> String {
+    let mut rng = Rng::new();
+    filled(|| {
+        let mut name = rng.pick(&KEYS).to_string();
+        for _ in 0..rng.below(3) {
+            let (medial, part) = (*rng.pick(&["-", "."]), *rng.pick(&KEYS));
+            name = name + medial + part;
+        }
+        name + *rng.pick(&[" ", " ", "  ", "\n"])
+    })
+}
+
+/// A text, what it is called, and the profile under which it is read.
+pub struct Sample {
+    pub name: &'static str,
+    pub text: String,
+    pub profile: &'static [(u32, Role)],
+}
+
+/// All texts.
+pub fn all() -> [Sample; 5] {
+    let sample = |name, text, profile| Sample { name, text, profile };
+    [
+        sample("ASCII", ascii(), &[]),
+        sample("Polish", polish(), &[]),
+        sample("Adlam", adlam(), &[]),
+        sample("mixed scripts", mixed(), &[]),
+        sample("dotted names", dotted(), &MEDIALS),
+    ]
 }

@@ -22,6 +22,9 @@ static void check(int line, int holds)
 
 #define CHECK(holds) check(__LINE__, (holds))
 
+/* The version word of both images. */
+#define VERSION 1048576
+
 static uint64_t answer[LUFFINARC_ANSWER];
 static uint32_t points[LUFFINARC_MAX_ENTRIES], roles[LUFFINARC_MAX_ENTRIES];
 
@@ -49,16 +52,16 @@ static size_t read_file(const char *name, uint8_t *bytes, size_t most)
 static void empty_slices(const uint8_t *m, size_t m_len)
 {
     uint8_t out[32];
-    CHECK(luffinarc_check(NULL, 0, points, roles, answer) == LUFFINARC_IMAGE_LENGTH && gave(0, 0, 0));
-    CHECK(luffinarc_read(NULL, 0, NULL, 0, points, roles, answer) == LUFFINARC_IMAGE_LENGTH && gave(0, 0, 0));
+    CHECK(luffinarc_check(NULL, 0, points, roles, answer) == LUFFINARC_LENGTH && gave(0, 0, 0));
+    CHECK(luffinarc_read(NULL, 0, NULL, 0, points, roles, answer) == LUFFINARC_LENGTH && gave(0, 0, 0));
     CHECK(luffinarc_read(m, m_len, NULL, 0, points, roles, answer) == LUFFINARC_ROOM && gave(5, 0, 0));
     CHECK(luffinarc_write(1, NULL, 0, points, roles, 0, NULL, 0, answer) == LUFFINARC_BUFFER && gave(32, 0, 0));
     CHECK(luffinarc_write(1, NULL, 0, points, roles, 0, out, 32, answer) == 0 && gave(32, 0, 0));
     CHECK(luffinarc_check(out, 32, points, roles, answer) == 0 && gave(1, 0, 0));
-    CHECK(luffinarc_lookup(NULL, 0, 0x20, answer) == LUFFINARC_IMAGE_LENGTH && gave(0, 0, 0));
-    CHECK(luffinarc_pair(NULL, 0, NULL, 0, answer) == LUFFINARC_IMAGE_LENGTH && gave(0, 0, 1));
-    CHECK(luffinarc_pair(m, m_len, NULL, 0, answer) == LUFFINARC_IMAGE_LENGTH && gave(0, 0, 2));
-    CHECK(luffinarc_count(NULL, 0, NULL, 0, answer) == LUFFINARC_IMAGE_LENGTH && gave(0, 0, 0));
+    CHECK(luffinarc_lookup(NULL, 0, 0x20, answer) == LUFFINARC_LENGTH && gave(0, 0, 0));
+    CHECK(luffinarc_pair(NULL, 0, NULL, 0, answer) == LUFFINARC_LENGTH && gave(0, 0, 1));
+    CHECK(luffinarc_pair(m, m_len, NULL, 0, answer) == LUFFINARC_LENGTH && gave(0, 0, 2));
+    CHECK(luffinarc_count(NULL, 0, NULL, 0, answer) == LUFFINARC_LENGTH && gave(0, 0, 0));
     CHECK(luffinarc_count(m, m_len, NULL, 0, answer) == 0 && gave(0, 0, 0));
     CHECK(luffinarc_list(m, m_len, NULL, 0, NULL, 0, answer) == 0 && gave(0, 0, 0));
     CHECK(luffinarc_token(m, m_len, NULL, 0, 0, answer) == LUFFINARC_DONE && gave(0, 0, 0));
@@ -70,23 +73,28 @@ static void empty_slices(const uint8_t *m, size_t m_len)
 /* The calls on images, and those on an image that was checked. */
 static void images(const uint8_t *m, size_t m_len, const uint8_t *m2, size_t m2_len)
 {
-    static const uint32_t ranges[] = {0x20, 0x20, 4, 0x2E, 0x2E, 3, 0x30, 0x39, 2, 0x41, 0x5A, 1, 0x61, 0x7A, 1};
+    static const uint32_t ranges[] = {
+        0x20, 0x20, LUFFINARC_CLASS_WHITE,    0x2E, 0x2E, LUFFINARC_CLASS_SYNTAX,
+        0x30, 0x39, LUFFINARC_CLASS_NONSTART, 0x41, 0x5A, LUFFINARC_CLASS_START,
+        0x61, 0x7A, LUFFINARC_CLASS_START,
+    };
     uint32_t words[16];
     uint8_t out[101];
     words[15] = 7;
-    CHECK(luffinarc_check(m, m_len, points, roles, answer) == 0 && gave(1048576, 5, 1));
-    CHECK(points[0] == 0x2E && roles[0] == 3 && points[1] == 0 && roles[63] == 0);
-    CHECK(luffinarc_read(m, m_len, words, 16, points, roles, answer) == 0 && gave(1048576, 5, 1));
+    CHECK(luffinarc_check(m, m_len, points, roles, answer) == 0 && gave(VERSION, 5, 1));
+    CHECK(points[0] == 0x2E && roles[0] == LUFFINARC_ROLE_MEDIAL);
+    CHECK(points[1] == 0 && roles[LUFFINARC_MAX_ENTRIES - 1] == 0);
+    CHECK(luffinarc_read(m, m_len, words, 16, points, roles, answer) == 0 && gave(VERSION, 5, 1));
     CHECK(memcmp(words, ranges, sizeof ranges) == 0 && words[15] == 7);
     memset(out, 7, sizeof out);
-    CHECK(luffinarc_write(1048576, ranges, 15, points, roles, 1, out, 99, answer) == LUFFINARC_BUFFER && gave(100, 0, 0));
+    CHECK(luffinarc_write(VERSION, ranges, 15, points, roles, 1, out, 99, answer) == LUFFINARC_BUFFER && gave(100, 0, 0));
     CHECK(out[0] == 7);
-    CHECK(luffinarc_write(1048576, ranges, 15, points, roles, 1, out, 101, answer) == 0 && gave(100, 0, 0));
+    CHECK(luffinarc_write(VERSION, ranges, 15, points, roles, 1, out, 101, answer) == 0 && gave(100, 0, 0));
     CHECK(memcmp(out, m, m_len) == 0 && out[100] == 7);
     CHECK(luffinarc_write(1, ranges, 14, points, roles, 1, out, 101, answer) == LUFFINARC_SHAPE && gave(0, 0, 0));
-    CHECK(luffinarc_lookup(m, m_len, 0x20, answer) == 0 && gave(LUFFINARC_WHITE, 3, 0));
+    CHECK(luffinarc_lookup(m, m_len, 0x20, answer) == 0 && gave(LUFFINARC_CLASS_WHITE, 3, 0));
     CHECK(luffinarc_lookup(m, m_len, 0xD800, answer) == LUFFINARC_NOT_SCALAR && gave(0xD800, 0, 0));
-    CHECK(luffinarc_lookup_checked(m, m_len, 5, points, roles, 1, 0x7A, answer) == 0 && gave(LUFFINARC_START, 2, 0));
+    CHECK(luffinarc_lookup_checked(m, m_len, 5, points, roles, 1, 0x7A, answer) == 0 && gave(LUFFINARC_CLASS_START, 2, 0));
     CHECK(luffinarc_pair(m, m_len, m2, m2_len, answer) == 0 && gave(0, 0, 0));
     CHECK(luffinarc_pair(m2, m2_len, m, m_len, answer) == LUFFINARC_CHANGE && gave(0xE9, 0, 0));
 }
@@ -95,10 +103,12 @@ static void images(const uint8_t *m, size_t m_len, const uint8_t *m2, size_t m2_
 static void tokens(const uint8_t *m, size_t m_len)
 {
     static const uint8_t text[] = {'a', 'b', '.', 'c', '1', ' ', '.'};
-    static const uint32_t list[] = {1, 0, 5, 3, 5, 6, 2, 6, 7};
+    static const uint32_t list[] = {
+        LUFFINARC_KIND_IDENTIFIER, 0, 5, LUFFINARC_KIND_WHITESPACE, 5, 6, LUFFINARC_KIND_SYNTAX, 6, 7,
+    };
     uint32_t words[10];
     memset(words, 0xFF, sizeof words);
-    CHECK(luffinarc_check(m, m_len, points, roles, answer) == 0 && gave(1048576, 5, 1));
+    CHECK(luffinarc_check(m, m_len, points, roles, answer) == 0 && gave(VERSION, 5, 1));
     CHECK(luffinarc_count(m, m_len, text, 7, answer) == 0 && gave(3, 0, 0));
     CHECK(luffinarc_count_checked(m, m_len, 5, points, roles, 1, text, 7, answer) == 0 && gave(3, 0, 0));
     CHECK(luffinarc_list(m, m_len, text, 7, words, 8, answer) == LUFFINARC_ROOM && gave(3, 0, 0));
@@ -108,7 +118,7 @@ static void tokens(const uint8_t *m, size_t m_len)
     memset(words, 0xFF, sizeof words);
     CHECK(luffinarc_list_checked(m, m_len, 5, points, roles, 1, text, 7, words, 9, answer) == 0 && gave(3, 0, 0));
     CHECK(memcmp(words, list, sizeof list) == 0 && words[9] == UINT32_MAX);
-    CHECK(luffinarc_token(m, m_len, text, 7, 5, answer) == 0 && gave(LUFFINARC_WHITESPACE_TOKEN, 5, 6));
+    CHECK(luffinarc_token(m, m_len, text, 7, 5, answer) == 0 && gave(LUFFINARC_KIND_WHITESPACE, 5, 6));
     CHECK(luffinarc_token(m, m_len, text, 7, 4, answer) == LUFFINARC_CHARACTERS && gave(4, 0, 0));
     CHECK(luffinarc_token_checked(m, m_len, 5, points, roles, 1, text, 7, 7, answer) == LUFFINARC_DONE && gave(0, 0, 0));
     CHECK(luffinarc_part(text, 7, 2, 5, answer) == 0 && gave(2, 3, 0));

@@ -51,9 +51,9 @@ static void print_refusal(uint32_t refusal, const uint64_t *answer)
 static const char *kind_name(uint32_t kind)
 {
     switch (kind) {
-    case LUFFINARC_IDENTIFIER_TOKEN:
+    case LUFFINARC_KIND_IDENTIFIER:
         return "identifier";
-    case LUFFINARC_SYNTAX_TOKEN:
+    case LUFFINARC_KIND_SYNTAX:
         return "syntax";
     default:
         return "whitespace";

@@ -44,38 +44,47 @@ extern "C" {
 /* luffinarc_token: the place is the text's end. */
 #define LUFFINARC_DONE 255
 
-/* The refusals, and what each carries at answer[0]. */
+/* The refusals. 3, 4, 6 to 10 and 12 carry a number, at answer[0]. */
 enum luffinarc_refusal {
-    LUFFINARC_IMAGE_LENGTH = 1, /* nothing: image too short or too long, or not of its header's total length */
-    LUFFINARC_HEADER = 2,       /* nothing: a word of the header is wrong, or a count is above its limit */
-    LUFFINARC_RANGE = 3,        /* index of the first bad range */
-    LUFFINARC_ENTRY = 4,        /* index of the first bad profile entry */
-    LUFFINARC_TEXT_LENGTH = 5,  /* nothing: text longer than LUFFINARC_MAX_TEXT */
-    LUFFINARC_ILL_FORMED = 6,   /* byte place where no well-formed UTF-8 sequence begins, the first such */
-    LUFFINARC_CHARACTERS = 7,   /* byte place where no token begins, after the longest run of tokens */
-    LUFFINARC_ROOM = 8,         /* tokens, or ranges of an image being read, that need room */
-    LUFFINARC_NOT_SCALAR = 9,   /* the number, which is no scalar value */
-    LUFFINARC_CHANGE = 10,      /* smallest code point with a forbidden change */
-    LUFFINARC_PROFILES = 11,    /* nothing: the images have unequal profiles */
-    LUFFINARC_BUFFER = 12,      /* bytes that the image needs */
-    LUFFINARC_SHAPE = 13        /* nothing: words are no multiple of 3, a place is past the end, start is after end */
+    LUFFINARC_LENGTH = 1,      /* the image is too short or too long, or not of the header's total length */
+    LUFFINARC_HEADER = 2,      /* a word of the image's header is wrong, or a count is above its limit */
+    LUFFINARC_RANGE = 3,       /* a range is bad; the index of the first bad one */
+    LUFFINARC_ENTRY = 4,       /* a profile entry is bad; the index of the first bad one */
+    LUFFINARC_TEXT_LENGTH = 5, /* the text is too long */
+    LUFFINARC_ILL_FORMED = 6,  /* no well-formed UTF-8 sequence begins at this byte place, the first such */
+    LUFFINARC_CHARACTERS = 7,  /* no token begins at this byte place, after the longest run of tokens */
+    LUFFINARC_ROOM = 8,        /* more room is needed; the number of records */
+    LUFFINARC_NOT_SCALAR = 9,  /* the number is no scalar value */
+    LUFFINARC_CHANGE = 10,     /* a forbidden change; the smallest code point with one */
+    LUFFINARC_PROFILES = 11,   /* the profile sections are unequal */
+    LUFFINARC_BUFFER = 12,     /* the buffer for an image is too short; the bytes needed */
+    LUFFINARC_SHAPE = 13       /* a list of words is no multiple of its record's words, or a place lies past the
+                                * text's end, or a start after an end */
 };
 
 /* Classes of code points. */
 enum luffinarc_class {
-    LUFFINARC_UNASSIGNED = 0,
-    LUFFINARC_START = 1,
-    LUFFINARC_NONSTART = 2,
-    LUFFINARC_SYNTAX = 3,
-    LUFFINARC_WHITE = 4,
-    LUFFINARC_OTHER = 5
+    LUFFINARC_CLASS_UNASSIGNED = 0,
+    LUFFINARC_CLASS_START = 1,
+    LUFFINARC_CLASS_NONSTART = 2,
+    LUFFINARC_CLASS_SYNTAX = 3,
+    LUFFINARC_CLASS_WHITE = 4,
+    LUFFINARC_CLASS_OTHER = 5
+};
+
+/* Roles of profile entries: the class of the code point is Start, Nonstart or Other; a medial keeps its class. */
+enum luffinarc_role {
+    LUFFINARC_ROLE_START = 1,
+    LUFFINARC_ROLE_NONSTART = 2,
+    LUFFINARC_ROLE_MEDIAL = 3,
+    LUFFINARC_ROLE_OTHER = 4
 };
 
 /* Kinds of tokens. */
 enum luffinarc_kind {
-    LUFFINARC_IDENTIFIER_TOKEN = 1,
-    LUFFINARC_SYNTAX_TOKEN = 2,
-    LUFFINARC_WHITESPACE_TOKEN = 3
+    LUFFINARC_KIND_IDENTIFIER = 1,
+    LUFFINARC_KIND_SYNTAX = 2,
+    LUFFINARC_KIND_WHITESPACE = 3
 };
 
 /* Checks an image.

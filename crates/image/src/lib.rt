@@ -378,7 +378,7 @@ fn judge_records(image: &[u8]) -> Answer
 }
 
 // The answer of the check, without the profile.
-fn judge(image: &[u8]) -> Answer
+pub fn judge(image: &[u8]) -> Answer
     ensures { λ a. ⌜ a ≡ checkOf (now (image .entry)) .answer ⌝ }
 {
     if is_length_right(image) {

@@ -1,17 +1,24 @@
 // The token lister: reads an image and right after it a text from standard input, and prints the text's tokens or the refusal.
 ghost use Prim.Native.Nat.{_+_, _*_, _≤_};
 ghost use lib.ListN.{length};
+ghost use Rattle.grammar.specs.Record.{recordSize};
 use libc::STDIN_FILENO;
 use listing::MAX_INPUT;
 use listing::MAX_WORDS;
 use scan::Counted;
+use scan::RECORD_WORDS;
+
+// The kinds of tokens; the third is white space.
+const IDENTIFIER: u32 = 1;
+
+const SYNTAX: u32 = 2;
 
 fn print_kind(kind: u32) {
-    if kind == 1 {
+    if kind == IDENTIFIER {
         printing::print_text(b"identifier");
         return;
     }
-    if kind == 2 {
+    if kind == SYNTAX {
         printing::print_text(b"syntax");
         return;
     }
@@ -20,7 +27,7 @@ fn print_kind(kind: u32) {
 
 // The line of the token whose words begin at word `at`.
 fn print_token(words: &[u32], at: usize)
-    requires { ⌜ at + 3 ≤ length (now words) ⌝ }
+    requires { ⌜ at + recordSize ≤ length (now words) ⌝ }
 {
     print_kind(words[at]);
     printing::print_word(words[at + 1]);
@@ -30,13 +37,13 @@ fn print_token(words: &[u32], at: usize)
 
 // The lines of all tokens, by their words.
 fn print_tokens(words: &[u32], count: usize)
-    requires { ⌜ 3 * count ≤ length (now words) ⌝ }
+    requires { ⌜ recordSize * count ≤ length (now words) ⌝ }
 {
     printing::print_text(b"tokens");
     printing::print_next(count);
     printing::print_text(b"\n");
     for i in 0..count {
-        print_token(words, 3 * i);
+        print_token(words, RECORD_WORDS * i);
     }
 }
 
@@ -44,7 +51,7 @@ fn main() {
     let mut input = [0u8; MAX_INPUT];
     let n = io::read_full(STDIN_FILENO, &mut input);
     let mut words = [0u32; MAX_WORDS];
-    let counted = listing::list_read(&input[..n], MAX_INPUT, &mut words);
+    let counted = listing::list_read(&input, n, &mut words);
     match counted {
         Counted::Refused(r) => {
             printing::print_refusal(r);

@@ -1,150 +1,105 @@
 -- Where an image in the lister's input ends, and what is then listed. Assumes nothing.
 use Prim.Native.Nat.{ℕ, _-_, _*_, _≤_, _<_}
 use mathlib.Core.Path.{_≡_, refl, sym, ap, _∙_}
-use mathlib.Core.Bool.{Bool, true, false, cond}
-use mathlib.Core.List.{List}
+use mathlib.Core.Bool.{Bool, true, false, true≢false}
+use mathlib.Core.List.{List, [], _∷_}
 use mathlib.Core.Option.{Option, none, some}
 use native.Mathlib.Omega.{arith}
 use lib.ListN.{length, take, drop}
-use lib.Dec.{leb, ltb}
-use borrow.Author.Tests.{lt-ltb, le-ltb, le-leb, lt-leb, leb-true}
-use Rattle.lists.proofs.BoolLaws.{and-left, and-right, impossible}
+use lib.Dec.{leb}
+use borrow.Author.Tests.{lt-ltb, le-ltb, le-leb, leb-true}
+use Rattle.lists.proofs.BoolLaws.{split}
 use Rattle.lists.proofs.LaidLaws.{rest}
 use Rattle.refusal.specs.declared.Refusal.{Refusal}
 use Rattle.refusal.specs.declared.Refusal.the-variants as refusal
 use Rattle.utf8.specs.Text.{Character}
 use Rattle.image.specs.Limits.{headerBytes, maxImage}
 use Rattle.image.specs.Header.{totalOf}
-use Rattle.image.specs.Check.{refusalOf, checkOf}
-use Rattle.image.specs.declared.Answer.the-variants as answer
-use Rattle.image.specs.declared.Checked.{Checked}
-use Rattle.image.proofs.ImageLaws.{says}
+use Rattle.image.specs.Check.{refusalOf}
 use Rattle.grammar.specs.Scan.{Tok}
 use Rattle.grammar.specs.Grammar.{Kind}
-use Rattle.refusal.specs.Outcome.{Outcome, given, refused, unless, refusedIf, outcomeMap}
-use Rattle.grammar.specs.Record.{recordSize}
-use Rattle.grammar.specs.Reading.{outcomeOf, writtenOf, laidBy, listOf, listWords}
-use Rattle.grammar.proofs.AnswerLaws.{roomed-given}
+use Rattle.refusal.specs.Outcome.{Outcome, refused, outcomeMap}
+use Rattle.grammar.specs.Reading.{writtenOf, laidBy, listOf, listWords}
 use Rattle.scan.specs.declared.Counted.{Counted}
 use Rattle.scan.specs.declared.Counted.the-variants as counted
 use Rattle.scan.specs.Counted.{countedBy}
-use Rattle.listing.specs.Input.{maxScript, comesWhole, endOf, writtenWithin, writtenBy, writtenFrom, listedFrom, wordsAfter}
+use Rattle.listing.specs.Input.{maxScript, imageIn, textIn, comesWhole, writtenWithin, writtenFrom, listedFrom, wordsAfter, ComesWhole, EndMeans, no-end, whole-end}
 
--- where the image ends, by the tests in turn
+-- the test of whether the image comes whole, and what it means
 module _ (input : List ℕ) where
-  pub end-short : length input < headerBytes → 0 ≡ endOf input
-  unfolding endOf comesWhole
-  end-short h = simp (lt-leb headerBytes (length input) h)
+  pub means-whole : ComesWhole input → comesWhole input ≡ true
+  unfolding comesWhole
+  means-whole w = simp (le-leb _ _ (w .header), le-leb _ _ (w .long), le-leb _ _ (w .short), le-leb _ _ (w .comes))
 
-  module _ (total : ℕ) (e : total ≡ totalOf input) (long : headerBytes ≤ length input) where
-    pub end-small : total < headerBytes → 0 ≡ endOf input
-    unfolding endOf comesWhole
-    end-small h = simp (le-leb headerBytes (length input) long, lt-leb headerBytes (totalOf input) (omega arith))
+  pub whole-means : comesWhole input ≡ true → ComesWhole input
+  unfolding comesWhole
+  whole-means e =
+      let (a, (b, (c, d))) = split (leb headerBytes (length input)) (leb headerBytes (totalOf input) ∷ leb (totalOf input) maxImage ∷ leb (totalOf input) (length input) ∷ []) e in
+      record { header = leb-true _ _ a; long = leb-true _ _ b; short = leb-true _ _ c; comes = leb-true _ _ d }
 
-    module _ (some : headerBytes ≤ total) where
-      pub end-large : maxImage < total → 0 ≡ endOf input
-      unfolding endOf comesWhole
-      end-large h =
-          simp (le-leb headerBytes (length input) long, le-leb headerBytes (totalOf input) (omega arith), lt-leb (totalOf input) maxImage (omega arith))
+  pub dec-whole : Dec (ComesWhole input)
+  dec-whole = go (comesWhole input) refl
+    where
+      go : (b : Bool) → comesWhole input ≡ b → Dec (ComesWhole input)
+      go true e = yes (whole-means e)
+      go false e = no (λ w. true≢false (sym (means-whole w) ∙ e))
 
-      module _ (few : total ≤ maxImage) where
-        pub end-past : length input < total → 0 ≡ endOf input
-        unfolding endOf comesWhole
-        end-past h =
-            simp (le-leb headerBytes (length input) long, le-leb headerBytes (totalOf input) (omega arith), le-leb (totalOf input) maxImage (omega arith), lt-leb (totalOf input) (length input) (omega arith))
+  not-whole : (ComesWhole input → ⊥) → (b : Bool) → comesWhole input ≡ b → b ≡ false
+  not-whole f true e = absurd (f (whole-means e))
+  not-whole f false e = refl
 
-        pub end-whole : total ≤ length input → total ≡ endOf input
-        unfolding endOf comesWhole
-        end-whole h =
-            simp (le-leb headerBytes (length input) long, le-leb headerBytes (totalOf input) (omega arith), le-leb (totalOf input) maxImage (omega arith), le-leb (totalOf input) (length input) (omega arith))
-            e
+  -- by the image's end
+  pub no-image : {end : ℕ} → EndMeans input end → end ≡ 0 → ComesWhole input → ⊥
+  no-image (no-end f) z w = f w
+  no-image (whole-end n v e) z w = let l = w .long in omega arith
 
--- an answer and a buffer that an outcome gives
-abbrev Gives : Outcome (List (Tok Character Kind)) → Counted → List ℕ → List ℕ → Type 0
-Gives o r out out′ = (r ≡ countedBy (outcomeMap length o)) × (out′ ≡ laidBy out o)
+  pub image-ends : {end : ℕ} → EndMeans input end → (end ≡ 0 → ⊥) → ComesWhole input × (end ≡ totalOf input)
+  image-ends (no-end f) h = absurd (h refl)
+  image-ends (whole-end n w e) h = (w, e)
 
--- an end that is not 0 is the image's total length, within the input
-pub record Whole (input : List ℕ) (end : ℕ) : Type 0 where
-  pub comes : comesWhole input ≡ true
-  pub total : end ≡ totalOf input
-  pub within : end ≤ length input
+-- what is written, by the cases in turn
+module _ (input : List ℕ) (words : ℕ) where
+  pub written-cut : (ComesWhole input → ⊥) → writtenFrom input words ≡ refused refusal.Length
+  unfolding writtenFrom
+  written-cut f = rw (not-whole input f (comesWhole input) refl)
 
-module _ (input : List ℕ) (end : ℕ) (e : end ≡ endOf input) where
-  whole-by : (b : Bool) → comesWhole input ≡ b → (end ≡ 0 → ⊥) → Whole input end
-  unfolding comesWhole endOf
-  whole-by false f h = absurd (h (e ∙ ap (λ (b : Bool). cond b (totalOf input) 0) f))
-  whole-by true f h =
-      let t : end ≡ totalOf input = e ∙ ap (λ (b : Bool). cond b (totalOf input) 0) f in
-      let l : totalOf input ≤ length input =
-      leb-true _ _ (and-right (leb (totalOf input) maxImage) _ (and-right (leb headerBytes (totalOf input)) _ (and-right (leb headerBytes (length input)) _ f))) in
-      record { comes = f; total = t; within = omega arith }
+  pub written-whole : ComesWhole input → writtenFrom input words ≡ writtenWithin (imageIn input) (textIn input) words
+  unfolding writtenFrom
+  written-whole w = rw (means-whole input w)
 
-  pub whole : (end ≡ 0 → ⊥) → Whole input end
-  whole h = whole-by (comesWhole input) refl h
-
-  none-by : (b : Bool) → comesWhole input ≡ b → end ≡ 0 → comesWhole input ≡ false
-  unfolding comesWhole endOf
-  none-by false f z = f
-  none-by true f z =
-      let t : end ≡ totalOf input = e ∙ ap (λ (b : Bool). cond b (totalOf input) 0) f in
-      let l : headerBytes ≤ totalOf input = leb-true _ _ (and-left (leb headerBytes (totalOf input)) _ (and-right (leb headerBytes (length input)) _ f)) in
-      absurd (omega arith)
-
-  -- 1
-  pub from-none : (out : List ℕ) → end ≡ 0 → (counted.Refused refusal.Length ≡ countedBy (listedFrom input (length out))) × (out ≡ wordsAfter input out)
-  unfolding listedFrom wordsAfter writtenFrom
-  from-none out z = rw (none-by (comesWhole input) refl z) (refl, refl)
-
--- else what the image gives with the text after it
-pub from-whole : (input : List ℕ) (end : ℕ) → Whole input end → (r : Counted) (out out′ : List ℕ) →
-    Gives (writtenWithin (take end input) (take (length input - end) (drop end input)) (length out)) r out out′ →
-    (r ≡ countedBy (listedFrom input (length out))) × (out′ ≡ wordsAfter input out)
-unfolding listedFrom wordsAfter writtenFrom
-from-whole input end w r out out′ =
-    let o : writtenWithin (take end input) (take (length input - end) (drop end input)) (length out) ≡ writtenBy (comesWhole input) input (length out) =
-    ap (λ (t : List ℕ). writtenWithin (take end input) t (length out)) (rest input end)
-    ∙ ap (λ (n : ℕ). writtenWithin (take n input) (drop n input) (length out)) (w .total)
-    ∙ ap (λ (b : Bool). writtenBy b input (length out)) (sym (w .comes)) in
-    λ (a, b). (a ∙ ap (λ o. countedBy (outcomeMap length o)) o, b ∙ ap (laidBy out) o)
-
-module _ (image text out : List ℕ) where
-  -- 1 to 4
-  pub within-refused : (k : Checked) → k ≡ checkOf image → (r : Refusal) → k .answer ≡ answer.Refused r →
-      Gives (writtenWithin image text (length out)) (counted.Refused r) out out
+module _ (image text : List ℕ) (words : ℕ) where
+  pub within-refused : {r : Refusal} → refusalOf image ≡ some r → writtenWithin image text words ≡ refused r
   unfolding writtenWithin
-  within-refused k e r f = rw (says image k e (answer.Refused r) f .0) (refl, refl)
+  within-refused e = rw e
 
   module _ (accepted : refusalOf image ≡ none) where
-    -- 5
-    pub within-long : maxScript < length text → Gives (writtenWithin image text (length out)) (counted.Refused refusal.TextLength) out out
+    pub within-long : maxScript < length text → writtenWithin image text words ≡ refused refusal.TextLength
     unfolding writtenWithin
-    within-long h = rw (accepted, lt-ltb maxScript (length text) h) (refl, refl)
+    within-long h = rw (accepted, lt-ltb maxScript (length text) h)
 
-    pub within-listed : length text ≤ maxScript → (r : Counted) (out′ : List ℕ) →
-        (r ≡ countedBy (listOf image text (length out))) × (out′ ≡ listWords image text out) → Gives (writtenWithin image text (length out)) r out out′
-    unfolding writtenWithin listOf listWords
-    within-listed h r out′ = rw (accepted, le-ltb maxScript (length text) h) (λ p. p)
+    pub within-listed : length text ≤ maxScript → writtenWithin image text words ≡ writtenOf image text words
+    unfolding writtenWithin
+    within-listed h = rw (accepted, le-ltb maxScript (length text) h)
 
--- tokens that were listed have room
-past : {T : Type 0} (a : Option Refusal) (o : Outcome T) (x : T) → unless a o ≡ given x → o ≡ given x
-past none o x e = e
-past (some r) o x e = cc
+-- an answer and a buffer that an outcome gives
+abbrev pub Gives : Outcome (List (Tok Character Kind)) → Counted → List ℕ → List ℕ → Type 0
+Gives o r out out′ = (r ≡ countedBy (outcomeMap length o)) × (out′ ≡ laidBy out o)
 
-written-fits : (input : List ℕ) (words : ℕ) (ts : List (Tok Character Kind)) (b : Bool) → writtenBy b input words ≡ given ts → recordSize * length ts ≤ words
-unfolding writtenWithin writtenOf
-written-fits input words ts false e = impossible (cc)
-written-fits input words ts true e =
-    let image = take (totalOf input) input in
-    let text = drop (totalOf input) input in
-    let o = past (refusedIf (ltb maxScript (length text)) refusal.TextLength) (writtenOf image text words) ts (past (refusalOf image) _ ts e) in
-    omega (arith, roomed-given words (outcomeOf image text) ts o .1)
+pub gives-refused : {o : Outcome (List (Tok Character Kind))} {r : Refusal} (out : List ℕ) → o ≡ refused r → Gives o (counted.Refused r) out out
+gives-refused out e = rw e (refl, refl)
 
-listed-by : (o : Outcome (List (Tok Character Kind))) (n : ℕ) → counted.Tokens n ≡ countedBy (outcomeMap length o) → (ts : List (Tok Character Kind)) × (o ≡ given ts) × (n ≡ length ts)
-listed-by (given ts) n e = (ts, refl, cc)
-listed-by (refused r) n e = impossible (cc)
+pub gives-listed : (image text out : List ℕ) {o : Outcome (List (Tok Character Kind))} {r : Counted} {out′ : List ℕ} → o ≡ writtenOf image text (length out) →
+    (r ≡ countedBy (listOf image text (length out))) × (out′ ≡ listWords image text out) → Gives o r out out′
+unfolding listOf listWords
+gives-listed image text out e p = rw e p
 
-pub listed-fits : (input : List ℕ) (words n : ℕ) → counted.Tokens n ≡ countedBy (listedFrom input words) → recordSize * n ≤ words
-unfolding listedFrom writtenFrom
-listed-fits input words n e =
-    let (ts, o, l) = listed-by (writtenFrom input words) n e in
-    omega (arith, written-fits input words ts (comesWhole input) o)
+module _ (input out : List ℕ) where
+  pub from-refused : {r : Refusal} → writtenFrom input (length out) ≡ refused r → (counted.Refused r ≡ countedBy (listedFrom input (length out))) × (out ≡ wordsAfter input out)
+  unfolding listedFrom wordsAfter
+  from-refused e = gives-refused out e
+
+  pub from-whole : (end : ℕ) → ComesWhole input × (end ≡ totalOf input) → {r : Counted} {out′ : List ℕ} →
+      Gives (writtenWithin (take end input) (take (length input - end) (drop end input)) (length out)) r out out′ →
+      (r ≡ countedBy (listedFrom input (length out))) × (out′ ≡ wordsAfter input out)
+  unfolding listedFrom wordsAfter
+  from-whole end (w, e) p = rw (written-whole input (length out) w, ← e, ← rest input end) p

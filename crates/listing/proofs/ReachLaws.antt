@@ -1,90 +1,74 @@
 -- No more of the lister's input matters than its program reads: the largest image, the longest text and one byte. Assumes nothing.
 use Prim.Native.Nat.{ℕ, _+_, _*_, _≤_, _<_}
 use mathlib.Core.Path.{_≡_, refl, sym, ap, _∙_}
-use mathlib.Core.Bool.{Bool, true, false, _&&_}
 use mathlib.Core.List.{List}
-use mathlib.Core.Logic.{_⊎_, inl, inr}
+use mathlib.Core.Option.{Option, none, some}
 use native.Mathlib.Omega.{arith}
 use native.Mathlib.Decide.{decLe}
 use lib.ListN.{length, take, drop, length-drop}
-use lib.Seq.{getD-take, take-take, take-all, length-take-le}
-use lib.Dec.{leb, ltb}
-use borrow.Author.Tests.{lt-ltb, le-leb, leb-true}
-use Rattle.lists.proofs.BoolLaws.{and-left, and-right}
-use Rattle.image.specs.Word.{wordAt}
-use Rattle.image.specs.Limits.{headerBytes, maxImage}
-use Rattle.image.specs.Header.{totalOf}
+use lib.Seq.{take-take, take-all, length-take-le}
+use Rattle.refusal.specs.declared.Refusal.{Refusal}
 use Rattle.refusal.specs.Outcome.{outcomeMap}
+use Rattle.image.specs.Limits.{maxImage}
+use Rattle.image.specs.Header.{totalOf}
+use Rattle.image.specs.Check.{refusalOf}
+use Rattle.image.proofs.ImageLaws.{word-take}
 use Rattle.grammar.specs.Record.{recordSize}
 use Rattle.scan.specs.Counted.{countedBy}
-use Rattle.listing.specs.Input.{maxScript, comesWhole, writtenWithin, writtenBy, writtenFrom, listedFrom, wholeAnswer}
+use Rattle.listing.specs.Input.{maxScript, imageIn, textIn, writtenWithin, writtenFrom, listedFrom, wholeAnswer, ComesWhole}
+use Rattle.listing.proofs.InputLaws.{dec-whole, written-cut, written-whole, within-refused, within-long}
 
-abbrev whole : ℕ → ℕ → Bool
-whole n total = leb headerBytes n && (leb headerBytes total && (leb total maxImage && leb total n))
-
-module _ (input : List ℕ) (k : ℕ) (enough : maxImage + maxScript < k) where
-  same-total : totalOf (take k input) ≡ totalOf input
-  unfolding wordAt
-  same-total =
-      rw (getD-take k input 8 0 (omega arith), getD-take k input 9 0 (omega arith), getD-take k input 10 0 (omega arith), getD-take k input 11 0 (omega arith))
+module _ (input : List ℕ) (k words : ℕ) (enough : maxImage + maxScript < k) where
+  total : totalOf (take k input) ≡ totalOf input
+  total = word-take input k totalPlace (omega arith)
 
   module _ (long : k ≤ length input) where
-    read : length (take k input) ≡ k
-    read = length-take-le k input long
+    size : length (take k input) ≡ k
+    size = length-take-le k input long
 
-    same-comes : comesWhole (take k input) ≡ comesWhole input
-    unfolding comesWhole
-    same-comes = rw (same-total, read) (go (leb (totalOf input) maxImage) refl)
+    front-whole : ComesWhole input → ComesWhole (take k input)
+    front-whole w =
+        let t = total in
+        let l = size in
+        let s = w .short in
+        record { header = omega arith; long = omega (arith, w .long); short = omega arith; comes = omega arith }
+
+    whole-front : ComesWhole (take k input) → ComesWhole input
+    whole-front w =
+        let t = total in
+        let l = size in
+        let s = w .short in
+        record { header = omega (arith, w .header); long = omega (arith, w .long); short = omega arith; comes = omega arith }
+
+    -- the same image, and both texts are longer than the longest
+    same-within : totalOf input ≤ maxImage → writtenWithin (imageIn (take k input)) (textIn (take k input)) words ≡ writtenWithin (imageIn input) (textIn input) words
+    same-within h = rw (total, take-take (totalOf input) k input (omega arith)) (go (refusalOf (imageIn input)) refl)
       where
-        a : leb headerBytes k ≡ true
-        a = le-leb headerBytes k (omega arith)
+        front : List ℕ
+        front = drop (totalOf input) (take k input)
 
-        b : leb headerBytes (length input) ≡ true
-        b = le-leb headerBytes (length input) (omega arith)
+        go : (a : Option Refusal) → refusalOf (imageIn input) ≡ a → writtenWithin (imageIn input) front words ≡ writtenWithin (imageIn input) (textIn input) words
+        go (some r) e = within-refused (imageIn input) front words e ∙ sym (within-refused (imageIn input) (textIn input) words e)
+        go none e =
+            let m = length-drop (totalOf input) (take k input) in
+            let n = length-drop (totalOf input) input in
+            let l = size in
+            within-long (imageIn input) front words e (omega arith) ∙ sym (within-long (imageIn input) (textIn input) words e (omega arith))
 
-        go : (t : Bool) → leb (totalOf input) maxImage ≡ t → whole k (totalOf input) ≡ whole (length input) (totalOf input)
-        go false e = simp (a, b, e)
-        go true e =
-            let l : totalOf input ≤ maxImage = leb-true _ _ e in
-            simp (a, b, e, le-leb (totalOf input) k (omega arith), le-leb (totalOf input) (length input) (omega arith))
-
-    small : comesWhole input ≡ true → totalOf input ≤ maxImage
-    unfolding comesWhole
-    small e = leb-true _ _ (and-left (leb (totalOf input) maxImage) _ (and-right (leb headerBytes (totalOf input)) _ (and-right (leb headerBytes (length input)) _ e)))
-
-    -- both texts are longer than the longest
-    both-long : (total words : ℕ) → total ≤ maxImage →
-        writtenWithin (take total (take k input)) (drop total (take k input)) words ≡ writtenWithin (take total input) (drop total input) words
-    unfolding writtenWithin
-    both-long total words l =
-        let m = length-drop total (take k input) in
-        let n = length-drop total input in
-        let r = read in
-        simp (
-          take-take total k input (omega arith),
-          lt-ltb maxScript (length (drop total (take k input))) (omega arith),
-          lt-ltb maxScript (length (drop total input)) (omega arith),
-        )
-
-    same-written : (words : ℕ) → writtenFrom (take k input) words ≡ writtenFrom input words
-    unfolding writtenFrom
-    same-written words = rw same-comes (go (comesWhole input) refl)
-      where
-        go : (t : Bool) → comesWhole input ≡ t → writtenBy t (take k input) words ≡ writtenBy t input words
-        go false e = refl
-        go true e = rw same-total (both-long (totalOf input) words (small e))
+    same-written : Dec (ComesWhole input) → writtenFrom (take k input) words ≡ writtenFrom input words
+    same-written (yes w) = written-whole (take k input) words (front-whole w) ∙ same-within (w .short) ∙ sym (written-whole input words w)
+    same-written (no f) = written-cut (take k input) words (λ w. f (whole-front w)) ∙ sym (written-cut input words f)
 
   -- the answer, and what is written, are those of the whole input
-  pub looks-no-further : (words : ℕ) → writtenFrom (take k input) words ≡ writtenFrom input words
-  looks-no-further words = go (decLe k (length input))
+  pub looks-no-further : writtenFrom (take k input) words ≡ writtenFrom input words
+  looks-no-further = go (decLe k (length input))
     where
       go : Dec (k ≤ length input) → writtenFrom (take k input) words ≡ writtenFrom input words
-      go (yes h) = same-written h words
+      go (yes h) = same-written h (dec-whole input)
       go (no h) = ap (λ s. writtenFrom s words) (take-all k input (omega arith))
 
 -- so is the program's answer, where there is room for the longest text's tokens
 pub whole-answer : (input : List ℕ) (limit : ℕ) → maxImage + maxScript < limit → (read : List ℕ) → take limit input ≡ read → (words : ℕ) → words ≡ recordSize * maxScript →
     countedBy (listedFrom read words) ≡ wholeAnswer input
 unfolding wholeAnswer listedFrom
-whole-answer input limit h read e words w =
-    rw (← e, w) (ap (λ o. countedBy (outcomeMap length o)) (looks-no-further input limit h (recordSize * maxScript)))
+whole-answer input limit h read e words w = rw (← e, w) (ap (λ o. countedBy (outcomeMap length o)) (looks-no-further input limit (recordSize * maxScript) h))

@@ -1,16 +1,18 @@
 // What the token lister does with its input: an image and right after it a text.
 ghost use mathlib.Core.Path.{_≡_};
 ghost use mathlib.Core.List.{List};
-ghost use Prim.Native.Nat.{ℕ, _+_, _*_, _<_};
+ghost use Prim.Native.Nat.{ℕ, _+_, _*_, _≤_, _<_};
 ghost use Rattle.image.specs.Limits.{maxImage};
 ghost use Rattle.grammar.specs.Record.{recordSize};
 ghost use lib.ListN.{length, take};
 ghost use Rattle.refusal.specs.Outcome.{outcomeMap};
 ghost use Rattle.grammar.specs.Reading.{laidBy};
 ghost use Rattle.scan.specs.Counted.{countedBy};
-ghost use Rattle.listing.specs.Input.{endOf, writtenWithin, listedFrom, wordsAfter, maxScript, wholeAnswer};
+ghost use Rattle.listing.specs.Input.{EndMeans, writtenWithin, listedFrom, wordsAfter, maxScript, wholeAnswer};
 use image::Answer;
+use image::HEADER_BYTES;
 use image::MAX_IMAGE;
+use image::TOTAL_AT;
 use refusal::Refusal;
 use scan::Counted;
 
@@ -22,16 +24,14 @@ pub const MAX_INPUT: usize = MAX_IMAGE + MAX_SCRIPT + 1;
 // The words that the longest text's tokens can need.
 pub const MAX_WORDS: usize = scan::RECORD_WORDS * MAX_SCRIPT;
 
-const HEADER_BYTES: usize = 32;
-
 // Where the image at the front of the input ends; 0 where it doesn't come whole.
 fn find_end(input: &[u8]) -> usize
-    ensures { λ r. ⌜ r ≡ endOf (now (input .entry)) ⌝ }
+    ensures { λ r. ⌜ EndMeans (now (input .entry)) r ⌝ }
 {
     if input.len() < HEADER_BYTES {
         return 0;
     }
-    let total = image::word(input, 8) as usize;
+    let total = image::word(input, TOTAL_AT) as usize;
     if total < HEADER_BYTES {
         return 0;
     }
@@ -49,18 +49,14 @@ fn list_script<'a>(image: &'a [u8], text: &'a [u8], out: &mut [u32]) -> Counted
     ensures { λ r. ⌜ r ≡ countedBy (outcomeMap length (writtenWithin (now (image .entry)) (now (text .entry)) (length (now (out .entry))))) ⌝ }
     ensures { λ r. ⌜ now (out .exit) ≡ laidBy (now (out .entry)) (writtenWithin (now (image .entry)) (now (text .entry)) (length (now (out .entry)))) ⌝ }
 {
-    let checked = image::check(image);
-    let answer = checked.answer;
+    let answer = image::judge(image);
     match answer {
         Answer::Refused(r) => Counted::Refused(r),
-        Answer::Accepted { version: _, ranges } => {
+        Answer::Accepted { version: _, ranges: _ } => {
             if MAX_SCRIPT < text.len() {
                 return Counted::Refused(Refusal::TextLength);
             }
-            let profile = checked.profile;
-            let points = profile.points;
-            let roles = profile.roles;
-            token::list_checked(image, ranges, &points, &roles, profile.used, text, out)
+            token::list_checked(image, text, out)
         }
     }
 }
@@ -77,12 +73,13 @@ pub fn list_input(input: &[u8], out: &mut [u32]) -> Counted
     list_script(&input[..end], &input[end..], out)
 }
 
-// The answer for the whole input, of which at most `limit` bytes were read.
-pub fn list_read(input: &[u8], limit: usize, out: &mut [u32]) -> Counted
-    requires { ⌜ (maxImage + maxScript < limit) × (length (now out) ≡ recordSize * maxScript) ⌝ }
-    ensures { λ r. ⌜ r ≡ countedBy (listedFrom (now (input .entry)) (length (now (out .entry)))) ⌝ }
-    ensures { λ r. ⌜ ((whole : List ℕ) → take limit whole ≡ now (input .entry) → r ≡ wholeAnswer whole) ⌝ }
-    ensures { λ r. ⌜ now (out .exit) ≡ wordsAfter (now (input .entry)) (now (out .entry)) ⌝ }
+// The answer for the whole input, of which the first n bytes were read into a buffer: all, if they don't fill it.
+pub fn list_read(buffer: &[u8], n: usize, out: &mut [u32]) -> Counted
+    requires { ⌜ n ≤ length (now buffer) ⌝ }
+    requires { ⌜ (maxImage + maxScript < length (now buffer)) × (length (now out) ≡ recordSize * maxScript) ⌝ }
+    ensures { λ r. ⌜ r ≡ countedBy (listedFrom (take n (now (buffer .entry))) (length (now (out .entry)))) ⌝ }
+    ensures { λ r. ⌜ ((whole : List ℕ) → take (length (now (buffer .entry))) whole ≡ take n (now (buffer .entry)) → r ≡ wholeAnswer whole) ⌝ }
+    ensures { λ r. ⌜ now (out .exit) ≡ wordsAfter (take n (now (buffer .entry))) (now (out .entry)) ⌝ }
 {
-    list_input(input, out)
+    list_input(&buffer[..n], out)
 }

@@ -16,8 +16,7 @@ use Rattle.image.specs.Ranges.{holds, classIn}
 use Rattle.image.specs.Profile.{pointAt, roleAt, roleBy, afterRole, isMedial}
 use Rattle.image.specs.Check.{refusalOf, rangeClass, entryRole, classOf, medialOf}
 use Rattle.image.specs.declared.Range.{Range}
-use Rattle.image.proofs.ImageLaws.{accepted}
-use Rattle.image.proofs.GoodLaws.{good-range, good-entry}
+use Rattle.image.proofs.ImageLaws.{accepted, accepted-size}
 use Rattle.image.proofs.RoleLaws.{class-after, medial-by, after-known}
 use Rattle.lookup.specs.declared.Section.{Section}
 use Rattle.lookup.specs.declared.Section.the-variants.{Ranges, Entries}
@@ -65,7 +64,7 @@ module _ (s : List ℕ) (x : ℕ) where
 
 module _ (s : List ℕ) (a : refusalOf s ≡ none) where
   pub fits : Fits s
-  fits = let h = accepted s a .header in record { few-ranges = h .few-ranges; few-entries = h .few-entries; size = h .size }
+  fits = let h = accepted s a .header in record { few-ranges = h .few-ranges; few-entries = h .few-entries; size = accepted-size s a }
 
   pub few-records : (section : Section) → recordCount s section ≤ maxRanges
   few-records Ranges = fits .few-ranges
@@ -75,7 +74,7 @@ module _ (s : List ℕ) (a : refusalOf s ≡ none) where
   records-rise Ranges = ranges-rise _ _ (accepted s a .ranges)
   records-rise Entries =
       let good = accepted s a .entries in
-      record { ordered = λ i l. omega arith; after = λ i h l. good-entry (pointAt s) (roleAt s) i (good i l) .rises h }
+      record { ordered = λ i l. omega arith; after = λ i h l. good i l .rises h }
 
   -- what the search in a section finds
   pub found-at : (section : Section) (x : ℕ) → Sought (recordAt s section) (recordCount s section) (records-rise section) x (seekOf (recordAt s section) 0 (recordCount s section) x)

@@ -1,34 +1,37 @@
 -- A token's bytes: 13, or that part of the text (docs/RULES.md, "Tokens" and "Named refusals").
-use Prim.Native.Nat.{ℕ, _-_}
-use mathlib.Core.Bool.{Bool, true, false}
-use mathlib.Core.List.{List, []}
-use mathlib.Core.Option.{Option, none, some}
+use Prim.Native.Nat.{ℕ, _+_, _-_, _<_}
+use mathlib.Core.Path.{_≡_}
+use mathlib.Core.List.{List, [], _++_}
+use mathlib.Core.Logic.{_⊎_}
 use lib.ListN.{length, take, drop}
 use lib.Dec.{ltb}
-use Rattle.refusal.specs.declared.Refusal.{Refusal}
 use Rattle.refusal.specs.declared.Refusal.the-variants as refusal
 use Rattle.refusal.specs.Refusal.{numberOf}
+use Rattle.refusal.specs.Outcome.{Outcome, given, refused, unless, refusedIf}
 
-abbrev pub refuseIf : Bool → Option Refusal → Option Refusal
-refuseIf true o = some refusal.Shape
-refuseIf false o = o
-
--- 13 where the start is after the end, or the end past the text's end
-unfoldable pub partRefusal : List ℕ → ℕ → ℕ → Option Refusal
-partRefusal text start end = refuseIf (ltb end start) (refuseIf (ltb (length text) end) none)
+-- 13 where the start is after the end, or the end past the text's end; else the part
+unfoldable pub partOf : List ℕ → ℕ → ℕ → Outcome (List ℕ)
+partOf text start end =
+    unless (refusedIf (ltb end start) refusal.Shape)
+    (unless (refusedIf (ltb (length text) end) refusal.Shape) (given (take (end - start) (drop start text))))
 
 -- the refusal's number, or 0
-abbrev pub numberBy : Option Refusal → ℕ
-numberBy none = 0
-numberBy (some r) = numberOf r
+abbrev pub numberBy : Outcome (List ℕ) → ℕ
+numberBy (given b) = 0
+numberBy (refused r) = numberOf r
 
-unfoldable pub partNumber : List ℕ → ℕ → ℕ → ℕ
-partNumber text start end = numberBy (partRefusal text start end)
+abbrev pub partNumber : List ℕ → ℕ → ℕ → ℕ
+partNumber text start end = numberBy (partOf text start end)
 
 -- the part; empty where it is refused
-abbrev pub partBy : List ℕ → Option Refusal → List ℕ
-partBy part none = part
-partBy part (some r) = []
+abbrev pub bytesBy : Outcome (List ℕ) → List ℕ
+bytesBy (given b) = b
+bytesBy (refused r) = []
 
-unfoldable pub partBytes : List ℕ → ℕ → ℕ → List ℕ
-partBytes text start end = partBy (take (end - start) (drop start text)) (partRefusal text start end)
+abbrev pub partBytes : List ℕ → ℕ → ℕ → List ℕ
+partBytes text start end = bytesBy (partOf text start end)
+
+-- what each answer means
+pub data PartMeans (text : List ℕ) (start end : ℕ) : Outcome (List ℕ) → Type 0 where
+  misplaced : (end < start) ⊎ (length text < end) → PartMeans text start end (refused refusal.Shape)
+  part : (before bytes after : List ℕ) → text ≡ before ++ (bytes ++ after) → start ≡ length before → end ≡ length before + length bytes → PartMeans text start end (given bytes)

@@ -40,7 +40,8 @@ pub record Turn (s text : List ℕ) (at len traits : ℕ) : Type 0 where
 
 pub turn : (s text : List ℕ) (at : ℕ) (r : Read) → at < length text → ReadAs s text at r → 0 < r .len → Turn s text at (r .len) (r .traits)
 turn s text at r h a p =
-    let (x, e, k) = a .some p in
+    let (e, k) = a .some p in
+    let x = r .code in
     let t = text-turn text at x (r .len) (omega arith) e in
     record {
       code = x;

@@ -1,9 +1,10 @@
 // The one-pass reader of tokens under a checked image: counting, writing, and the first token.
 ghost use mathlib.Core.Path.{_≡_};
 ghost use mathlib.Core.Bool.{false};
+ghost use mathlib.Core.Option.{none};
 ghost use Prim.Native.Nat.{_+_, _*_, _≤_, _<_};
 ghost use lib.ListN.{length, drop};
-ghost use Rattle.character.specs.Opened.{Opened};
+ghost use Rattle.image.specs.Check.{refusalOf};
 ghost use Rattle.character.specs.Read.{TableOf};
 ghost use Rattle.scan.specs.Traits.{continueIn, kindFor, goesOn, turnOf, afterOf, turnTable, kindTable};
 ghost use Rattle.scan.specs.Rest.{continuesAt, endFrom};
@@ -14,7 +15,6 @@ ghost use Rattle.lists.specs.Laid.{laid};
 ghost use Rattle.utf8.specs.Text.{textOf};
 ghost use Rattle.grammar.specs.Record.{recordSize, listedWords};
 ghost use Rattle.grammar.specs.Reading.{maxText, readingOf};
-use image::MAX_ENTRIES;
 use refusal::Refusal;
 use utf8::Text;
 
@@ -158,23 +158,15 @@ fn kind_after(kinds: &[u32; 16], traits: u32) -> u32
 }
 
 // Whether a Continue stands at a place.
-fn continues_at<'a>(
-    image: &'a [u8],
-    n: usize,
-    points: &'a [u32; MAX_ENTRIES],
-    roles: &'a [u32; MAX_ENTRIES],
-    used: usize,
-    text: &'a [u8],
-    at: usize,
-) -> bool
-    requires { ⌜ Opened (now image) n (now points) (now roles) used ⌝ }
+fn continues_at<'a>(image: &'a [u8], text: &'a [u8], at: usize) -> bool
+    requires { ⌜ refusalOf (now image) ≡ none ⌝ }
     ensures { λ r. ⌜ r ≡ continuesAt (now (image .entry)) (now (text .entry)) at ⌝ }
 {
     if text.len() <= at {
         return false;
     }
     let memo = character::no_memo();
-    let c = character::read_decoded(image, n, points, roles, used, memo, text, at);
+    let c = character::read_decoded(image, memo, text, at);
     if c.len == 0 {
         return false;
     }
@@ -182,18 +174,8 @@ fn continues_at<'a>(
 }
 
 // Whether a token of this kind goes on with a character of these traits, before the place `next`.
-fn goes_on<'a>(
-    kind: u32,
-    traits: u32,
-    image: &'a [u8],
-    n: usize,
-    points: &'a [u32; MAX_ENTRIES],
-    roles: &'a [u32; MAX_ENTRIES],
-    used: usize,
-    text: &'a [u8],
-    next: usize,
-) -> bool
-    requires { ⌜ Opened (now image) n (now points) (now roles) used ⌝ }
+fn goes_on<'a>(kind: u32, traits: u32, image: &'a [u8], text: &'a [u8], next: usize) -> bool
+    requires { ⌜ refusalOf (now image) ≡ none ⌝ }
     ensures { λ r. ⌜ r ≡ goesOn kind traits (continuesAt (now (image .entry)) (now (text .entry)) next) ⌝ }
 {
     if kind == 1 {
@@ -203,7 +185,7 @@ fn goes_on<'a>(
         if traits < 8 {
             return false;
         }
-        return continues_at(image, n, points, roles, used, text, next);
+        return continues_at(image, text, next);
     }
     if kind == 3 {
         return traits % 8 == 4;
@@ -224,16 +206,8 @@ fn refuse_at(text: &[u8], at: usize) -> Refusal
 }
 
 // The number of tokens.
-pub fn count_tokens<'a>(
-    image: &'a [u8],
-    n: usize,
-    points: &'a [u32; MAX_ENTRIES],
-    roles: &'a [u32; MAX_ENTRIES],
-    used: usize,
-    table: &'a [u8; 128],
-    text: &'a [u8],
-) -> Counted
-    requires { ⌜ Opened (now image) n (now points) (now roles) used ⌝ }
+pub fn count_tokens<'a>(image: &'a [u8], table: &'a [u8; 128], text: &'a [u8]) -> Counted
+    requires { ⌜ refusalOf (now image) ≡ none ⌝ }
     requires { ⌜ TableOf (now image) (now table) ⌝ }
     ensures { λ r. ⌜ r ≡ countThrough (now (image .entry)) (now (text .entry)) ⌝ }
 {
@@ -244,7 +218,7 @@ pub fn count_tokens<'a>(
     let mut count: usize = 0;
     let mut at = 0;
     while at < text.len() {
-        let c = character::read(image, n, points, roles, used, table, memo, text, at);
+        let c = character::read(image, table, memo, text, at);
         let len = c.len;
         if len == 0 {
             return Counted::Refused(Refusal::IllFormed(at));
@@ -258,7 +232,7 @@ pub fn count_tokens<'a>(
             at = next;
             continue;
         }
-        if goes_on(kind, c.traits, image, n, points, roles, used, text, next) {
+        if goes_on(kind, c.traits, image, text, next) {
             at = next;
             continue;
         }
@@ -295,17 +269,8 @@ fn pick_start(turn: usize, start: usize, at: usize) -> usize
 
 // The words of all tokens up to where no token begins or the text is ill-formed. After each character the record of the token that
 // it is in ends there: the loop has no test for where tokens end.
-pub fn write_tokens<'a>(
-    image: &'a [u8],
-    n: usize,
-    points: &'a [u32; MAX_ENTRIES],
-    roles: &'a [u32; MAX_ENTRIES],
-    used: usize,
-    table: &'a [u8; 128],
-    text: &'a [u8],
-    out: &mut [u32],
-)
-    requires { ⌜ Opened (now image) n (now points) (now roles) used ⌝ }
+pub fn write_tokens<'a>(image: &'a [u8], table: &'a [u8; 128], text: &'a [u8], out: &mut [u32])
+    requires { ⌜ refusalOf (now image) ≡ none ⌝ }
     requires { ⌜ TableOf (now image) (now table) ⌝ }
     requires { ⌜ length (now text) ≤ maxText ⌝ }
     requires { ⌜ recordSize * length (readingOf (now image) (now text) .tokens) ≤ length (now out) ⌝ }
@@ -319,7 +284,7 @@ pub fn write_tokens<'a>(
     let mut at = 0;
     let mut w = 0;
     while at < text.len() {
-        let c = character::read(image, n, points, roles, used, table, memo, text, at);
+        let c = character::read(image, table, memo, text, at);
         let len = c.len;
         if len == 0 {
             return;
@@ -335,7 +300,7 @@ pub fn write_tokens<'a>(
             at = next;
             continue;
         }
-        if goes_on(kind, c.traits, image, n, points, roles, used, text, next) {
+        if goes_on(kind, c.traits, image, text, next) {
             put_token(&mut out[w - RECORD_WORDS..], kind, start, next);
             at = next;
             continue;
@@ -354,30 +319,26 @@ pub fn write_tokens<'a>(
 // Where the token of this kind that is under way at a place ends.
 fn find_end<'a>(
     image: &'a [u8],
-    n: usize,
-    points: &'a [u32; MAX_ENTRIES],
-    roles: &'a [u32; MAX_ENTRIES],
-    used: usize,
     table: &'a [u8; 128],
     text: &'a [u8],
     kind: u32,
     from: usize,
 ) -> usize
-    requires { ⌜ Opened (now image) n (now points) (now roles) used ⌝ }
+    requires { ⌜ refusalOf (now image) ≡ none ⌝ }
     requires { ⌜ TableOf (now image) (now table) ⌝ }
     ensures { λ r. ⌜ r ≡ endFrom (now (image .entry)) (now (text .entry)) kind from ⌝ }
 {
     let mut memo = character::no_memo();
     let mut at = from;
     while at < text.len() {
-        let c = character::read(image, n, points, roles, used, table, memo, text, at);
+        let c = character::read(image, table, memo, text, at);
         let len = c.len;
         if len == 0 {
             return at;
         }
         memo = c.memo;
         let next = at + len;
-        if goes_on(kind, c.traits, image, n, points, roles, used, text, next) {
+        if goes_on(kind, c.traits, image, text, next) {
             at = next;
             continue;
         }
@@ -387,33 +348,15 @@ fn find_end<'a>(
 }
 
 // The first token of a text.
-pub fn first_token<'a>(
-    image: &'a [u8],
-    n: usize,
-    points: &'a [u32; MAX_ENTRIES],
-    roles: &'a [u32; MAX_ENTRIES],
-    used: usize,
-    table: &'a [u8; 128],
-    text: &'a [u8],
-) -> First
-    requires { ⌜ Opened (now image) n (now points) (now roles) used ⌝ }
+pub fn first_token<'a>(image: &'a [u8], table: &'a [u8; 128], text: &'a [u8]) -> First
+    requires { ⌜ refusalOf (now image) ≡ none ⌝ }
     requires { ⌜ TableOf (now image) (now table) ⌝ }
     ensures { λ r. ⌜ r ≡ firstOf (now (image .entry)) (now (text .entry)) ⌝ }
 {
     if text.len() == 0 {
         return First::Nothing;
     }
-    let c = character::read(
-        image,
-        n,
-        points,
-        roles,
-        used,
-        table,
-        character::no_memo(),
-        text,
-        0,
-    );
+    let c = character::read(image, table, character::no_memo(), text, 0);
     let len = c.len;
     if len == 0 {
         return First::IllFormed;
@@ -424,6 +367,6 @@ pub fn first_token<'a>(
     }
     First::Token {
         kind,
-        end: find_end(image, n, points, roles, used, table, text, kind, len),
+        end: find_end(image, table, text, kind, len),
     }
 }

@@ -2,7 +2,7 @@
 use Prim.Native.Nat.{ℕ, _+_, _-_, _≤_, _<_}
 use mathlib.Core.Path.{_≡_, refl, sym, ap, _∙_}
 use mathlib.Core.List.{List, [], _∷_}
-use mathlib.Core.Option.{none}
+use mathlib.Core.Option.{none, some}
 use native.Mathlib.Omega.{arith}
 use lib.ListN.{length, take, drop, length-drop}
 use borrow.Author.Tests.{lt-ltb, le-ltb, eq-eqb, ne-eqb}
@@ -17,10 +17,7 @@ use Rattle.utf8.specs.Head.{stepOf}
 use Rattle.utf8.specs.Text.{Character, decode, widthOf, textOf}
 use Rattle.utf8.proofs.SequenceLaws.{end-empty, ill-not-empty}
 use Rattle.utf8.proofs.TextLaws.{step-bounds, decode-scalar, text-ill, text-end, well-rest, ill-rest, decode-covers, decode-before-ill}
-use Rattle.image.specs.Check.{refusalOf, checkOf}
-use Rattle.image.specs.declared.Answer.the-variants as answer
-use Rattle.image.specs.declared.Checked.{Checked}
-use Rattle.image.proofs.ImageLaws.{says as check-says}
+use Rattle.image.specs.Check.{refusalOf}
 use Rattle.grammar.specs.Scan.{Tok, unitsOf, reading}
 use Rattle.grammar.specs.Grammar.{Kind}
 use Rattle.grammar.specs.Record.{tokenWidth, tokensWidth}
@@ -110,9 +107,9 @@ first-within s text k e f =
 
 module _ (s text : List ℕ) (place : ℕ) where
   -- 1 to 4
-  pub taken-refused : (k : Checked) → k ≡ checkOf s → (r : Refusal) → k .answer ≡ answer.Refused r → Refused r ≡ takenOf s text place
+  pub taken-refused : {r : Refusal} → refusalOf s ≡ some r → Refused r ≡ takenOf s text place
   unfolding takenOf
-  taken-refused k e r f = rw (check-says s k e (answer.Refused r) f .0)
+  taken-refused e = rw e
 
   module _ (accepted : refusalOf s ≡ none) where
     -- 5

@@ -1,56 +1,79 @@
 //! The rival and the reader agree.
 
+use luffinarc::{write_image, Image, Profile, Role, TOKEN_WORDS};
 use luffinarc_bench::rival::{check, Refused, Tables};
 use luffinarc_bench::texts;
 use luffinarc_reader::cases::{self, Rng};
-use luffinarc_reader::{image, list, Refusal};
+use luffinarc_reader::{kind, list, Refusal};
 
 const IMAGE: &str = concat!(env!("CARGO_MANIFEST_DIR"), "/../data/images/unicode-16.0.img");
 
-fn tables(image: &image::Image) -> Tables {
-    let words: Vec<u32> = image.ranges.iter().flat_map(|r| [r.first, r.last, r.class]).collect();
-    Tables::new(&words, &image.profile.entries())
+fn tables(image: &Image) -> Tables {
+    let profile: Vec<(u32, Role)> = image.profile().entries().collect();
+    Tables::new(&image.ranges(), &profile)
+}
+
+/// The 16.0 image with a profile.
+fn with_profile(profile: &[(u32, Role)]) -> Vec<u8> {
+    let bytes = std::fs::read(IMAGE).unwrap();
+    let image = Image::check(&bytes).unwrap();
+    write_image(image.version(), &image.ranges(), &Profile::new(profile)).unwrap()
 }
 
 /// The reader's list of a text.
 fn read(image: &[u8], text: &[u8]) -> Result<Vec<u32>, Refusal> {
-    let mut words = vec![0; 3 * text.len()];
+    let mut words = vec![0; TOKEN_WORDS * text.len()];
     let count = list(image, text, &mut words)?;
-    words.truncate(3 * count);
+    words.truncate(TOKEN_WORDS * count);
     Ok(words)
 }
 
 /// The rival's list of a text, its refusals named as the reader's.
 fn rival(tables: &Tables, text: &[u8]) -> Result<Vec<u32>, Refusal> {
-    let mut words = Vec::with_capacity(3 * text.len());
+    let mut words = Vec::with_capacity(TOKEN_WORDS * text.len());
     let listed = tables.list(text, &mut words);
     assert_eq!(tables.count(text), listed);
     match listed {
-        Ok(count) => assert_eq!(3 * count, words.len()),
-        Err(Refused::TooLong) => return Err(Refusal::TextLength),
+        Ok(count) => assert_eq!(TOKEN_WORDS * count, words.len()),
+        Err(Refused::TextLength) => return Err(Refusal::TextLength),
         Err(Refused::IllFormed(place)) => return Err(Refusal::IllFormed(place as u64)),
-        Err(Refused::NoToken(place)) => return Err(Refusal::NoToken(place as u64)),
+        Err(Refused::Characters(place)) => return Err(Refusal::Characters(place as u64)),
     }
     Ok(words)
 }
 
+/// The rival, the library and the reader list a text alike; gives the number of its tokens.
+fn agree(bytes: &[u8], name: &str, text: &str) -> usize {
+    let image = Image::check(bytes).unwrap();
+    let tokens = read(bytes, text.as_bytes()).unwrap_or_else(|r| panic!("{name}: {r}"));
+    assert!(rival(&tables(&image), text.as_bytes()).unwrap() == tokens, "{name}");
+    let mut words = vec![0; tokens.len()];
+    assert_eq!(image.list(text, &mut words), Ok(tokens.len() / TOKEN_WORDS), "{name}");
+    assert!(words == tokens, "{name}");
+    tokens.len() / TOKEN_WORDS
+}
+
+/// On every text, under its profile and under others.
 #[test]
 fn on_the_texts() {
-    let plain = std::fs::read(IMAGE).unwrap();
-    let read_plain = image::parse(&plain).unwrap();
-    let medials = cases::image_of(&image::Image {
-        profile: luffinarc_reader::Profile::of(&[(0x2D, 3), (0x2E, 3), (0x5F, 1), (0xB7, 3)]),
-        ..read_plain.clone()
-    });
-    for image in [plain, medials] {
-        let tables = tables(&image::parse(&image).unwrap());
-        for (name, text) in texts::all() {
-            assert_eq!(text.len(), texts::LENGTH);
-            let tokens = read(&image, text.as_bytes()).unwrap_or_else(|r| panic!("{name}: {r}"));
-            assert!(tokens.len() > 3 * 50_000, "{name}: {} tokens", tokens.len() / 3);
-            assert!(rival(&tables, text.as_bytes()).unwrap() == tokens, "{name}");
-        }
+    let more =
+        [(0x2D, Role::Medial), (0x2E, Role::Medial), (0x5F, Role::Start), (0xB7, Role::Medial)];
+    for sample in texts::all() {
+        assert_eq!(sample.text.len(), texts::LENGTH);
+        let counts = [&[][..], &texts::MEDIALS, &more]
+            .map(|profile| agree(&with_profile(profile), sample.name, &sample.text));
+        assert!(counts.iter().all(|&count| count > 50_000), "{}: {counts:?}", sample.name);
     }
+}
+
+/// Under their profile dotted names are identifiers, with white space between.
+#[test]
+fn dotted_names() {
+    let text = texts::dotted();
+    let tokens = read(&with_profile(&texts::MEDIALS), text.as_bytes()).unwrap();
+    let of = |kind| tokens.chunks(TOKEN_WORDS).filter(|token| token[0] == kind).count();
+    let names = text.split_ascii_whitespace().count();
+    assert_eq!((of(kind::IDENTIFIER), of(kind::SYNTAX)), (names, 0));
 }
 
 #[test]
@@ -59,7 +82,7 @@ fn on_made_cases() {
     let mut accepted = 0;
     for _ in 0..1000 {
         let case = cases::count_case(&mut rng);
-        let image = match image::parse(&case.image) {
+        let image = match Image::check(&case.image) {
             Ok(image) => image,
             Err(_) => continue,
         };

@@ -2,6 +2,7 @@
 
 use crate::calls::{self, Answer, Entries};
 use crate::ffi;
+use crate::names::{Class, Role};
 use crate::refusal::{result, PairRefusal, Refusal};
 
 /// The most ranges that an image may have.
@@ -13,46 +14,12 @@ pub const MAX_ENTRIES: usize = 64;
 /// The bytes of the largest image.
 pub const MAX_IMAGE: usize = 32 + 12 * MAX_RANGES + 8 * MAX_ENTRIES;
 
-/// The class of a code point.
-#[derive(Clone, Copy, Debug, PartialEq, Eq, Hash)]
-pub enum Class {
-    /// In no range.
-    Unassigned = 0,
-    /// May begin an identifier.
-    Start = 1,
-    /// May continue an identifier, not begin one.
-    Nonstart = 2,
-    /// A syntax character.
-    Syntax = 3,
-    /// White space.
-    White = 4,
-    /// Assigned, and none of these.
-    Other = 5,
-}
+/// The words of a range in a list: first, last, class.
+pub const RANGE_WORDS: usize = 3;
 
-impl Class {
-    /// The class with this number, if one has it.
-    pub fn from_number(number: u32) -> Option<Class> {
-        match number {
-            0 => Some(Class::Unassigned),
-            1 => Some(Class::Start),
-            2 => Some(Class::Nonstart),
-            3 => Some(Class::Syntax),
-            4 => Some(Class::White),
-            5 => Some(Class::Other),
-            _ => None,
-        }
-    }
-
-    /// The class's number.
-    pub fn number(self) -> u32 {
-        self as u32
-    }
-
-    /// Of a number that the library gave.
-    fn given(number: u64) -> Class {
-        Class::from_number(number as u32).expect("the library gives classes 0 to 5")
-    }
+/// The class with a number that the library gave.
+fn given_class(number: u32) -> Class {
+    Class::from_number(number).expect("the library gives classes 0 to 5")
 }
 
 /// Code points from `first` to `last` of one class.
@@ -66,7 +33,7 @@ pub struct Range {
     pub class: Class,
 }
 
-/// A profile: code points with roles. 1 makes a code point Start, 2 Nonstart, 3 marks it medial, 4 makes it Other.
+/// A profile: code points with roles.
 #[derive(Clone, Copy, Debug)]
 pub struct Profile {
     points: Entries,
@@ -77,19 +44,20 @@ pub struct Profile {
 impl Profile {
     /// The profile with these entries, code point and role. Writing an image judges them: they rise, and there are at
     /// most [`MAX_ENTRIES`].
-    pub fn new(entries: &[(u32, u32)]) -> Profile {
+    pub fn new(entries: &[(u32, Role)]) -> Profile {
         let mut profile = Profile { used: entries.len(), ..Profile::default() };
         for (i, &(point, role)) in entries.iter().take(MAX_ENTRIES).enumerate() {
             profile.points[i] = point;
-            profile.roles[i] = role;
+            profile.roles[i] = role.number();
         }
         profile
     }
 
     /// The entries: code point and role.
-    pub fn entries(&self) -> impl Iterator<Item = (u32, u32)> + '_ {
+    pub fn entries(&self) -> impl Iterator<Item = (u32, Role)> + '_ {
         let used = self.used.min(MAX_ENTRIES);
-        (0..used).map(|i| (self.points[i], self.roles[i]))
+        let role = |number| Role::from_number(number).expect("a profile has roles 1 to 4");
+        (0..used).map(move |i| (self.points[i], role(self.roles[i])))
     }
 }
 
@@ -154,7 +122,7 @@ impl<'a> Image<'a> {
     ///
     /// # Errors
     ///
-    /// [`Refusal::ImageLength`], [`Refusal::Header`], [`Refusal::Range`] or [`Refusal::ProfileEntry`], the first that
+    /// [`Refusal::Length`], [`Refusal::Header`], [`Refusal::Range`] or [`Refusal::Entry`], the first that
     /// applies.
     pub fn check(bytes: &'a [u8]) -> Result<Image<'a>, Refusal> {
         let mut answer = Answer::default();
@@ -182,14 +150,14 @@ impl<'a> Image<'a> {
 
     /// The ranges, rising.
     pub fn ranges(&self) -> Vec<Range> {
-        let mut words = vec![0; 3 * self.ranges];
+        let mut words = vec![0; RANGE_WORDS * self.ranges];
         let mut profile = Profile::default();
         let mut answer = Answer::default();
         let (points, roles) = (&mut profile.points, &mut profile.roles);
         let number = calls::read(self.bytes, &mut words, points, roles, &mut answer);
         assert_eq!(number, 0, "an accepted image is read, and its ranges have room");
-        let range = |w: &[u32]| Range { first: w[0], last: w[1], class: Class::given(w[2].into()) };
-        words.chunks_exact(3).map(range).collect()
+        let range = |w: &[u32]| Range { first: w[0], last: w[1], class: given_class(w[2]) };
+        words.chunks_exact(RANGE_WORDS).map(range).collect()
     }
 
     /// The class of a number after the profile, and how many ranges were looked at.
@@ -214,7 +182,7 @@ impl<'a> Image<'a> {
             )
         };
         let [class, looked_at, _, _] = result(refused, answer)?;
-        Ok(Found { class: Class::given(class), looked_at: looked_at as u32 })
+        Ok(Found { class: given_class(class as u32), looked_at: looked_at as u32 })
     }
 
     /// The class of a character after the profile.
@@ -227,7 +195,7 @@ impl<'a> Image<'a> {
 ///
 /// # Errors
 ///
-/// [`Refusal::Header`] for too many ranges or entries, [`Refusal::Range`] or [`Refusal::ProfileEntry`] for a bad one.
+/// [`Refusal::Header`] for too many ranges or entries, [`Refusal::Range`] or [`Refusal::Entry`] for a bad one.
 pub fn write_image(version: u32, ranges: &[Range], profile: &Profile) -> Result<Vec<u8>, Refusal> {
     let word = |range: &Range| [range.first, range.last, range.class.number()];
     let words: Vec<u32> = ranges.iter().flat_map(word).collect();
@@ -244,8 +212,8 @@ pub fn write_image(version: u32, ranges: &[Range], profile: &Profile) -> Result<
 ///
 /// # Errors
 ///
-/// The refusal of the older image, else of the newer; [`Refusal::UnequalProfiles`], else
-/// [`Refusal::ForbiddenChange`], of the pair.
+/// The refusal of the older image, else of the newer; [`Refusal::Profiles`], else
+/// [`Refusal::Change`], of the pair.
 pub fn check_pair(older: &[u8], newer: &[u8]) -> Result<(), PairRefusal> {
     let mut answer = Answer::default();
     let number = calls::pair(older, newer, &mut answer);

@@ -8,7 +8,7 @@
 //! once, and the calls on it do not check it again.
 //!
 //! ```
-//! use luffinarc::{write_image, Class, Image, Kind, Profile, Range, Refusal};
+//! use luffinarc::{write_image, Class, Image, Kind, Profile, Range, Refusal, Role};
 //!
 //! fn main() -> Result<(), Refusal> {
 //!     let range = |first: char, last: char, class| Range { first: first.into(), last: last.into(), class };
@@ -20,7 +20,8 @@
 //!         range('a', 'z', Class::Start),
 //!     ];
 //!     // A full stop between letters or digits is part of the identifier.
-//!     let bytes = write_image(1_048_576, &ranges, &Profile::new(&[('.'.into(), 3)]))?;
+//!     let profile = Profile::new(&[('.'.into(), Role::Medial)]);
+//!     let bytes = write_image(1_048_576, &ranges, &profile)?;
 //!
 //!     let image = Image::check(&bytes)?;
 //!     assert_eq!(image.class('7'), Class::Nonstart);
@@ -40,12 +41,14 @@
 pub mod calls;
 mod ffi;
 mod image;
+mod names;
 mod refusal;
 mod token;
 
 pub use image::{
-    check_pair, write_image, Class, Found, Image, Profile, Range, MAX_ENTRIES, MAX_IMAGE,
-    MAX_RANGES,
+    check_pair, write_image, Found, Image, Profile, Range, MAX_ENTRIES, MAX_IMAGE, MAX_RANGES,
+    RANGE_WORDS,
 };
+pub use names::{Class, Kind, Role};
 pub use refusal::{PairRefusal, Refusal};
-pub use token::{part, Kind, Token, Tokens, MAX_TEXT, TOKEN_WORDS};
+pub use token::{part, Token, Tokens, MAX_TEXT, TOKEN_WORDS};

@@ -3,12 +3,12 @@
 use crate::calls::Answer;
 use std::fmt;
 
-/// A named refusal. [`number`](Refusal::number) gives the number that all documents use for it.
+/// A named refusal. Its name and number are the same in all documents, in C and in Rattle.
 #[derive(Clone, Copy, Debug, PartialEq, Eq, Hash)]
 #[non_exhaustive]
 pub enum Refusal {
-    /// 1: the image is too short or too long, or not of its header's total length.
-    ImageLength,
+    /// 1: the image is too short or too long, or not of the header's total length.
+    Length,
     /// 2: a word of the image's header is wrong, or a count is above its limit.
     Header,
     /// 3: a range is bad.
@@ -17,25 +17,25 @@ pub enum Refusal {
         index: usize,
     },
     /// 4: a profile entry is bad.
-    ProfileEntry {
+    Entry {
         /// The index of the first bad one.
         index: usize,
     },
-    /// 5: the text has more than [`MAX_TEXT`](crate::MAX_TEXT) bytes.
+    /// 5: the text is too long.
     TextLength,
-    /// 6: no well-formed UTF-8 sequence begins here.
+    /// 6: no well-formed UTF-8 sequence begins at a byte place, the first such.
     IllFormed {
-        /// The byte place, the first such.
+        /// The byte place.
         place: usize,
     },
-    /// 7: no token begins here, after the longest run of tokens.
+    /// 7: no token begins at a byte place, after the longest run of tokens.
     Characters {
         /// The byte place.
         place: usize,
     },
-    /// 8: the buffer for tokens or ranges has too little room.
+    /// 8: more room is needed.
     Room {
-        /// The records that need room.
+        /// The number of records.
         needed: usize,
     },
     /// 9: the number is no scalar value.
@@ -43,80 +43,96 @@ pub enum Refusal {
         /// The number.
         number: u32,
     },
-    /// 10: the newer image has a change that Table 1 of UAX #31 does not permit.
-    ForbiddenChange {
+    /// 10: a forbidden change.
+    Change {
         /// The smallest code point with one.
         code_point: u32,
     },
-    /// 11: the two images have unequal profiles.
-    UnequalProfiles,
+    /// 11: the profile sections are unequal.
+    Profiles,
     /// 12: the buffer for an image is too short.
     Buffer {
         /// The bytes needed.
         needed: usize,
     },
-    /// 13: a list of words is no multiple of three, a place is past the text's end, or a start is after its end.
+    /// 13: a list of words is no multiple of its record's words, or a place lies past the text's end, or a start after
+    /// an end.
     Shape,
 }
 
 impl Refusal {
-    /// The refusal with this number and what it carries.
-    pub(crate) fn named(number: u32, answer: &Answer) -> Refusal {
-        let carried = answer[0] as usize;
-        match number {
-            1 => Refusal::ImageLength,
-            2 => Refusal::Header,
-            3 => Refusal::Range { index: carried },
-            4 => Refusal::ProfileEntry { index: carried },
-            5 => Refusal::TextLength,
-            6 => Refusal::IllFormed { place: carried },
-            7 => Refusal::Characters { place: carried },
-            8 => Refusal::Room { needed: carried },
-            9 => Refusal::NotScalar { number: carried as u32 },
-            10 => Refusal::ForbiddenChange { code_point: carried as u32 },
-            11 => Refusal::UnequalProfiles,
-            12 => Refusal::Buffer { needed: carried },
-            13 => Refusal::Shape,
-            _ => unreachable!("no refusal has the number {number}"),
+    /// The number, and what the refusal carries.
+    fn row(&self) -> (u32, Option<u64>) {
+        match *self {
+            Refusal::Length => (1, None),
+            Refusal::Header => (2, None),
+            Refusal::Range { index } => (3, Some(index as u64)),
+            Refusal::Entry { index } => (4, Some(index as u64)),
+            Refusal::TextLength => (5, None),
+            Refusal::IllFormed { place } => (6, Some(place as u64)),
+            Refusal::Characters { place } => (7, Some(place as u64)),
+            Refusal::Room { needed } => (8, Some(needed as u64)),
+            Refusal::NotScalar { number } => (9, Some(number.into())),
+            Refusal::Change { code_point } => (10, Some(code_point.into())),
+            Refusal::Profiles => (11, None),
+            Refusal::Buffer { needed } => (12, Some(needed as u64)),
+            Refusal::Shape => (13, None),
         }
+    }
+
+    /// Every refusal; those that carry something carry this number.
+    fn all(carried: u64) -> [Refusal; 13] {
+        let (size, number) = (carried as usize, carried as u32);
+        [
+            Refusal::Length,
+            Refusal::Header,
+            Refusal::Range { index: size },
+            Refusal::Entry { index: size },
+            Refusal::TextLength,
+            Refusal::IllFormed { place: size },
+            Refusal::Characters { place: size },
+            Refusal::Room { needed: size },
+            Refusal::NotScalar { number },
+            Refusal::Change { code_point: number },
+            Refusal::Profiles,
+            Refusal::Buffer { needed: size },
+            Refusal::Shape,
+        ]
+    }
+
+    /// The refusal with this number, which the library gave, and this to carry, if it carries anything.
+    fn named(number: u32, carried: u64) -> Refusal {
+        let refusal = Refusal::all(carried).into_iter().find(|r| r.number() == number);
+        refusal.expect("the library gives refusals 1 to 13")
     }
 
     /// The refusal's number, 1 to 13.
     pub fn number(&self) -> u32 {
-        match self {
-            Refusal::ImageLength => 1,
-            Refusal::Header => 2,
-            Refusal::Range { .. } => 3,
-            Refusal::ProfileEntry { .. } => 4,
-            Refusal::TextLength => 5,
-            Refusal::IllFormed { .. } => 6,
-            Refusal::Characters { .. } => 7,
-            Refusal::Room { .. } => 8,
-            Refusal::NotScalar { .. } => 9,
-            Refusal::ForbiddenChange { .. } => 10,
-            Refusal::UnequalProfiles => 11,
-            Refusal::Buffer { .. } => 12,
-            Refusal::Shape => 13,
-        }
+        self.row().0
+    }
+
+    /// What the refusal carries, if anything.
+    pub fn carried(&self) -> Option<u64> {
+        self.row().1
     }
 }
 
 impl fmt::Display for Refusal {
     fn fmt(&self, f: &mut fmt::Formatter<'_>) -> fmt::Result {
         match self {
-            Refusal::ImageLength => write!(f, "the image has a wrong length"),
+            Refusal::Length => write!(f, "the image has a wrong length"),
             Refusal::Header => write!(f, "the image's header is wrong or a count is too large"),
             Refusal::Range { index } => write!(f, "range {index} is bad"),
-            Refusal::ProfileEntry { index } => write!(f, "profile entry {index} is bad"),
+            Refusal::Entry { index } => write!(f, "profile entry {index} is bad"),
             Refusal::TextLength => write!(f, "the text is too long"),
             Refusal::IllFormed { place } => write!(f, "ill-formed UTF-8 at byte {place}"),
             Refusal::Characters { place } => write!(f, "no token begins at byte {place}"),
             Refusal::Room { needed } => write!(f, "room for {needed} records is needed"),
             Refusal::NotScalar { number } => write!(f, "{number:X} hex is no scalar value"),
-            Refusal::ForbiddenChange { code_point } => {
+            Refusal::Change { code_point } => {
                 write!(f, "U+{code_point:04X} has a class that it may not change to")
             }
-            Refusal::UnequalProfiles => write!(f, "the images have unequal profiles"),
+            Refusal::Profiles => write!(f, "the images have unequal profiles"),
             Refusal::Buffer { needed } => write!(f, "a buffer of {needed} bytes is needed"),
             Refusal::Shape => write!(f, "a list, a place or a start does not fit"),
         }
@@ -130,7 +146,7 @@ pub(crate) fn result(number: u32, answer: Answer) -> Result<Answer, Refusal> {
     if number == 0 {
         Ok(answer)
     } else {
-        Err(Refusal::named(number, &answer))
+        Err(Refusal::named(number, answer[0]))
     }
 }
 

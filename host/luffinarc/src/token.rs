@@ -3,6 +3,7 @@
 use crate::calls::{self, Answer};
 use crate::ffi;
 use crate::image::{Image, Parts};
+use crate::names::Kind;
 use crate::refusal::{result, Refusal};
 use std::iter::FusedIterator;
 use std::ops::Range;
@@ -13,33 +14,9 @@ pub const MAX_TEXT: usize = 1_048_576;
 /// The words of a token in a list: kind, start byte, end byte.
 pub const TOKEN_WORDS: usize = 3;
 
-/// The kind of a token.
-#[derive(Clone, Copy, Debug, PartialEq, Eq, Hash)]
-#[non_exhaustive]
-pub enum Kind {
-    /// One Start, any number of Continue, then any number of groups of one medial and one or more Continue.
-    Identifier = 1,
-    /// One code point of class Syntax.
-    Syntax = 2,
-    /// One or more code points of class White.
-    Whitespace = 3,
-}
-
-impl Kind {
-    /// Of a number that the library gave.
-    fn given(number: u32) -> Kind {
-        match number {
-            1 => Kind::Identifier,
-            2 => Kind::Syntax,
-            3 => Kind::Whitespace,
-            _ => unreachable!("no kind has the number {number}"),
-        }
-    }
-
-    /// The kind's number.
-    pub fn number(self) -> u32 {
-        self as u32
-    }
+/// The kind with a number that the library gave.
+fn given_kind(number: u32) -> Kind {
+    Kind::from_number(number).expect("the library gives kinds 1 to 3")
 }
 
 /// A token: its kind and its bytes' places in the text.
@@ -64,7 +41,7 @@ impl Iterator for Tokens {
     fn next(&mut self) -> Option<Token> {
         let words = self.words.get(self.next..self.next + TOKEN_WORDS)?;
         self.next += TOKEN_WORDS;
-        Some(Token { kind: Kind::given(words[0]), range: words[1] as usize..words[2] as usize })
+        Some(Token { kind: given_kind(words[0]), range: words[1] as usize..words[2] as usize })
     }
 
     fn size_hint(&self) -> (usize, Option<usize>) {
@@ -191,7 +168,7 @@ impl Image<'_> {
             return Ok(None);
         }
         let [kind, start, end, _] = result(number, answer)?;
-        Ok(Some(Token { kind: Kind::given(kind as u32), range: start as usize..end as usize }))
+        Ok(Some(Token { kind: given_kind(kind as u32), range: start as usize..end as usize }))
     }
 }
 

@@ -1,6 +1,7 @@
 //! From sets of code points to the ranges of an image.
 
 use crate::ucd::{Sets, Span};
+use luffinarc::{Class, Range};
 
 const XID_START: u8 = 1;
 const XID_CONTINUE: u8 = 2;
@@ -24,13 +25,14 @@ fn mark(sets: &Sets) -> Vec<u8> {
     marks
 }
 
-/// The class of a code point in these sets, 0 for none.
-fn class(marks: u8) -> Result<u32, &'static str> {
+/// The class of a code point in these sets.
+fn class(marks: u8) -> Result<Class, &'static str> {
     let known = marks & ASSIGNED != 0;
     match marks & !ASSIGNED {
-        SYNTAX => Ok(3),
-        WHITE => Ok(4),
-        0 => Ok(if known { 5 } else { 0 }),
+        SYNTAX => Ok(Class::Syntax),
+        WHITE => Ok(Class::White),
+        0 if known => Ok(Class::Other),
+        0 => Ok(Class::Unassigned),
         m if m & (SYNTAX | WHITE) == SYNTAX | WHITE => {
             Err("in Pattern_Syntax and Pattern_White_Space")
         }
@@ -38,24 +40,23 @@ fn class(marks: u8) -> Result<u32, &'static str> {
         m if m & WHITE != 0 => Err("in an identifier class and Pattern_White_Space"),
         XID_START => Err("in XID_Start, not in XID_Continue"),
         _ if !known => Err("in an identifier class, not assigned"),
-        XID_CONTINUE => Ok(2),
-        _ => Ok(1),
+        XID_CONTINUE => Ok(Class::Nonstart),
+        _ => Ok(Class::Start),
     }
 }
 
-/// The ranges, three words each; neighbours of one class are joined.
-pub fn range_words(sets: &Sets) -> Result<Vec<u32>, String> {
+/// The ranges; neighbours of one class are joined.
+pub fn ranges(sets: &Sets) -> Result<Vec<Range>, String> {
     let marks = mark(sets);
-    let mut words: Vec<u32> = Vec::new();
+    let mut ranges: Vec<Range> = Vec::new();
     for point in (0..0xD800).chain(0xE000..0x110000) {
         let class =
             class(marks[point as usize]).map_err(|why| format!("U+{point:04X} is {why}"))?;
-        let length = words.len();
-        if length > 0 && words[length - 2] + 1 == point && words[length - 1] == class {
-            words[length - 2] = point;
-        } else if class != 0 {
-            words.extend([point, point, class]);
+        match ranges.last_mut() {
+            Some(range) if range.last + 1 == point && range.class == class => range.last = point,
+            _ if class == Class::Unassigned => {}
+            _ => ranges.push(Range { first: point, last: point, class }),
         }
     }
-    Ok(words)
+    Ok(ranges)
 }

@@ -12,12 +12,12 @@ use std::process::ExitCode;
 fn make(args: &[String]) -> Result<(), String> {
     let options = options::parse(args)?;
     let sets = ucd::read_folder(&options.folder)?;
-    let words = classes::range_words(&sets)?;
+    let ranges = classes::ranges(&sets)?;
     let profile = match &options.profile {
         Some(file) => profile::read(file)?,
         None => vec![],
     };
-    let image = writer::write_image(options.version, &words, &profile)?;
+    let image = writer::write_image(options.version, &ranges, &profile)?;
     output::store(&options.out, &image)
 }
 

@@ -1,5 +1,6 @@
 //! Runs the maker: the reference images byte for byte, and its errors.
 
+use luffinarc_reader::role;
 use std::fs;
 use std::path::{Path, PathBuf};
 use std::process::{Command, Output};
@@ -206,13 +207,15 @@ fn profiles() {
     let folder = copy(&room);
     let file = room.join("profile");
     fails(&room, &folder, Some(&file), "profile");
-    let long: String = (0..65).map(|i| format!("{:X} 4\n", 0x100 + i)).collect();
+    let long: String =
+        (0..=luffinarc::MAX_ENTRIES).map(|i| format!("{:X} 4\n", 0x100 + i)).collect();
     let bad = [
         ("2E", "line 1: malformed"),
         ("2E 3 4", "malformed"),
         ("2G 3", "malformed"),
         ("2E -3", "malformed"),
-        ("2E 5", "answers 4: profile entry 0 is bad"),
+        ("2E 0", "malformed"),
+        ("2E 5", "malformed"),
         ("2E 3\n2D 3", "answers 4: profile entry 1 is bad"),
         ("2E 3\n2E 3", "answers 4: profile entry 1 is bad"),
         ("D800 3", "answers 4: profile entry 0 is bad"),
@@ -228,7 +231,10 @@ fn profiles() {
     let out = room.join("image");
     assert!(run("16.0.0", &folder, Some(&file), &out).status.success());
     let image = luffinarc_reader::image::parse(&fs::read(&out).unwrap()).unwrap();
-    assert_eq!(image.profile.entries(), [(0x2D, 3), (0x2E, 3), (0x5F, 1)]);
+    assert_eq!(
+        image.profile.entries(),
+        [(0x2D, role::MEDIAL), (0x2E, role::MEDIAL), (0x5F, role::START)]
+    );
     assert_eq!(image.version, 0x100000);
 }
 

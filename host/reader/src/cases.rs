@@ -11,8 +11,12 @@ pub use pairs::{forbidden_change, permitted_changes, unequal_profile};
 pub use tally::Tally;
 pub use texts::{damaged_text, long_text, random_bytes, text, token_text};
 
-use crate::image::{Image, Profile, Range, MAX_PROFILE};
-use crate::token::{count, part};
+use crate::image::{
+    total_length, Image, Profile, Range, CODE_POINTS, MAX_ENTRIES, MAX_RANGES, RANGE_WORDS,
+};
+use crate::lister::MAX_SCRIPT;
+use crate::names::class;
+use crate::token::{count, part, TOKEN_WORDS};
 use crate::utf8::first;
 
 const SEED: u64 = 0x9E37_79B9_7F4A_7C15;
@@ -162,18 +166,19 @@ pub fn check_case(rng: &mut Rng) -> CheckCase {
 
 pub fn read_case(rng: &mut Rng) -> ReadCase {
     let (image, bytes) = image_bytes(rng, 3);
-    ReadCase { image: bytes, room: room(rng, 3 * image.ranges.len()) }
+    ReadCase { image: bytes, room: room(rng, RANGE_WORDS * image.ranges.len()) }
 }
 
 /// Changes words or used length so that the writer has something to refuse.
 fn spoil(rng: &mut Rng, words: &mut Vec<u32>, profile: &mut Profile) {
-    let used = (profile.used as usize).min(MAX_PROFILE);
+    const OVER: u32 = MAX_ENTRIES as u32 + 1;
+    let used = (profile.used as usize).min(MAX_ENTRIES);
     match rng.below(8) {
         0 => words.truncate(words.len().saturating_sub(1 + rng.below(2))),
         1 => words.push(rng.word()),
-        2 => profile.used = *rng.pick(&[65, 66, 1000, 0x8000_0000, u32::MAX]),
-        3 => profile.used = rng.below(MAX_PROFILE + 1) as u32,
-        4 => *words = (0..4097).flat_map(|i| [2 * i, 2 * i, 1 + i % 5]).collect(),
+        2 => profile.used = *rng.pick(&[OVER, OVER + 1, 1000, 0x8000_0000, u32::MAX]),
+        3 => profile.used = rng.below(MAX_ENTRIES + 1) as u32,
+        4 => *words = (0..=MAX_RANGES as u32).flat_map(|i| [2 * i, 2 * i, 1 + i % 5]).collect(),
         5 if !words.is_empty() => {
             let i = rng.below(words.len());
             words[i] = *rng.pick(&[0, 1, 6, 0xD800, 0xDFFF, 0x10FFFF, 0x110000, u32::MAX]);
@@ -197,7 +202,7 @@ pub fn write_case(rng: &mut Rng) -> WriteCase {
     let mut profile = image.profile;
     if rng.once_in(2) {
         // The writer does not look at entries past the used length.
-        for i in profile.used as usize..MAX_PROFILE {
+        for i in profile.used as usize..MAX_ENTRIES {
             profile.points[i] = rng.word();
             profile.roles[i] = rng.word();
         }
@@ -206,13 +211,13 @@ pub fn write_case(rng: &mut Rng) -> WriteCase {
         spoil(rng, &mut words, &mut profile);
     }
     let used = profile.used.min(100) as usize;
-    let length = room(rng, 32 + 4 * words.len() + 8 * used);
+    let length = room(rng, total_length(words.len() / RANGE_WORDS, used));
     WriteCase { version: rng.word(), words, profile, length }
 }
 
 /// A number for lookup: about the ranges and entries, or no scalar value.
 fn number(rng: &mut Rng, image: &Image) -> u32 {
-    let none = Range { first: 0, last: 0x10FFFF, class: 0 };
+    let none = Range { first: 0, last: 0x10FFFF, class: class::UNASSIGNED };
     let range = if image.ranges.is_empty() { none } else { *rng.pick(&image.ranges) };
     match rng.below(10) {
         0 => range.first,
@@ -220,8 +225,8 @@ fn number(rng: &mut Rng, image: &Image) -> u32 {
         2 => range.first.saturating_sub(1),
         3 => range.last + 1,
         4 => range.first + rng.below((range.last - range.first + 1) as usize) as u32,
-        5 => image.profile.points[rng.below(MAX_PROFILE)],
-        6 => rng.below(0x110000) as u32,
+        5 => image.profile.points[rng.below(MAX_ENTRIES)],
+        6 => rng.below(CODE_POINTS) as u32,
         7 => *rng.pick(&[0, 0xD7FF, 0xD800, 0xDFFF, 0xE000, 0x10FFFF, 0x110000, u32::MAX]),
         8 => rng.word(),
         _ => rng.below(0x80) as u32,
@@ -264,7 +269,7 @@ pub fn count_case(rng: &mut Rng) -> CountCase {
 
 pub fn list_case(rng: &mut Rng) -> ListCase {
     let CountCase { image, text } = count_case(rng);
-    let exact = 3 * count(&image, &text).unwrap_or(8);
+    let exact = TOKEN_WORDS * count(&image, &text).unwrap_or(8);
     ListCase { image, text, room: room(rng, exact) }
 }
 
@@ -298,7 +303,7 @@ pub fn part_case(rng: &mut Rng) -> PartCase {
 pub fn lister_case(rng: &mut Rng) -> ListerCase {
     let CountCase { image: mut input, mut text } = count_case(rng);
     if rng.once_in(8) {
-        text.resize(*rng.pick(&[8191, 8192, 8193, 9000]), b' ');
+        text.resize(*rng.pick(&[MAX_SCRIPT - 1, MAX_SCRIPT, MAX_SCRIPT + 1, 9000]), b' ');
     }
     // A long text would only be refused with 5 again.
     text.truncate(10_000);

@@ -1,18 +1,37 @@
 //! Class images: check, read, write, lookup and the pair check.
 
+use crate::names::{class, role};
 use crate::refusal::{PairRefusal, Refusal};
 use crate::utf8::is_scalar;
 
-pub const START: u32 = 1;
-pub const NONSTART: u32 = 2;
-pub const SYNTAX: u32 = 3;
-pub const WHITE: u32 = 4;
-pub const OTHER: u32 = 5;
-
-pub const HEADER_BYTES: usize = 32;
+/// The most ranges and profile entries of an image, and its most bytes.
 pub const MAX_RANGES: usize = 4096;
-pub const MAX_PROFILE: usize = 64;
+pub const MAX_ENTRIES: usize = 64;
 pub const MAX_IMAGE: usize = 49_696;
+
+/// The bytes of the header, of a range and of a profile entry.
+pub const HEADER_BYTES: usize = 32;
+pub const RANGE_BYTES: usize = 12;
+pub const ENTRY_BYTES: usize = 8;
+
+/// The format that the header's first word says.
+pub const FORMAT: u32 = 1;
+
+/// The words of a range: first, last, class.
+pub const RANGE_WORDS: usize = 3;
+
+/// The number of code points.
+pub const CODE_POINTS: usize = 0x110000;
+
+/// The bytes before the profile of an image with so many ranges.
+pub fn profile_offset(ranges: usize) -> usize {
+    HEADER_BYTES + RANGE_BYTES * ranges
+}
+
+/// The bytes of an image with so many ranges and profile entries.
+pub fn total_length(ranges: usize, entries: usize) -> usize {
+    profile_offset(ranges) + ENTRY_BYTES * entries
+}
 
 /// A range of code points of one class.
 #[derive(Clone, Copy, Debug, PartialEq, Eq)]
@@ -22,20 +41,20 @@ pub struct Range {
     pub class: u32,
 }
 
-/// The profile record: room for all 64 entries and the used length.
+/// The profile record: room for all entries and the used length.
 #[derive(Clone, Copy, Debug, PartialEq, Eq)]
 pub struct Profile {
-    pub points: [u32; MAX_PROFILE],
-    pub roles: [u32; MAX_PROFILE],
+    pub points: [u32; MAX_ENTRIES],
+    pub roles: [u32; MAX_ENTRIES],
     pub used: u32,
 }
 
 impl Profile {
-    /// A record of these entries; those past the 64th have no place in it.
+    /// A record of these entries; those past the most have no place in it.
     pub fn of(entries: &[(u32, u32)]) -> Profile {
         let used = entries.len() as u32;
-        let mut profile = Profile { points: [0; MAX_PROFILE], roles: [0; MAX_PROFILE], used };
-        for (i, &(point, role)) in entries.iter().take(MAX_PROFILE).enumerate() {
+        let mut profile = Profile { points: [0; MAX_ENTRIES], roles: [0; MAX_ENTRIES], used };
+        for (i, &(point, role)) in entries.iter().take(MAX_ENTRIES).enumerate() {
             profile.points[i] = point;
             profile.roles[i] = role;
         }
@@ -44,7 +63,7 @@ impl Profile {
 
     /// The used entries.
     pub fn entries(&self) -> Vec<(u32, u32)> {
-        let used = (self.used as usize).min(MAX_PROFILE);
+        let used = (self.used as usize).min(MAX_ENTRIES);
         (0..used).map(|i| (self.points[i], self.roles[i])).collect()
     }
 }
@@ -61,7 +80,7 @@ impl Image {
     /// The class in the ranges.
     pub fn range_class(&self, point: u32) -> u32 {
         let holds = |range: &&Range| range.first <= point && point <= range.last;
-        self.ranges.iter().find(holds).map_or(0, |range| range.class)
+        self.ranges.iter().find(holds).map_or(class::UNASSIGNED, |range| range.class)
     }
 
     /// The profile's role of the code point, 0 for none.
@@ -73,9 +92,9 @@ impl Image {
     /// The class after the profile.
     pub fn class(&self, point: u32) -> u32 {
         match self.role(point) {
-            1 => START,
-            2 => NONSTART,
-            4 => OTHER,
+            role::START => class::START,
+            role::NONSTART => class::NONSTART,
+            role::OTHER => class::OTHER,
             _ => self.range_class(point),
         }
     }
@@ -100,7 +119,7 @@ impl Image {
 
     /// The class in the ranges of every code point.
     pub fn table(&self) -> Vec<u8> {
-        let mut table = vec![0; 0x110000];
+        let mut table = vec![class::UNASSIGNED as u8; CODE_POINTS];
         for range in &self.ranges {
             table[range.first as usize..=range.last as usize].fill(range.class as u8);
         }
@@ -116,7 +135,7 @@ fn words_of(bytes: &[u8]) -> Vec<u32> {
 fn good_range(range: Range, before: Option<Range>) -> bool {
     let bounds = range.first <= range.last && range.last <= 0x10FFFF;
     let surrogates = range.first <= 0xDFFF && range.last >= 0xD800;
-    let class = (START..=OTHER).contains(&range.class);
+    let class = (class::START..=class::OTHER).contains(&range.class);
     let place = match before {
         None => true,
         Some(b) => b.last < range.first && !(b.last + 1 == range.first && b.class == range.class),
@@ -140,8 +159,8 @@ fn check_profile(entries: &[(u32, u32)]) -> Result<(), Refusal> {
     for i in 0..entries.len() {
         let (point, role) = entries[i];
         let rises = i == 0 || entries[i - 1].0 < point;
-        if !(is_scalar(point) && (1..=4).contains(&role) && rises) {
-            return Err(Refusal::Profile(i as u64));
+        if !(is_scalar(point) && (role::START..=role::OTHER).contains(&role) && rises) {
+            return Err(Refusal::Entry(i as u64));
         }
     }
     Ok(())
@@ -150,33 +169,36 @@ fn check_profile(entries: &[(u32, u32)]) -> Result<(), Refusal> {
 /// The range count and profile count of a good header.
 fn check_header(image: &[u8]) -> Result<(usize, usize), Refusal> {
     if image.len() < HEADER_BYTES || image.len() > MAX_IMAGE {
-        return Err(Refusal::ImageLength);
+        return Err(Refusal::Length);
     }
     let word = words_of(&image[..HEADER_BYTES]);
     if word[2] as usize != image.len() {
-        return Err(Refusal::ImageLength);
+        return Err(Refusal::Length);
     }
     let (n, m) = (word[3] as usize, word[5] as usize);
-    if word[0] != 1 || word[7] != 0 || n > MAX_RANGES || m > MAX_PROFILE {
+    if word[0] != FORMAT || word[7] != 0 || n > MAX_RANGES || m > MAX_ENTRIES {
         return Err(Refusal::Header);
     }
-    let offsets = word[4] == 32 && word[6] as usize == 32 + 12 * n;
-    if !offsets || image.len() != 32 + 12 * n + 8 * m {
+    let offsets = word[4] as usize == HEADER_BYTES && word[6] as usize == profile_offset(n);
+    if !offsets || image.len() != total_length(n, m) {
         return Err(Refusal::Header);
     }
     Ok((n, m))
 }
 
 fn ranges_of(words: &[u32]) -> Vec<Range> {
-    words.chunks_exact(3).map(|w| Range { first: w[0], last: w[1], class: w[2] }).collect()
+    words
+        .chunks_exact(RANGE_WORDS)
+        .map(|w| Range { first: w[0], last: w[1], class: w[2] })
+        .collect()
 }
 
 /// The whole image, or the first of refusals 1 to 4.
 pub fn parse(image: &[u8]) -> Result<Image, Refusal> {
     let (n, _) = check_header(image)?;
     let words = words_of(image);
-    let (front, back) = words.split_at(8 + 3 * n);
-    let ranges = ranges_of(&front[8..]);
+    let (front, back) = words.split_at(profile_offset(n) / 4);
+    let ranges = ranges_of(&front[HEADER_BYTES / 4..]);
     let entries: Vec<(u32, u32)> = back.chunks_exact(2).map(|w| (w[0], w[1])).collect();
     check_ranges(&ranges)?;
     check_profile(&entries)?;
@@ -210,11 +232,11 @@ pub struct Read {
 pub fn read(image: &[u8], words: &mut [u32]) -> Result<Read, Refusal> {
     let image = parse(image)?;
     let ranges = image.ranges.len();
-    if words.len() / 3 < ranges {
+    if words.len() / RANGE_WORDS < ranges {
         return Err(Refusal::Room(ranges as u64));
     }
-    for (i, range) in image.ranges.iter().enumerate() {
-        words[3 * i..3 * i + 3].copy_from_slice(&[range.first, range.last, range.class]);
+    for (range, record) in image.ranges.iter().zip(words.chunks_exact_mut(RANGE_WORDS)) {
+        record.copy_from_slice(&[range.first, range.last, range.class]);
     }
     Ok(Read { version: image.version, ranges, profile: image.profile })
 }
@@ -226,22 +248,22 @@ pub fn write(
     profile: &Profile,
     out: &mut [u8],
 ) -> Result<usize, Refusal> {
-    if words.len() % 3 != 0 {
-        return Err(Refusal::Argument);
+    if words.len() % RANGE_WORDS != 0 {
+        return Err(Refusal::Shape);
     }
-    let (n, m) = (words.len() / 3, profile.used as usize);
-    if n > MAX_RANGES || m > MAX_PROFILE {
+    let (n, m) = (words.len() / RANGE_WORDS, profile.used as usize);
+    if n > MAX_RANGES || m > MAX_ENTRIES {
         return Err(Refusal::Header);
     }
     let entries = profile.entries();
     check_ranges(&ranges_of(words))?;
     check_profile(&entries)?;
-    let total = 32 + 12 * n + 8 * m;
+    let (offset, total) = (profile_offset(n), total_length(n, m));
     if out.len() < total {
-        return Err(Refusal::ImageRoom(total as u64));
+        return Err(Refusal::Buffer(total as u64));
     }
-    let header = [1, version, total as u32, n as u32, 32, m as u32, 32 + 12 * n as u32, 0];
-    let mut all = header.to_vec();
+    let header = [total, n, HEADER_BYTES, m, offset].map(|number| number as u32);
+    let mut all = [&[FORMAT, version], &header[..], &[0]].concat();
     all.extend_from_slice(words);
     all.extend(entries.iter().flat_map(|&(point, role)| [point, role]));
     for (i, word) in all.iter().enumerate() {
@@ -260,8 +282,14 @@ pub fn lookup(image: &[u8], number: u32) -> Result<(u32, u32), Refusal> {
 }
 
 /// True if Table 1 of UAX #31 permits the change, or there is none.
-pub fn permitted(older: u8, newer: u8) -> bool {
-    older == newer || matches!((older, newer), (0, 1 | 2 | 5) | (5, 1 | 2) | (2, 1))
+pub fn permitted(older: u32, newer: u32) -> bool {
+    let to: &[u32] = match older {
+        class::UNASSIGNED => &[class::START, class::NONSTART, class::OTHER],
+        class::OTHER => &[class::START, class::NONSTART],
+        class::NONSTART => &[class::START],
+        _ => &[],
+    };
+    older == newer || to.contains(&newer)
 }
 
 /// Checks that the newer image differs only by permitted changes.
@@ -272,8 +300,8 @@ pub fn pair(older: &[u8], newer: &[u8]) -> Result<(), PairRefusal> {
         return Err(PairRefusal::Pair(Refusal::Profiles));
     }
     let (from, to) = (older.table(), newer.table());
-    match (0..0x110000).find(|&point| !permitted(from[point], to[point])) {
-        Some(point) => Err(PairRefusal::Pair(Refusal::Forbidden(point as u64))),
+    match (0..CODE_POINTS).find(|&point| !permitted(from[point].into(), to[point].into())) {
+        Some(point) => Err(PairRefusal::Pair(Refusal::Change(point as u64))),
         None => Ok(()),
     }
 }

@@ -1,4 +1,4 @@
-//! An independent reader of class images and tokens, written from the paper
+//! An independent reader of class images and tokens, written from docs/RULES.md
 //! alone. It is a witness for comparison: simple, not fast.
 
 #![forbid(unsafe_code)]
@@ -7,6 +7,7 @@ pub mod calls;
 pub mod cases;
 pub mod image;
 pub mod lister;
+pub mod names;
 pub mod refusal;
 pub mod token;
 pub mod utf8;
@@ -15,5 +16,6 @@ pub mod vectors;
 pub use calls::{Calls, Reader};
 pub use image::{check, lookup, pair, read, write, Checked, Profile, Read};
 pub use lister::lister;
+pub use names::{class, kind, role};
 pub use refusal::{PairRefusal, Refusal};
 pub use token::{at, count, list, part, Token};

@@ -1,19 +1,21 @@
 //! The token lister: an image and right after it a text, as one input.
 
 use crate::image::{parse, HEADER_BYTES, MAX_IMAGE};
+use crate::names::kind;
 use crate::refusal::Refusal;
-use crate::token::{count, list};
+use crate::token::{count, list, TOKEN_WORDS};
 
-pub const MAX_LISTED: usize = 8192;
+/// The most bytes of a text that the lister reads.
+pub const MAX_SCRIPT: usize = 8192;
 
 /// Cuts the input where the image's total length says.
 fn cut(input: &[u8]) -> Result<(&[u8], &[u8]), Refusal> {
     if input.len() < HEADER_BYTES {
-        return Err(Refusal::ImageLength);
+        return Err(Refusal::Length);
     }
     let total = u32::from_le_bytes([input[8], input[9], input[10], input[11]]) as usize;
     if !(HEADER_BYTES..=MAX_IMAGE).contains(&total) || total > input.len() {
-        return Err(Refusal::ImageLength);
+        return Err(Refusal::Length);
     }
     Ok(input.split_at(total))
 }
@@ -21,12 +23,21 @@ fn cut(input: &[u8]) -> Result<(&[u8], &[u8]), Refusal> {
 fn listed(input: &[u8]) -> Result<Vec<u32>, Refusal> {
     let (image, text) = cut(input)?;
     parse(image)?;
-    if text.len() > MAX_LISTED {
+    if text.len() > MAX_SCRIPT {
         return Err(Refusal::TextLength);
     }
-    let mut words = vec![0; 3 * count(image, text)?];
+    let mut words = vec![0; TOKEN_WORDS * count(image, text)?];
     list(image, text, &mut words)?;
     Ok(words)
+}
+
+fn kind_name(kind: u32) -> &'static str {
+    match kind {
+        kind::IDENTIFIER => "identifier",
+        kind::SYNTAX => "syntax",
+        kind::WHITESPACE => "whitespace",
+        _ => unreachable!("no kind has the number {kind}"),
+    }
 }
 
 /// The lister's whole output.
@@ -35,10 +46,9 @@ pub fn lister(input: &[u8]) -> String {
         Ok(words) => words,
         Err(refusal) => return format!("{refusal}\n"),
     };
-    let mut output = format!("tokens {}\n", words.len() / 3);
-    for token in words.chunks(3) {
-        let kind = ["identifier", "syntax", "whitespace"][token[0] as usize - 1];
-        output += &format!("{kind} {} {}\n", token[1], token[2]);
+    let mut output = format!("tokens {}\n", words.len() / TOKEN_WORDS);
+    for token in words.chunks(TOKEN_WORDS) {
+        output += &format!("{} {} {}\n", kind_name(token[0]), token[1], token[2]);
     }
     output
 }

@@ -2,72 +2,97 @@
 
 #[derive(Clone, Copy, Debug, PartialEq, Eq)]
 pub enum Refusal {
-    /// 1: the image's length is wrong.
-    ImageLength,
-    /// 2: a header word is wrong.
+    /// 1: the image is too short or too long, or not of the header's total length.
+    Length,
+    /// 2: a word of the image's header is wrong, or a count is above its limit.
     Header,
-    /// 3: index of the first bad range.
+    /// 3: a range is bad; the index of the first bad one.
     Range(u64),
-    /// 4: index of the first bad profile entry.
-    Profile(u64),
+    /// 4: a profile entry is bad; the index of the first bad one.
+    Entry(u64),
     /// 5: the text is too long.
     TextLength,
-    /// 6: first place where no well-formed sequence begins.
+    /// 6: no well-formed UTF-8 sequence begins at this byte place, the first such.
     IllFormed(u64),
-    /// 7: place where no token begins.
-    NoToken(u64),
-    /// 8: records needed.
+    /// 7: no token begins at this byte place, after the longest run of tokens.
+    Characters(u64),
+    /// 8: more room is needed; the number of records.
     Room(u64),
-    /// 9: the number that is no scalar value.
+    /// 9: the number is no scalar value.
     NotScalar(u64),
-    /// 10: smallest code point with a forbidden change.
-    Forbidden(u64),
+    /// 10: a forbidden change; the smallest code point with one.
+    Change(u64),
     /// 11: the profile sections are unequal.
     Profiles,
-    /// 12: bytes needed.
-    ImageRoom(u64),
-    /// 13: a list, a place or a start is wrong.
-    Argument,
+    /// 12: the buffer for an image is too short; the bytes needed.
+    Buffer(u64),
+    /// 13: a list of words is no multiple of its record's words, or a place lies past the text's end, or a start after
+    /// an end.
+    Shape,
 }
 
 impl Refusal {
-    /// The paper's number.
-    pub fn number(&self) -> u32 {
-        match self {
-            Refusal::ImageLength => 1,
-            Refusal::Header => 2,
-            Refusal::Range(_) => 3,
-            Refusal::Profile(_) => 4,
-            Refusal::TextLength => 5,
-            Refusal::IllFormed(_) => 6,
-            Refusal::NoToken(_) => 7,
-            Refusal::Room(_) => 8,
-            Refusal::NotScalar(_) => 9,
-            Refusal::Forbidden(_) => 10,
-            Refusal::Profiles => 11,
-            Refusal::ImageRoom(_) => 12,
-            Refusal::Argument => 13,
+    /// The number, and what the refusal carries.
+    fn row(&self) -> (u32, Option<u64>) {
+        match *self {
+            Refusal::Length => (1, None),
+            Refusal::Header => (2, None),
+            Refusal::Range(index) => (3, Some(index)),
+            Refusal::Entry(index) => (4, Some(index)),
+            Refusal::TextLength => (5, None),
+            Refusal::IllFormed(place) => (6, Some(place)),
+            Refusal::Characters(place) => (7, Some(place)),
+            Refusal::Room(needed) => (8, Some(needed)),
+            Refusal::NotScalar(number) => (9, Some(number)),
+            Refusal::Change(point) => (10, Some(point)),
+            Refusal::Profiles => (11, None),
+            Refusal::Buffer(needed) => (12, Some(needed)),
+            Refusal::Shape => (13, None),
         }
     }
 
-    /// What the refusal carries: nothing or one number.
-    pub fn carried(&self) -> Vec<u64> {
-        match *self {
-            Refusal::ImageLength | Refusal::Header | Refusal::TextLength => vec![],
-            Refusal::Profiles | Refusal::Argument => vec![],
-            Refusal::Range(index) | Refusal::Profile(index) => vec![index],
-            Refusal::IllFormed(place) | Refusal::NoToken(place) => vec![place],
-            Refusal::Room(needed) | Refusal::ImageRoom(needed) => vec![needed],
-            Refusal::NotScalar(number) | Refusal::Forbidden(number) => vec![number],
-        }
+    /// Every refusal; those that carry something carry this number.
+    fn all(carried: u64) -> [Refusal; 13] {
+        [
+            Refusal::Length,
+            Refusal::Header,
+            Refusal::Range(carried),
+            Refusal::Entry(carried),
+            Refusal::TextLength,
+            Refusal::IllFormed(carried),
+            Refusal::Characters(carried),
+            Refusal::Room(carried),
+            Refusal::NotScalar(carried),
+            Refusal::Change(carried),
+            Refusal::Profiles,
+            Refusal::Buffer(carried),
+            Refusal::Shape,
+        ]
+    }
+
+    /// The refusal with this number, if one has it, and this to carry, if it carries anything.
+    pub fn named(number: u32, carried: u64) -> Option<Refusal> {
+        Refusal::all(carried).into_iter().find(|refusal| refusal.number() == number)
+    }
+
+    /// The refusal's number, 1 to 13.
+    pub fn number(&self) -> u32 {
+        self.row().0
+    }
+
+    /// What the refusal carries, if anything.
+    pub fn carried(&self) -> Option<u64> {
+        self.row().1
     }
 }
 
 /// `refused`, the number and what it carries.
 impl std::fmt::Display for Refusal {
     fn fmt(&self, f: &mut std::fmt::Formatter) -> std::fmt::Result {
-        write!(f, "refused {}", self.number())?;
-        self.carried().iter().try_for_each(|n| write!(f, " {n}"))
+        match self.row() {
+            (number, None) => write!(f, "refused {number}"),
+            (number, Some(carried)) => write!(f, "refused {number} {carried}"),
+        }
     }
 }
 

@@ -1,14 +1,15 @@
 //! Tokens: count, list, one token at a place, and a token's bytes.
 
-use crate::image::{parse, Image, NONSTART, START, SYNTAX, WHITE};
+use crate::image::{parse, Image};
+use crate::names::{class, kind, role};
 use crate::refusal::Refusal;
 use crate::utf8::decode;
 
-pub const IDENTIFIER_KIND: u32 = 1;
-pub const SYNTAX_KIND: u32 = 2;
-pub const WHITESPACE_KIND: u32 = 3;
-
+/// The most bytes of a text.
 pub const MAX_TEXT: usize = 1_048_576;
+
+/// The words of a token: kind, start byte, end byte.
+pub const TOKEN_WORDS: usize = 3;
 
 /// A token: its kind, its first byte and one past its last.
 #[derive(Clone, Copy, Debug, PartialEq, Eq)]
@@ -28,7 +29,7 @@ struct Unit {
 
 impl Unit {
     fn is_continue(&self) -> bool {
-        self.class == START || self.class == NONSTART
+        self.class == class::START || self.class == class::NONSTART
     }
 }
 
@@ -39,7 +40,7 @@ fn units_of(image: &Image, text: &[u8]) -> (Vec<Unit>, usize) {
         start: p.start,
         end: p.end,
         class: image.class(p.point),
-        medial: image.role(p.point) == 3,
+        medial: image.role(p.point) == role::MEDIAL,
     };
     (points.iter().map(unit).collect(), end)
 }
@@ -65,9 +66,9 @@ fn identifier(units: &[Unit]) -> usize {
 /// The kind and length in units of the longest token from the front.
 fn longest(units: &[Unit]) -> Option<(u32, usize)> {
     match units.first()?.class {
-        START => Some((IDENTIFIER_KIND, identifier(units))),
-        SYNTAX => Some((SYNTAX_KIND, 1)),
-        WHITE => Some((WHITESPACE_KIND, run(units, |unit| unit.class == WHITE))),
+        class::START => Some((kind::IDENTIFIER, identifier(units))),
+        class::SYNTAX => Some((kind::SYNTAX, 1)),
+        class::WHITE => Some((kind::WHITESPACE, run(units, |unit| unit.class == class::WHITE))),
         _ => None,
     }
 }
@@ -85,7 +86,7 @@ fn tokens(image: &Image, text: &[u8]) -> Result<Vec<Token>, Refusal> {
     let mut rest = &units[..];
     while !rest.is_empty() {
         let start = rest[0].start;
-        let (kind, length) = longest(rest).ok_or(Refusal::NoToken(start as u64))?;
+        let (kind, length) = longest(rest).ok_or(Refusal::Characters(start as u64))?;
         tokens.push(Token { kind, start, end: rest[length - 1].end });
         rest = &rest[length..];
     }
@@ -100,12 +101,11 @@ pub fn count(image: &[u8], text: &[u8]) -> Result<usize, Refusal> {
 /// Writes the text's tokens to the lent words, three each, and counts them.
 pub fn list(image: &[u8], text: &[u8], words: &mut [u32]) -> Result<usize, Refusal> {
     let tokens = tokens(&parse(image)?, text)?;
-    if words.len() / 3 < tokens.len() {
+    if words.len() / TOKEN_WORDS < tokens.len() {
         return Err(Refusal::Room(tokens.len() as u64));
     }
-    for (i, token) in tokens.iter().enumerate() {
-        let record = [token.kind, token.start as u32, token.end as u32];
-        words[3 * i..3 * i + 3].copy_from_slice(&record);
+    for (token, record) in tokens.iter().zip(words.chunks_exact_mut(TOKEN_WORDS)) {
+        record.copy_from_slice(&[token.kind, token.start as u32, token.end as u32]);
     }
     Ok(tokens.len())
 }
@@ -117,7 +117,7 @@ pub fn at(image: &[u8], text: &[u8], place: usize) -> Result<Option<Token>, Refu
         return Err(Refusal::TextLength);
     }
     if place > text.len() {
-        return Err(Refusal::Argument);
+        return Err(Refusal::Shape);
     }
     let (units, q) = units_of(&image, &text[place..]);
     if q == 0 && place < text.len() {
@@ -127,7 +127,7 @@ pub fn at(image: &[u8], text: &[u8], place: usize) -> Result<Option<Token>, Refu
         return Ok(None);
     }
     match longest(&units) {
-        None => Err(Refusal::NoToken(place as u64)),
+        None => Err(Refusal::Characters(place as u64)),
         Some((kind, length)) => {
             Ok(Some(Token { kind, start: place, end: place + units[length - 1].end }))
         }
@@ -137,7 +137,7 @@ pub fn at(image: &[u8], text: &[u8], place: usize) -> Result<Option<Token>, Refu
 /// The part of the text from start to end.
 pub fn part(text: &[u8], start: usize, end: usize) -> Result<&[u8], Refusal> {
     if start > end || end > text.len() {
-        return Err(Refusal::Argument);
+        return Err(Refusal::Shape);
     }
     Ok(&text[start..end])
 }

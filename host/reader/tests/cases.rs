@@ -1,7 +1,8 @@
 //! The made cases reach every answer, and the reader keeps the demands on them.
 
 use luffinarc_reader::cases::*;
-use luffinarc_reader::image::{parse, write};
+use luffinarc_reader::image::{parse, write, MAX_ENTRIES, MAX_RANGES, RANGE_WORDS};
+use luffinarc_reader::token::TOKEN_WORDS;
 use luffinarc_reader::*;
 
 const RUNS: usize = 4000;
@@ -18,7 +19,7 @@ fn made_images() {
         }
     }
     let large = check(&image_of(&large_image(&mut rng))).unwrap();
-    assert_eq!((large.ranges, large.entries), (4096, 64));
+    assert_eq!((large.ranges, large.entries), (MAX_RANGES, MAX_ENTRIES));
 }
 
 #[test]
@@ -38,7 +39,7 @@ fn images() {
                 continue;
             }
         };
-        let (front, rest) = words.split_at(3 * read.ranges);
+        let (front, rest) = words.split_at(RANGE_WORDS * read.ranges);
         assert!(rest.iter().all(|&word| word == 7));
         let mut again = vec![0xAA; case.image.len()];
         assert_eq!(write(read.version, front, &read.profile, &mut again), Ok(again.len()));
@@ -61,7 +62,8 @@ fn writing() {
         if total > 0 {
             let image = parse(&out[..total]).unwrap();
             assert_eq!(image.profile.entries(), case.profile.entries());
-            assert_eq!((image.version, 3 * image.ranges.len()), (case.version, case.words.len()));
+            let words = RANGE_WORDS * image.ranges.len();
+            assert_eq!((image.version, words), (case.version, case.words.len()));
         }
     }
     tally.close("write", "ok,2,3,4,12,13");
@@ -74,7 +76,7 @@ fn lookups() {
         let case = lookup_case(&mut rng);
         let result = lookup(&case.image, case.number);
         tally.add(&result);
-        assert!(result.map_or(true, |(class, looked)| class <= 5 && looked <= 13));
+        assert!(result.map_or(true, |(class, looked)| class <= class::OTHER && looked <= 13));
     }
     tally.close("lookup", "ok,1,2,3,4,9");
 }
@@ -97,7 +99,7 @@ fn pairs() {
 /// The list covers the text without gaps, and each token stands at its place.
 fn division(image: &[u8], text: &[u8], words: &[u32]) {
     let mut place = 0;
-    for (i, token) in words.chunks(3).enumerate() {
+    for (i, token) in words.chunks(TOKEN_WORDS).enumerate() {
         let (start, end) = (token[1] as usize, token[2] as usize);
         assert!(start == place && end > start);
         if i < 20 {
@@ -118,7 +120,7 @@ fn lists() {
         let mut words = vec![7; case.room];
         let result = list(&case.image, &case.text, &mut words);
         lists.add(&result);
-        let (front, rest) = words.split_at(3 * result.unwrap_or(0));
+        let (front, rest) = words.split_at(TOKEN_WORDS * result.unwrap_or(0));
         assert!(rest.iter().all(|&word| word == 7));
         if result.is_ok() {
             division(&case.image, &case.text, front);
@@ -166,7 +168,7 @@ fn changed_at(case: &StableCase, place: u64) -> bool {
     let (points, _) = utf8::decode(&case.text[place as usize..]);
     let changed =
         |i: usize| points.get(i).map_or(false, |p| older.class(p.point) != newer.class(p.point));
-    changed(0) || (older.role(points[0].point) == 3 && changed(1))
+    changed(0) || (older.role(points[0].point) == role::MEDIAL && changed(1))
 }
 
 #[test]
@@ -175,13 +177,13 @@ fn stability() {
     for _ in 0..RUNS {
         let case = stable_case(&mut rng);
         assert_eq!(pair(&case.older, &case.newer), Ok(()));
-        let room = 3 * rng.below(30);
+        let room = TOKEN_WORDS * rng.below(30);
         let (mut old_words, mut new_words) = (vec![7; room], vec![7; room]);
         let older = list(&case.older, &case.text, &mut old_words);
         let newer = list(&case.newer, &case.text, &mut new_words);
         let counts = (count(&case.older, &case.text), count(&case.newer, &case.text));
         match older {
-            Err(Refusal::NoToken(place)) if changed_at(&case, place) => {
+            Err(Refusal::Characters(place)) if changed_at(&case, place) => {
                 tally.name(if newer == older { "7 kept" } else { "7 moved" });
             }
             _ => {

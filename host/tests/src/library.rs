@@ -14,24 +14,9 @@ const OLD_ROLES: Entries = [0x0BAD_CAFE; luffinarc::MAX_ENTRIES];
 
 /// The refusal with this number; what it does not carry is zero.
 fn refusal(number: u32, carried: u64) -> Refusal {
-    let refusal = match number {
-        1 => Refusal::ImageLength,
-        2 => Refusal::Header,
-        3 => Refusal::Range(carried),
-        4 => Refusal::Profile(carried),
-        5 => Refusal::TextLength,
-        6 => Refusal::IllFormed(carried),
-        7 => Refusal::NoToken(carried),
-        8 => Refusal::Room(carried),
-        9 => Refusal::NotScalar(carried),
-        10 => Refusal::Forbidden(carried),
-        11 => Refusal::Profiles,
-        12 => Refusal::ImageRoom(carried),
-        13 => Refusal::Argument,
-        _ => panic!("the library answers {number}"),
-    };
-    let first = refusal.carried().first().copied().unwrap_or(0);
-    assert_eq!(first, carried, "{refusal} carries something");
+    let refusal = Refusal::named(number, carried);
+    let refusal = refusal.unwrap_or_else(|| panic!("the library answers {number}"));
+    assert_eq!(refusal.carried().unwrap_or(0), carried, "{refusal} carries something");
     refusal
 }
 

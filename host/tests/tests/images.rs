@@ -1,12 +1,15 @@
 //! The calls on images against the independent reader, on made cases.
 
-use luffinarc::{Image, Refusal};
+use luffinarc::{Image, Refusal, MAX_ENTRIES, RANGE_WORDS};
 use luffinarc_reader::cases::*;
 use luffinarc_reader::image::parse;
-use luffinarc_reader::{image, Calls, PairRefusal, Profile, Reader};
+use luffinarc_reader::{image, role, Calls, PairRefusal, Profile, Reader};
 use luffinarc_tests::{data, runs, say, Library};
 
 const RUNS: usize = 4000;
+
+/// The number of scalar values.
+const SCALAR_VALUES: usize = 1_112_064;
 
 #[test]
 fn checks() {
@@ -52,12 +55,12 @@ fn writes() {
 /// A used length above 32 bits is above the limit, whatever its low bits are.
 #[test]
 fn long_used_lengths() {
-    let profile = Profile::of(&[(0x2E, 3)]);
-    for used in [65, 1 << 32, (1 << 32) + 1, usize::MAX] {
+    let profile = Profile::of(&[(0x2E, role::MEDIAL)]);
+    for used in [MAX_ENTRIES + 1, 1 << 32, (1 << 32) + 1, usize::MAX] {
         let (mut out, mut answer) = ([7; 40], [9; 4]);
         let (points, roles) = (&profile.points, &profile.roles);
         let number = luffinarc::calls::write(1, &[], points, roles, used, &mut out, &mut answer);
-        assert_eq!((number, answer, out), (2, [0; 4], [7; 40]));
+        assert_eq!((number, answer, out), (Refusal::Header.number(), [0; 4], [7; 40]));
     }
 }
 
@@ -110,7 +113,8 @@ fn accepted_images() {
         let bytes = image_of(&made);
         let image = Image::check(&bytes).unwrap();
         assert_eq!(image.version(), made.version);
-        assert!(image.profile().entries().eq(made.profile.entries()));
+        let entries = image.profile().entries().map(|(point, role)| (point, role.number()));
+        assert!(entries.eq(made.profile.entries()));
         let ranges = image.ranges();
         let words = |r: &luffinarc::Range| (r.first, r.last, r.class.number());
         let expected = made.ranges.iter().map(|r| (r.first, r.last, r.class));
@@ -128,8 +132,14 @@ fn unicode_image(version: &str) -> Vec<u8> {
 #[test]
 fn every_scalar_value() {
     let mut images = ["14.0", "15.0", "16.0", "17.0"].map(unicode_image).to_vec();
-    let profile =
-        Profile::of(&[(0x2D, 3), (0x2E, 3), (0x5F, 1), (0xB7, 3), (0x378, 2), (0x4E00, 4)]);
+    let profile = Profile::of(&[
+        (0x2D, role::MEDIAL),
+        (0x2E, role::MEDIAL),
+        (0x5F, role::START),
+        (0xB7, role::MEDIAL),
+        (0x378, role::NONSTART),
+        (0x4E00, role::OTHER),
+    ]);
     images.push(image_of(&image::Image { profile, ..parse(&images[2]).unwrap() }));
     let mut looked_up = 0;
     for bytes in &images {
@@ -143,7 +153,7 @@ fn every_scalar_value() {
             }
             let found = found.unwrap();
             let class = match expected.role(number) {
-                1 | 2 | 4 => expected.class(number),
+                role::START | role::NONSTART | role::OTHER => expected.class(number),
                 _ => classes[number as usize].into(),
             };
             let looked_at = expected.looked_at(number);
@@ -151,7 +161,7 @@ fn every_scalar_value() {
             looked_up += 1;
         }
     }
-    assert_eq!(looked_up, images.len() * 1_112_064);
+    assert_eq!(looked_up, images.len() * SCALAR_VALUES);
     say(&format!("scalar values looked up: {looked_up}"));
 }
 
@@ -162,13 +172,14 @@ fn one_too_few() {
     let made = parse(&bytes).unwrap();
     let words: Vec<u32> = made.ranges.iter().flat_map(|r| [r.first, r.last, r.class]).collect();
     let n = made.ranges.len();
-    let (mut short, mut right) = (vec![7; 3 * n - 1], vec![7; 3 * n]);
+    let room = RANGE_WORDS * n;
+    let (mut short, mut right) = (vec![7; room - 1], vec![7; room]);
     let refused = Err(luffinarc_reader::Refusal::Room(n as u64));
     assert_eq!(Library.read(&bytes, &mut short), refused);
-    assert!(short == vec![7; 3 * n - 1]);
+    assert!(short == vec![7; room - 1]);
     assert!(Library.read(&bytes, &mut right).is_ok() && right == words);
     let (mut short, mut right) = (vec![7; bytes.len() - 1], vec![7; bytes.len()]);
-    let refused = Err(luffinarc_reader::Refusal::ImageRoom(bytes.len() as u64));
+    let refused = Err(luffinarc_reader::Refusal::Buffer(bytes.len() as u64));
     assert_eq!(Library.write(made.version, &words, &made.profile, &mut short), refused);
     assert!(short == vec![7; bytes.len() - 1]);
     let written = Library.write(made.version, &words, &made.profile, &mut right);

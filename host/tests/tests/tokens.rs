@@ -1,23 +1,16 @@
 //! The calls on tokens against the independent reader, on made cases and on every short text of some bytes.
 
-use luffinarc::Image;
+use luffinarc::{Image, MAX_TEXT, TOKEN_WORDS};
 use luffinarc_reader::cases::*;
 use luffinarc_reader::image::{parse, Image as Made, Range};
-use luffinarc_reader::{utf8, Calls, Profile, Reader, Refusal, Token};
+use luffinarc_reader::{class, role, utf8, Calls, Profile, Reader, Refusal, Token};
 use luffinarc_tests::{data, runs, say, Library};
 
 const RUNS: usize = 3000;
 
 /// A refusal of the safe types, as the reader names it.
 fn named(refusal: luffinarc::Refusal) -> Refusal {
-    match refusal {
-        luffinarc::Refusal::TextLength => Refusal::TextLength,
-        luffinarc::Refusal::IllFormed { place } => Refusal::IllFormed(place as u64),
-        luffinarc::Refusal::Characters { place } => Refusal::NoToken(place as u64),
-        luffinarc::Refusal::Room { needed } => Refusal::Room(needed as u64),
-        luffinarc::Refusal::Shape => Refusal::Argument,
-        other => panic!("not of an accepted image: {other}"),
-    }
+    Refusal::named(refusal.number(), refusal.carried().unwrap_or(0)).unwrap()
 }
 
 #[test]
@@ -62,7 +55,10 @@ fn lists() {
         assert_eq!(tokens.len(), count);
         let token =
             |t: luffinarc::Token| [t.kind.number(), t.range.start as u32, t.range.end as u32];
-        assert!(tokens.flat_map(token).eq(words[..3 * count].iter().copied()), "{case:02X?}");
+        assert!(
+            tokens.flat_map(token).eq(words[..TOKEN_WORDS * count].iter().copied()),
+            "{case:02X?}"
+        );
     }
     tally.close("list", "ok,1,2,3,4,5,6,7,8");
 }
@@ -130,7 +126,7 @@ fn listers() {
 fn compare(image: &[u8], text: &[u8]) -> Result<usize, Refusal> {
     let result = Library.count(image, text);
     assert_eq!(result, Reader.count(image, text), "{text:02X?}");
-    let room = 3 * result.unwrap_or(2);
+    let room = TOKEN_WORDS * result.unwrap_or(2);
     for room in [room, room.saturating_sub(1), room + 4] {
         let (mut words, mut expected) = (vec![7; room], vec![7; room]);
         let listed = Library.list(image, text, &mut words);
@@ -173,7 +169,7 @@ fn whole(class: u32) -> Vec<u8> {
 /// Every two bytes, with some after them, are well-formed just as far as the standard library says.
 #[test]
 fn first_ill_formed_place() {
-    let bytes = whole(3);
+    let bytes = whole(class::SYNTAX);
     let image = Image::check(&bytes).unwrap();
     let tails: [&[u8]; 8] =
         [&[], &[0x80], &[0x80, 0x80], &[0xBF, 0xBF], &[0x41], &[0x80, 0x41], &[0xC2], &[0xFF]];
@@ -196,10 +192,10 @@ fn every_character() {
     let (image, classes) = (Image::check(&bytes).unwrap(), parse(&bytes).unwrap().table());
     for c in (0..=0x10FFFF).filter_map(char::from_u32) {
         let text = c.to_string();
-        let kind = match classes[c as usize] {
-            1 => luffinarc::Kind::Identifier,
-            3 => luffinarc::Kind::Syntax,
-            4 => luffinarc::Kind::Whitespace,
+        let kind = match classes[c as usize].into() {
+            class::START => luffinarc::Kind::Identifier,
+            class::SYNTAX => luffinarc::Kind::Syntax,
+            class::WHITE => luffinarc::Kind::Whitespace,
             _ => {
                 let refused = Err(luffinarc::Refusal::Characters { place: 0 });
                 assert_eq!(image.token_at(&text, 0), refused, "{c:?}");
@@ -216,7 +212,7 @@ fn every_character() {
 fn lengths() {
     let image = data("images/unicode-16.0.img");
     let mut results = Tally::default();
-    for length in [0, 1, 1_048_575, 1_048_576, 1_048_577] {
+    for length in [0, 1, MAX_TEXT - 1, MAX_TEXT, MAX_TEXT + 1] {
         for fill in ["a", " ", ";", "ab c; ", "zażółć ", "𞤣𞤮𞤼𞥅𞤢𞤤 "] {
             let mut text = fill.repeat(length / fill.len() + 1).into_bytes();
             text.truncate(length);
@@ -240,8 +236,16 @@ fn lengths() {
 #[test]
 fn medials() {
     let plain = parse(&data("images/unicode-16.0.img")).unwrap();
-    let entries =
-        [(0x20, 3), (0x2D, 3), (0x31, 3), (0x41, 3), (0x5F, 1), (0x62, 4), (0xA0, 3), (0x378, 3)];
+    let entries = [
+        (0x20, role::MEDIAL),
+        (0x2D, role::MEDIAL),
+        (0x31, role::MEDIAL),
+        (0x41, role::MEDIAL),
+        (0x5F, role::START),
+        (0x62, role::OTHER),
+        (0xA0, role::MEDIAL),
+        (0x378, role::MEDIAL),
+    ];
     let image = image_of(&Made { profile: Profile::of(&entries), ..plain });
     let points = [0x20, 0x2D, 0x2E, 0x31, 0x41, 0x5F, 0x62, 0x63, 0xA0, 0x378, 0x1E900];
     let encode = |point: u32| char::from_u32(point).unwrap().to_string();

@@ -1,7 +1,7 @@
 -- `lister::main` is safe: the tokens that were listed have their words in the buffer. Assumes nothing.
 use mathlib.Core.Path.{sym, _∙_}
 use native.Mathlib.Omega.{arith}
-use Rattle.listing.proofs.InputLaws.{listed-fits}
+use Rattle.listing.proofs.MeansLaws.{listing-fits}
 use borrow.Author.Needs.{needs}
 use Rattle.lister.proofs.main.Statement.{statement}
 use Rattle.lister.proofs.main.Tie as tie
@@ -11,9 +11,6 @@ slice-aggregate-read-full c = search needs
 
 read-full-requires : tie.Need-read-full-requires
 read-full-requires c κs = search needs
-
-array-share-prefix-input : tie.Need-array-share-prefix-input
-array-share-prefix-input c = search needs
 
 slice-aggregate-list-read : tie.Need-slice-aggregate-list-read
 slice-aggregate-list-read c = search needs
@@ -43,7 +40,7 @@ slice-aggregate-print-tokens : tie.Need-slice-aggregate-print-tokens
 slice-aggregate-print-tokens c = search needs
 
 print-tokens-requires : tie.Need-print-tokens-requires
-print-tokens-requires c κs = omega (arith, listed-fits _ _ _ (sym (c .before .before .counted2 .given .1) ∙ c .before .before .before .before .before .list-read .ensures .0))
+print-tokens-requires c κs = omega (arith, listing-fits _ _ _ (sym (c .before .before .counted2 .given .1) ∙ c .before .before .before .before .before .list-read .ensures .0))
 
 returns : tie.Need-returns
 returns c = search needs
@@ -57,7 +54,6 @@ main-spec =
     (tie.spec
     slice-aggregate-read-full
     read-full-requires
-    array-share-prefix-input
     slice-aggregate-list-read
     slice-aggregate-list-read-2
     list-read-requires

@@ -1,4 +1,4 @@
--- `lister::print_tokens` is safe: each token's three words lie in the buffer. Assumes nothing.
+-- `lister::print_tokens` is safe: each token's words lie in the buffer. Assumes nothing.
 use Prim.Native.Nat.{_≤_, _-_}
 use borrow.Author.Needs.{needs}
 use Rattle.lister.proofs.print_tokens.Statement.{statement}

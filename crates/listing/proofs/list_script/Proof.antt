@@ -1,41 +1,41 @@
 -- `listing::list_script` meets its contract. Assumes nothing.
-use Rattle.token.proofs.AnswerLaws.{opened}
-use Rattle.listing.proofs.InputLaws.{within-refused, within-long, within-listed}
+use Rattle.image.proofs.ImageLaws.{refused-by, accepted-by}
+use Rattle.listing.proofs.InputLaws.{within-refused, within-long, within-listed, gives-refused, gives-listed}
 use borrow.Author.Needs.{needs}
 use Rattle.listing.proofs.list_script.Statement.{statement}
 use Rattle.listing.proofs.list_script.Tie as tie
 
-check-requires : tie.Need-check-requires
-check-requires c κs = search needs
+judge-requires : tie.Need-judge-requires
+judge-requires c κs = search needs
 
 enum-known-answer : tie.Need-enum-known-answer
 enum-known-answer c = search needs
 
-enum-known-answer-2 : tie.Need-enum-known-answer-2
-enum-known-answer-2 c = search needs
+enum-told : tie.Need-enum-told
+enum-told c = search needs
 
 returns : tie.Need-returns
-returns c = within-long _ _ _ (opened _ _ (c .before .before .before .before .check .ensures) _ _ (c .before .before .answer2 .given .1) .accepted) (c .if1 .taken)
+returns c = gives-refused _ (within-long _ _ _ (accepted-by _ _ (c .before .before .before .judge .ensures) _ _ (c .before .enum-told .given .1) .0) (c .if1 .taken))
 
 list-checked-requires : tie.Need-list-checked-requires
-list-checked-requires c κs = opened _ _ (c .before .before .before .before .before .before .before .before .before .before .check .ensures) _ _ (c .before .before .before .before .before .before .before .before .answer2 .given .1)
+list-checked-requires c κs = accepted-by _ _ (c .before .before .before .before .judge .ensures) _ _ (c .before .before .enum-told .given .1) .0
 
 returns-2 : tie.Need-returns-2
-returns-2 c = within-refused _ _ _ _ (c .before .before .before .check .ensures) _ (c .before .answer .given .1)
+returns-2 c = gives-refused _ (within-refused _ _ _ (refused-by _ _ (c .before .before .before .judge .ensures) _ (c .before .answer .given .1)))
 
 same-length : tie.Need-same-length
 same-length c = search needs
 
 returns-3 : tie.Need-returns-3
-returns-3 c = within-listed _ _ _ (opened _ _ (c .before .before .before .before .before .before .before .before .before .before .before .before .before .check .ensures) _ _ (c .before .before .before .before .before .before .before .before .before .before .before .answer2 .given .1) .accepted) (c .before .before .before .before .before .before .before .before .before .if1 .left) _ _ (c .before .before .list-checked .ensures)
+returns-3 c = gives-listed _ _ _ (within-listed _ _ _ (accepted-by _ _ (c .before .before .before .before .before .before .before .judge .ensures) _ _ (c .before .before .before .before .before .enum-told .given .1) .0) (c .before .before .before .before .if1 .left)) (c .before .before .list-checked .ensures)
 
 pub list-script-spec : {M : Type 1} → statement M
 list-script-spec =
     tie.close
     (tie.spec
-    check-requires
+    judge-requires
     enum-known-answer
-    enum-known-answer-2
+    enum-told
     returns
     list-checked-requires
     returns-2

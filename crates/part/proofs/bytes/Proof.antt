@@ -1,6 +1,8 @@
 -- `part::bytes` meets its contract. Assumes nothing.
-use borrow.Author.Tests.{lt-ltb, le-ltb}
-use Rattle.part.specs.Part.{partRefusal, partBytes}
+use mathlib.Core.Path.{sym, ap}
+use mathlib.Core.Logic.{inl, inr}
+use Rattle.part.specs.Part.{bytesBy, misplaced}
+use Rattle.part.proofs.PartLaws.{means-part, part-inside}
 use borrow.Author.Needs.{needs}
 use Rattle.part.proofs.bytes.Statement.{statement}
 use Rattle.part.proofs.bytes.Tie as tie
@@ -9,15 +11,13 @@ slice-aggregate-result : tie.Need-slice-aggregate-result
 slice-aggregate-result c = search needs
 
 returns : tie.Need-returns
-unfolding partBytes partRefusal
-returns c = simp (lt-ltb _ _ (c .before .if1 .taken))
+returns c = ap bytesBy (sym (means-part _ _ _ _ (misplaced (inl (c .before .if1 .taken)))))
 
 slice-aggregate-result-2 : tie.Need-slice-aggregate-result-2
 slice-aggregate-result-2 c = search needs
 
 returns-2 : tie.Need-returns-2
-unfolding partBytes partRefusal
-returns-2 c = simp (le-ltb _ _ (c .before .before .if1 .left), lt-ltb _ _ (c .before .if2 .taken))
+returns-2 c = ap bytesBy (sym (means-part _ _ _ _ (misplaced (inr (c .before .if2 .taken)))))
 
 part-result-start : tie.Need-part-result-start
 part-result-start c = search needs
@@ -26,8 +26,7 @@ part-result-end : tie.Need-part-result-end
 part-result-end c = search needs
 
 returns-3 : tie.Need-returns-3
-unfolding partBytes partRefusal
-returns-3 c = simp (le-ltb _ _ (c .before .before .if1 .left), le-ltb _ _ (c .before .if2 .left))
+returns-3 c = ap bytesBy (sym (part-inside _ _ _ (c .before .before .if1 .left) (c .before .if2 .left)))
 
 pub bytes-spec : {M : Type 1} → statement M
 bytes-spec =

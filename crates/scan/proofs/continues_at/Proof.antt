@@ -25,7 +25,7 @@ returns-3 : tie.Need-returns-3
 returns-3 c =
     let r = c .before .before .before .read-decoded .ensures in
     let t = turn _ _ _ _ (c .before .before .before .before .before .if1 .left) r (omega arith) in
-    c .is-continue .ensures ∙ continues-here _ _ (c .before .before .before .before .before .before .before .before .pre .accepted) _ _ _ t
+    c .is-continue .ensures ∙ continues-here _ _ (c .before .before .before .before .before .before .before .before .pre) _ _ _ t
 
 pub continues-at-spec : {M : Type 1} → statement M
 continues-at-spec =

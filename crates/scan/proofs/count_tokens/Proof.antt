@@ -6,7 +6,7 @@ use native.Mathlib.Omega.{arith}
 use borrow.Author.Needs.{needs}
 use lib.ListN.{length}
 use Rattle.character.specs.Read.{MemoOf}
-use Rattle.character.proofs.CharacterLaws.{opened-traits}
+use Rattle.character.proofs.CharacterLaws.{traits-small}
 use Rattle.scan.specs.declared.Counted.the-variants.{Refused}
 use Rattle.scan.proofs.TurnLaws.{kind-less, after-less}
 use Rattle.scan.proofs.RestLaws.{Turn, turn}
@@ -15,10 +15,10 @@ use Rattle.scan.proofs.count_tokens.Statement.{statement}
 use Rattle.scan.proofs.count_tokens.Tie as tie
 
 abbrev Inv-loop : tie.InvT-loop
-Inv-loop image n points roles used table text turns kinds memo₀ kind₀ count₀ at₀ memo kind count at = Counting image text kind count at × (kind < 4) × MemoOf image memo
+Inv-loop image table text turns kinds memo₀ kind₀ count₀ at₀ memo kind count at = Counting image text kind count at × (kind < 4) × MemoOf image memo
 
 abbrev μ-loop : tie.MeasureT-loop
-μ-loop image n points roles used table text turns kinds memo₀ kind₀ count₀ at₀ memo kind count at = length text - at
+μ-loop image table text turns kinds memo₀ kind₀ count₀ at₀ memo kind count at = length text - at
 
 -- the character that was read stands at the place, and its traits are below 16
 turned :
@@ -27,7 +27,7 @@ turned :
 turned c = turn _ _ _ _ (c .before .before .before .loop-test .taken) (c .before .before .read .ensures) (omega arith)
 
 small : (c : tie.After-memo Inv-loop μ-loop) → c .before .before .read .result .traits < 16
-small c = let t = turned c in omega (arith, t .known, opened-traits (c .before .before .before .before .before .before .before .before .pre .0) (t .code))
+small c = let t = turned c in omega (arith, t .known, traits-small _ (t .code) (c .before .before .before .before .before .before .before .before .pre .0))
 
 no-memo-requires : tie.Need-no-memo-requires Inv-loop μ-loop
 no-memo-requires c κs = search needs
@@ -58,7 +58,7 @@ loop-less c = let t = turned (c .before .before .before .before .before) in omeg
 
 loop-again : tie.Need-loop-again Inv-loop μ-loop
 loop-again c =
-    (counts-turn _ _ (c .before .before .before .before .before .before .before .before .before .before .before .before .before .pre .0 .accepted) _ _ _ _ _ (c .before .before .before .before .before .before .before .before .before .loop .inv .0) (turned (c .before .before .before .before .before)) _ (c .before .before .before .find-turn .ensures) (c .before .before .if2 .taken) _ (c .kind-after .ensures), omega (arith, c .kind-after .ensures, after-less (c .before .before .before .before .before .before .before .read .result .traits)), c .before .before .before .before .before .before .before .read .ensures .memo)
+    (counts-turn _ _ (c .before .before .before .before .before .before .before .before .before .before .before .before .before .pre .0) _ _ _ _ _ (c .before .before .before .before .before .before .before .before .before .loop .inv .0) (turned (c .before .before .before .before .before)) _ (c .before .before .before .find-turn .ensures) (c .before .before .if2 .taken) _ (c .kind-after .ensures), omega (arith, c .kind-after .ensures, after-less (c .before .before .before .before .before .before .before .read .result .traits)), c .before .before .before .before .before .before .before .read .ensures .memo)
 
 goes-on-requires : tie.Need-goes-on-requires Inv-loop μ-loop
 goes-on-requires c κs = search needs
@@ -68,7 +68,7 @@ loop-less-2 c = let t = turned (c .before .before .before .before .before) in om
 
 loop-again-2 : tie.Need-loop-again-2 Inv-loop μ-loop
 loop-again-2 c =
-    (counts-more _ _ (c .before .before .before .before .before .before .before .before .before .before .before .before .before .pre .0 .accepted) _ _ _ _ _ (c .before .before .before .before .before .before .before .before .before .loop .inv .0) (turned (c .before .before .before .before .before)) (sym (c .before .goes-on .ensures) ∙ c .if3 .taken), c .before .before .before .before .before .before .before .before .before .loop .inv .1, c .before .before .before .before .before .before .before .read .ensures .memo)
+    (counts-more _ _ (c .before .before .before .before .before .before .before .before .before .before .before .before .before .pre .0) _ _ _ _ _ (c .before .before .before .before .before .before .before .before .before .loop .inv .0) (turned (c .before .before .before .before .before)) (sym (c .before .goes-on .ensures) ∙ c .if3 .taken), c .before .before .before .before .before .before .before .before .before .loop .inv .1, c .before .before .before .before .before .before .before .read .ensures .memo)
 
 kind-begun-requires : tie.Need-kind-begun-requires Inv-loop μ-loop
 kind-begun-requires c κs = search needs
@@ -79,7 +79,7 @@ refuse-at-requires c κs = search needs
 returns-2 : tie.Need-returns-2 Inv-loop μ-loop
 returns-2 c =
     ap Refused (c .refuse-at .ensures)
-    ∙ counts-stop _ _ (c .before .before .before .before .before .before .before .before .before .before .before .before .before .before .before .before .pre .0 .accepted) _ _ _ _ _ (c .before .before .before .before .before .before .before .before .before .before .before .before .loop .inv .0) (turned (c .before .before .before .before .before .before .before .before)) (sym (c .before .before .before .before .goes-on .ensures) ∙ c .before .before .before .if3 .left) (sym (c .before .before .kind-begun .ensures) ∙ c .before .if4 .taken)
+    ∙ counts-stop _ _ (c .before .before .before .before .before .before .before .before .before .before .before .before .before .before .before .before .pre .0) _ _ _ _ _ (c .before .before .before .before .before .before .before .before .before .before .before .before .loop .inv .0) (turned (c .before .before .before .before .before .before .before .before)) (sym (c .before .before .before .before .goes-on .ensures) ∙ c .before .before .before .if3 .left) (sym (c .before .before .kind-begun .ensures) ∙ c .before .if4 .taken)
 
 add-count-2 : tie.Need-add-count-2 Inv-loop μ-loop
 add-count-2 c = let t = turned (c .before .before .before .before .before .before .before) in omega (arith, c .before .before .before .before .before .before .before .before .before .before .before .loop .inv .0 .few, c .before .before .before .before .before .before .before .before .before .before .before .before .before .before .before)
@@ -89,7 +89,7 @@ loop-less-3 c = let t = turned (c .before .before .before .before .before .befor
 
 loop-again-3 : tie.Need-loop-again-3 Inv-loop μ-loop
 loop-again-3 c =
-    (counts-begin _ _ (c .before .before .before .before .before .before .before .before .before .before .before .before .before .before .before .pre .0 .accepted) _ _ _ _ _ (c .before .before .before .before .before .before .before .before .before .before .before .loop .inv .0) (turned (c .before .before .before .before .before .before .before)) (sym (c .before .before .before .goes-on .ensures) ∙ c .before .before .if3 .left) _ (c .before .kind-begun .ensures) (c .if4 .left), omega (arith, c .before .kind-begun .ensures, kind-less (c .before .before .before .before .before .before .before .before .before .read .result .traits)), c .before .before .before .before .before .before .before .before .before .read .ensures .memo)
+    (counts-begin _ _ (c .before .before .before .before .before .before .before .before .before .before .before .before .before .before .before .pre .0) _ _ _ _ _ (c .before .before .before .before .before .before .before .before .before .before .before .loop .inv .0) (turned (c .before .before .before .before .before .before .before)) (sym (c .before .before .before .goes-on .ensures) ∙ c .before .before .if3 .left) _ (c .before .kind-begun .ensures) (c .if4 .left), omega (arith, c .before .kind-begun .ensures, kind-less (c .before .before .before .before .before .before .before .before .before .read .result .traits)), c .before .before .before .before .before .before .before .before .before .read .ensures .memo)
 
 returns-3 : tie.Need-returns-3 Inv-loop μ-loop
 returns-3 c = counts-end _ _ _ _ _ (c .before .loop .inv .0) (c .loop-test .left)

@@ -12,10 +12,10 @@ use Rattle.scan.proofs.find_end.Statement.{statement}
 use Rattle.scan.proofs.find_end.Tie as tie
 
 abbrev Inv-loop : tie.InvT-loop
-Inv-loop image n points roles used table text kind from memo₀ at₀ memo at = (endFrom image text kind at ≡ endFrom image text kind from) × MemoOf image memo
+Inv-loop image table text kind from memo₀ at₀ memo at = (endFrom image text kind at ≡ endFrom image text kind from) × MemoOf image memo
 
 abbrev μ-loop : tie.MeasureT-loop
-μ-loop image n points roles used table text kind from memo₀ at₀ memo at = length text - at
+μ-loop image table text kind from memo₀ at₀ memo at = length text - at
 
 -- the character that was read stands at the place
 turned :
@@ -45,10 +45,10 @@ loop-less : tie.Need-loop-less Inv-loop μ-loop
 loop-less c = let t = turned (c .before .before) in omega arith
 
 loop-again : tie.Need-loop-again Inv-loop μ-loop
-loop-again c = (sym (end-more _ _ (c .before .before .before .before .before .before .before .before .before .before .pre .0 .accepted) _ _ _ _ (turned (c .before .before)) (sym (c .before .goes-on .ensures) ∙ c .if2 .taken)) ∙ c .before .before .before .before .before .before .loop .inv .0, c .before .before .before .before .read .ensures .memo)
+loop-again c = (sym (end-more _ _ (c .before .before .before .before .before .before .before .before .before .before .pre .0) _ _ _ _ (turned (c .before .before)) (sym (c .before .goes-on .ensures) ∙ c .if2 .taken)) ∙ c .before .before .before .before .before .before .loop .inv .0, c .before .before .before .before .read .ensures .memo)
 
 returns-2 : tie.Need-returns-2 Inv-loop μ-loop
-returns-2 c = sym (end-here _ _ (c .before .before .before .before .before .before .before .before .before .before .pre .0 .accepted) _ _ _ _ (turned (c .before .before)) (sym (c .before .goes-on .ensures) ∙ c .if2 .left)) ∙ c .before .before .before .before .before .before .loop .inv .0
+returns-2 c = sym (end-here _ _ (c .before .before .before .before .before .before .before .before .before .before .pre .0) _ _ _ _ (turned (c .before .before)) (sym (c .before .goes-on .ensures) ∙ c .if2 .left)) ∙ c .before .before .before .before .before .before .loop .inv .0
 
 returns-3 : tie.Need-returns-3 Inv-loop μ-loop
 returns-3 c = sym (end-none _ _ _ _ (at-end _ _ (c .loop-test .left))) ∙ c .before .loop .inv .0

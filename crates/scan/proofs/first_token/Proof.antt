@@ -30,13 +30,13 @@ kind-begun-requires : tie.Need-kind-begun-requires
 kind-begun-requires c κs = search needs
 
 returns-3 : tie.Need-returns-3
-returns-3 c = first-stop _ _ (c .before .before .before .before .before .before .before .before .pre .0 .accepted) _ _ (turned (c .before .before)) (sym (c .before .kind-begun .ensures) ∙ c .if3 .taken)
+returns-3 c = first-stop _ _ (c .before .before .before .before .before .before .before .before .pre .0) _ _ (turned (c .before .before)) (sym (c .before .kind-begun .ensures) ∙ c .if3 .taken)
 
 find-end-requires : tie.Need-find-end-requires
 find-end-requires c κs = search needs
 
 returns-4 : tie.Need-returns-4
-returns-4 c = ap (Token (c .before .before .kind-begun .result)) (c .find-end .ensures) ∙ first-begin _ _ (c .before .before .before .before .before .before .before .before .before .pre .0 .accepted) _ _ (turned (c .before .before .before)) _ (c .before .before .kind-begun .ensures) (c .before .if3 .left)
+returns-4 c = ap (Token (c .before .before .kind-begun .result)) (c .find-end .ensures) ∙ first-begin _ _ (c .before .before .before .before .before .before .before .before .before .pre .0) _ _ (turned (c .before .before .before)) _ (c .before .before .kind-begun .ensures) (c .before .if3 .left)
 
 pub first-token-spec : {M : Type 1} → statement M
 first-token-spec =

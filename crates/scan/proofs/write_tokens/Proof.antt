@@ -6,7 +6,7 @@ use native.Mathlib.Omega.{arith}
 use borrow.Author.Needs.{needs}
 use lib.ListN.{length}
 use Rattle.character.specs.Read.{MemoOf}
-use Rattle.character.proofs.CharacterLaws.{opened-traits}
+use Rattle.character.proofs.CharacterLaws.{traits-small}
 use Rattle.scan.proofs.TurnLaws.{kind-less, after-less}
 use Rattle.scan.proofs.RestLaws.{Turn, turn, at-ill, at-end}
 use Rattle.scan.proofs.WriteLaws.{Listed, Pending, listed-begins, listed-none, listed-stop, listed-put, pending-more, pending-begin, pending-turn, pending-fits, pending-room, pending-part, put-lent}
@@ -14,10 +14,10 @@ use Rattle.scan.proofs.write_tokens.Statement.{statement}
 use Rattle.scan.proofs.write_tokens.Tie as tie
 
 abbrev Inv-loop : tie.InvT-loop
-Inv-loop image n points roles used table text out₀ turns kinds memo₀ kind₀ start₀ at₀ w₀ out memo kind start at w = Listed image text out₀ out kind start at w × (kind < 4) × MemoOf image memo
+Inv-loop image table text out₀ turns kinds memo₀ kind₀ start₀ at₀ w₀ out memo kind start at w = Listed image text out₀ out kind start at w × (kind < 4) × MemoOf image memo
 
 abbrev μ-loop : tie.MeasureT-loop
-μ-loop image n points roles used table text out₀ turns kinds memo₀ kind₀ start₀ at₀ w₀ out memo kind start at w = length text - at
+μ-loop image table text out₀ turns kinds memo₀ kind₀ start₀ at₀ w₀ out memo kind start at w = length text - at
 
 -- the character that was read stands at the place, and its traits are below 16
 turned :
@@ -26,23 +26,23 @@ turned :
 turned c = turn _ _ _ _ (c .before .before .before .loop-test .taken) (c .before .before .read .ensures) (omega arith)
 
 small : (c : tie.After-memo Inv-loop μ-loop) → c .before .before .read .result .traits < 16
-small c = let t = turned c in omega (arith, t .known, opened-traits (c .before .before .before .before .before .before .before .before .before .pre .0) (t .code))
+small c = let t = turned c in omega (arith, t .known, traits-small _ (t .code) (c .before .before .before .before .before .before .before .before .before .pre .0))
 
 -- the record that is to be written in each of the three turns
 known :
     (c : tie.After-pick-start Inv-loop μ-loop)
     → Pending (c .before .before .before .before .before .before .before .before .before .before .before .before .before .before .before .args .image .now) (c .before .before .before .before .before .before .before .before .before .before .before .before .before .before .before .args .text .now) (c .before .before .before .before .before .before .before .before .before .before .before .before .before .before .before .args .out .now) (c .before .before .before .before .before .before .before .before .before .before .loop .out) (c .before .kind-after .result) (c .pick-start .result) (c .before .before .before .before .before .before .before .before .before .before .loop .at + c .before .before .before .before .before .before .before .before .read .result .len) (c .before .before .before .before .before .before .before .before .before .before .loop .w + 3 * c .before .before .before .before .find-turn .result)
-known c = pending-turn _ _ _ _ _ _ _ _ (c .before .before .before .before .before .before .before .before .before .before .loop .inv .0) (c .before .before .before .before .before .before .before .before .before .before .before .before .before .before .before .pre .0 .accepted) _ _ (turned (c .before .before .before .before .before .before)) _ (c .before .before .before .before .find-turn .ensures) (c .before .before .before .if2 .taken) _ (c .before .kind-after .ensures) _ (c .pick-start .ensures)
+known c = pending-turn _ _ _ _ _ _ _ _ (c .before .before .before .before .before .before .before .before .before .before .loop .inv .0) (c .before .before .before .before .before .before .before .before .before .before .before .before .before .before .before .pre .0) _ _ (turned (c .before .before .before .before .before .before)) _ (c .before .before .before .before .find-turn .ensures) (c .before .before .before .if2 .taken) _ (c .before .kind-after .ensures) _ (c .pick-start .ensures)
 
 goes :
     (c : tie.Then3 Inv-loop μ-loop)
     → Pending (c .before .before .before .before .before .before .before .before .before .before .before .before .before .before .args .image .now) (c .before .before .before .before .before .before .before .before .before .before .before .before .before .before .args .text .now) (c .before .before .before .before .before .before .before .before .before .before .before .before .before .before .args .out .now) (c .before .before .before .before .before .before .before .before .before .loop .out) (c .before .before .before .before .before .before .before .before .before .loop .kind) (c .before .before .before .before .before .before .before .before .before .loop .start) (c .before .before .before .before .before .before .before .before .before .loop .at + c .before .before .before .before .before .before .before .read .result .len) (c .before .before .before .before .before .before .before .before .before .loop .w)
-goes c = pending-more _ _ _ _ _ _ _ _ (c .before .before .before .before .before .before .before .before .before .loop .inv .0) (c .before .before .before .before .before .before .before .before .before .before .before .before .before .before .pre .0 .accepted) _ _ (turned (c .before .before .before .before .before)) (sym (c .before .goes-on .ensures) ∙ c .if3 .taken)
+goes c = pending-more _ _ _ _ _ _ _ _ (c .before .before .before .before .before .before .before .before .before .loop .inv .0) (c .before .before .before .before .before .before .before .before .before .before .before .before .before .before .pre .0) _ _ (turned (c .before .before .before .before .before)) (sym (c .before .goes-on .ensures) ∙ c .if3 .taken)
 
 begins :
     (c : tie.Else4 Inv-loop μ-loop)
     → Pending (c .before .before .before .before .before .before .before .before .before .before .before .before .before .before .before .before .args .image .now) (c .before .before .before .before .before .before .before .before .before .before .before .before .before .before .before .before .args .text .now) (c .before .before .before .before .before .before .before .before .before .before .before .before .before .before .before .before .args .out .now) (c .before .before .before .before .before .before .before .before .before .before .before .loop .out) (c .before .kind-begun .result) (c .before .before .before .before .before .before .before .before .before .before .before .loop .at) (c .before .before .before .before .before .before .before .before .before .before .before .loop .at + c .before .before .before .before .before .before .before .before .before .read .result .len) (c .before .before .before .before .before .before .before .before .before .before .before .loop .w + 3)
-begins c = pending-begin _ _ _ _ _ _ _ _ (c .before .before .before .before .before .before .before .before .before .before .before .loop .inv .0) (c .before .before .before .before .before .before .before .before .before .before .before .before .before .before .before .before .pre .0 .accepted) _ _ (turned (c .before .before .before .before .before .before .before)) (sym (c .before .before .before .goes-on .ensures) ∙ c .before .before .if3 .left) _ (c .before .kind-begun .ensures) (c .if4 .left)
+begins c = pending-begin _ _ _ _ _ _ _ _ (c .before .before .before .before .before .before .before .before .before .before .before .loop .inv .0) (c .before .before .before .before .before .before .before .before .before .before .before .before .before .before .before .before .pre .0) _ _ (turned (c .before .before .before .before .before .before .before)) (sym (c .before .before .before .goes-on .ensures) ∙ c .before .before .if3 .left) _ (c .before .kind-begun .ensures) (c .if4 .left)
 
 no-memo-requires : tie.Need-no-memo-requires Inv-loop μ-loop
 no-memo-requires c κs = search needs
@@ -135,7 +135,7 @@ same-length-2 : tie.Need-same-length-2 Inv-loop μ-loop
 same-length-2 c = search needs
 
 returns-2 : tie.Need-returns-2 Inv-loop μ-loop
-returns-2 c = listed-stop _ _ _ _ _ _ _ _ (c .before .before .before .before .before .before .before .before .before .before .before .loop .inv .0) (c .before .before .before .before .before .before .before .before .before .before .before .before .before .before .before .before .pre .0 .accepted) _ _ (turned (c .before .before .before .before .before .before .before)) (sym (c .before .before .before .goes-on .ensures) ∙ c .before .before .if3 .left) (sym (c .before .kind-begun .ensures) ∙ c .if4 .taken)
+returns-2 c = listed-stop _ _ _ _ _ _ _ _ (c .before .before .before .before .before .before .before .before .before .before .before .loop .inv .0) (c .before .before .before .before .before .before .before .before .before .before .before .before .before .before .before .before .pre .0) _ _ (turned (c .before .before .before .before .before .before .before)) (sym (c .before .before .before .goes-on .ensures) ∙ c .before .before .if3 .left) (sym (c .before .kind-begun .ensures) ∙ c .if4 .taken)
 
 add-w-2 : tie.Need-add-w-2 Inv-loop μ-loop
 add-w-2 c = omega (arith, pending-fits _ _ _ _ _ _ _ _ (begins (c)), (begins (c)) .writing .long, c .before .before .before .before .before .before .before .before .before .before .before .before .before, c .before .before .before .before .before .before .before .before .before .before .before .before .before .before .before .before)

@@ -1,23 +1,24 @@
 -- `token::count` meets its contract. Assumes nothing.
-use Rattle.token.proofs.AnswerLaws.{opened, count-refused}
+use Rattle.image.proofs.ImageLaws.{refused-by, accepted-by}
+use Rattle.token.proofs.AnswerLaws.{count-refused}
 use borrow.Author.Needs.{needs}
 use Rattle.token.proofs.count.Statement.{statement}
 use Rattle.token.proofs.count.Tie as tie
 
-check-requires : tie.Need-check-requires
-check-requires c κs = search needs
+judge-requires : tie.Need-judge-requires
+judge-requires c κs = search needs
 
 enum-known-answer : tie.Need-enum-known-answer
 enum-known-answer c = search needs
 
-enum-known-answer-2 : tie.Need-enum-known-answer-2
-enum-known-answer-2 c = search needs
+enum-told : tie.Need-enum-told
+enum-told c = search needs
 
 count-checked-requires : tie.Need-count-checked-requires
-count-checked-requires c κs = opened _ _ (c .before .before .before .before .before .before .before .before .check .ensures) _ _ (c .before .before .before .before .before .before .answer2 .given .1)
+count-checked-requires c κs = accepted-by _ _ (c .before .before .judge .ensures) _ _ (c .enum-told .given .1) .0
 
 returns : tie.Need-returns
-returns c = count-refused _ _ _ (c .before .before .before .check .ensures) _ (c .before .answer .given .1)
+returns c = count-refused _ _ (refused-by _ _ (c .before .before .before .judge .ensures) _ (c .before .answer .given .1))
 
 returns-2 : tie.Need-returns-2
 returns-2 c = search needs
@@ -25,10 +26,4 @@ returns-2 c = search needs
 pub count-spec : {M : Type 1} → statement M
 count-spec =
     tie.close
-    (tie.spec
-    check-requires
-    enum-known-answer
-    enum-known-answer-2
-    count-checked-requires
-    returns
-    returns-2)
+    (tie.spec judge-requires enum-known-answer enum-told count-checked-requires returns returns-2)

@@ -1,23 +1,24 @@
 -- `token::list` meets its contract. Assumes nothing.
-use Rattle.token.proofs.AnswerLaws.{opened, list-refused}
+use Rattle.image.proofs.ImageLaws.{refused-by, accepted-by}
+use Rattle.token.proofs.AnswerLaws.{count-refused, list-refused}
 use borrow.Author.Needs.{needs}
 use Rattle.token.proofs.list.Statement.{statement}
 use Rattle.token.proofs.list.Tie as tie
 
-check-requires : tie.Need-check-requires
-check-requires c κs = search needs
+judge-requires : tie.Need-judge-requires
+judge-requires c κs = search needs
 
 enum-known-answer : tie.Need-enum-known-answer
 enum-known-answer c = search needs
 
-enum-known-answer-2 : tie.Need-enum-known-answer-2
-enum-known-answer-2 c = search needs
+enum-told : tie.Need-enum-told
+enum-told c = search needs
 
 list-checked-requires : tie.Need-list-checked-requires
-list-checked-requires c κs = opened _ _ (c .before .before .before .before .before .before .before .before .before .check .ensures) _ _ (c .before .before .before .before .before .before .before .answer2 .given .1)
+list-checked-requires c κs = accepted-by _ _ (c .before .before .before .judge .ensures) _ _ (c .before .enum-told .given .1) .0
 
 returns : tie.Need-returns
-returns c = list-refused _ _ _ (c .before .before .before .check .ensures) _ (c .before .answer .given .1) _
+returns c = list-refused _ _ _ (count-refused _ _ (refused-by _ _ (c .before .before .before .judge .ensures) _ (c .before .answer .given .1)))
 
 same-length : tie.Need-same-length
 same-length c = search needs
@@ -29,9 +30,9 @@ pub list-spec : {M : Type 1} → statement M
 list-spec =
     tie.close
     (tie.spec
-    check-requires
+    judge-requires
     enum-known-answer
-    enum-known-answer-2
+    enum-told
     list-checked-requires
     returns
     same-length

@@ -20,13 +20,13 @@ found c f e = ap (firstOf (c .before .before .before .before .before .before .be
 stands :
     (c : tie.After-first-token) (f : First) → c .first-token .result ≡ f
     → takenBy (c .before .before .before .before .before .before .before .before .args .place) f ≡ takenOf (c .before .before .before .before .before .before .before .before .args .image .now) (c .before .before .before .before .before .before .before .before .args .text .now) (c .before .before .before .before .before .before .before .before .args .place)
-stands c f e = taken-first _ _ _ (c .before .before .before .before .before .before .before .before .pre .accepted) (c .before .before .before .before .before .if1 .left) (c .before .before .before .before .if2 .left) f (found c f e)
+stands c f e = taken-first _ _ _ (c .before .before .before .before .before .before .before .before .pre) (c .before .before .before .before .before .if1 .left) (c .before .before .before .before .if2 .left) f (found c f e)
 
 returns : tie.Need-returns
-returns c = taken-long _ _ _ (c .before .before .before .pre .accepted) (c .if1 .taken)
+returns c = taken-long _ _ _ (c .before .before .before .pre) (c .if1 .taken)
 
 returns-2 : tie.Need-returns-2
-returns-2 c = taken-past _ _ _ (c .before .before .before .before .pre .accepted) (c .before .if1 .left) (c .if2 .taken)
+returns-2 c = taken-past _ _ _ (c .before .before .before .before .pre) (c .before .if1 .left) (c .if2 .taken)
 
 fill-table-requires : tie.Need-fill-table-requires
 fill-table-requires c κs = search needs
@@ -55,8 +55,8 @@ enum-told-3 c = search needs
 enum-known-first : tie.Need-enum-known-first
 enum-known-first c = search needs
 
-add-t24 : tie.Need-add-t24
-add-t24 c = let w = first-within _ _ _ _ (found (c .before .before .before) _ (c .before .first .given .1)) in omega (arith, length-drop (c .before .before .before .before .before .before .before .before .before .before .before .args .place) (c .before .before .before .before .before .before .before .before .before .before .before .args .text .now))
+add-t20 : tie.Need-add-t20
+add-t20 c = let w = first-within _ _ _ _ (found (c .before .before .before) _ (c .before .first .given .1)) in omega (arith, length-drop (c .before .before .before .before .before .before .before .before .before .before .before .args .place) (c .before .before .before .before .before .before .before .before .before .before .before .args .text .now))
 
 returns-3 : tie.Need-returns-3
 returns-3 c = stands (c .before .before) _ (c .enum-told .given .1)
@@ -85,7 +85,7 @@ take-checked-spec =
     enum-told-2
     enum-told-3
     enum-known-first
-    add-t24
+    add-t20
     returns-3
     returns-4
     returns-5

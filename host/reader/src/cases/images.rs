@@ -1,7 +1,12 @@
 //! Made images: valid and damaged.
 
 use super::Rng;
-use crate::image::{Image, Profile, Range, MAX_PROFILE, MAX_RANGES};
+use crate::image::{
+    profile_offset, total_length, Image, Profile, Range, CODE_POINTS, ENTRY_BYTES, FORMAT,
+    HEADER_BYTES, MAX_ENTRIES, MAX_IMAGE, MAX_RANGES, RANGE_BYTES,
+};
+use crate::names::class::{NONSTART, OTHER, START, SYNTAX, WHITE};
+use crate::names::role;
 use crate::utf8::is_scalar;
 
 /// Code points at which something changes: length, class or limit.
@@ -13,32 +18,32 @@ pub const EDGES: [u32; 30] = [
 
 /// Ranges like those in use: letters, digits, signs and blanks.
 const USUAL: [(u32, u32, u32); 26] = [
-    (0x09, 0x0D, 4),
-    (0x20, 0x20, 4),
-    (0x21, 0x2F, 3),
-    (0x30, 0x39, 2),
-    (0x3A, 0x40, 3),
-    (0x41, 0x5A, 1),
-    (0x5F, 0x5F, 2),
-    (0x61, 0x7A, 1),
-    (0x7B, 0x7E, 3),
-    (0x85, 0x85, 4),
-    (0xA0, 0xA0, 5),
-    (0xB5, 0xB5, 1),
-    (0xB7, 0xB7, 2),
-    (0xC0, 0xD6, 1),
-    (0xD7, 0xD7, 3),
-    (0xE9, 0x2C1, 1),
-    (0x300, 0x36F, 2),
-    (0x200C, 0x200D, 5),
-    (0x200E, 0x200F, 4),
-    (0x2010, 0x2027, 3),
-    (0x2028, 0x2029, 4),
-    (0x4E00, 0x9FFF, 1),
-    (0xFDD0, 0xFDEF, 5),
-    (0x1E900, 0x1E943, 1),
-    (0x1E944, 0x1E94A, 2),
-    (0xE0100, 0xE01EF, 2),
+    (0x09, 0x0D, WHITE),
+    (0x20, 0x20, WHITE),
+    (0x21, 0x2F, SYNTAX),
+    (0x30, 0x39, NONSTART),
+    (0x3A, 0x40, SYNTAX),
+    (0x41, 0x5A, START),
+    (0x5F, 0x5F, NONSTART),
+    (0x61, 0x7A, START),
+    (0x7B, 0x7E, SYNTAX),
+    (0x85, 0x85, WHITE),
+    (0xA0, 0xA0, OTHER),
+    (0xB5, 0xB5, START),
+    (0xB7, 0xB7, NONSTART),
+    (0xC0, 0xD6, START),
+    (0xD7, 0xD7, SYNTAX),
+    (0xE9, 0x2C1, START),
+    (0x300, 0x36F, NONSTART),
+    (0x200C, 0x200D, OTHER),
+    (0x200E, 0x200F, WHITE),
+    (0x2010, 0x2027, SYNTAX),
+    (0x2028, 0x2029, WHITE),
+    (0x4E00, 0x9FFF, START),
+    (0xFDD0, 0xFDEF, OTHER),
+    (0x1E900, 0x1E943, START),
+    (0x1E944, 0x1E94A, NONSTART),
+    (0xE0100, 0xE01EF, NONSTART),
 ];
 
 /// The words of an image before they are put into bytes.
@@ -62,8 +67,10 @@ impl Draft {
 
     /// Sets the header to what the ranges and entries need.
     fn fit(&mut self) {
-        let (n, m) = (self.ranges.len() as u32, self.entries.len() as u32);
-        self.header = [1, self.header[1], 32 + 12 * n + 8 * m, n, 32, m, 32 + 12 * n, 0];
+        let (n, m) = (self.ranges.len(), self.entries.len());
+        let [total, offset] = [total_length(n, m), profile_offset(n)].map(|bytes| bytes as u32);
+        let version = self.header[1];
+        self.header = [FORMAT, version, total, n as u32, HEADER_BYTES as u32, m as u32, offset, 0];
     }
 
     fn bytes(&self) -> Vec<u8> {
@@ -85,7 +92,7 @@ fn version(rng: &mut Rng) -> u32 {
 }
 
 fn class(rng: &mut Rng) -> u32 {
-    1 + rng.below(5) as u32
+    START + rng.below(OTHER as usize) as u32
 }
 
 /// Adds a range, with another class if it touches its like.
@@ -93,7 +100,7 @@ fn push(rng: &mut Rng, ranges: &mut Vec<Range>, first: u32, last: u32) {
     let mut class = class(rng);
     if let Some(before) = ranges.last() {
         if before.last + 1 == first && before.class == class {
-            class = class % 5 + 1;
+            class = class % OTHER + 1;
         }
     }
     ranges.push(Range { first, last, class });
@@ -105,14 +112,14 @@ fn profile(rng: &mut Rng, ranges: &[Range], m: usize) -> Profile {
     while points.len() < m {
         let point = match rng.below(3) {
             0 if !ranges.is_empty() => rng.pick(ranges).first,
-            1 => rng.below(0x110000) as u32,
+            1 => rng.below(CODE_POINTS) as u32,
             _ => *rng.pick(&EDGES),
         };
         if is_scalar(point) {
             points.insert(point);
         }
     }
-    let role = |rng: &mut Rng| if rng.once_in(2) { 3 } else { 1 + rng.below(4) as u32 };
+    let role = |rng: &mut Rng| if rng.once_in(2) { role::MEDIAL } else { 1 + rng.below(4) as u32 };
     let entries: Vec<(u32, u32)> = points.into_iter().map(|point| (point, role(rng))).collect();
     Profile::of(&entries)
 }
@@ -123,7 +130,7 @@ pub fn small_image(rng: &mut Rng) -> Image {
     let firsts: Vec<u32> = EDGES.iter().copied().filter(|_| rng.once_in(sparse)).collect();
     let mut ranges = Vec::new();
     for (i, &first) in firsts.iter().enumerate() {
-        let next = firsts.get(i + 1).copied().unwrap_or(0x110000);
+        let next = firsts.get(i + 1).copied().unwrap_or(CODE_POINTS as u32);
         let limit = if first < 0xD800 { next.min(0xD800) } else { next };
         let last = match rng.below(3) {
             0 => first,
@@ -136,6 +143,10 @@ pub fn small_image(rng: &mut Rng) -> Image {
     Image { version: version(rng), profile: profile(rng, &ranges, m), ranges }
 }
 
+/// The roles, medials more often.
+const ROLES: [u32; 6] =
+    [role::START, role::NONSTART, role::MEDIAL, role::MEDIAL, role::MEDIAL, role::OTHER];
+
 /// An image like those in use: letters, digits, signs and blanks.
 fn script_image(rng: &mut Rng) -> Image {
     let kept = USUAL.iter().filter(|_| !rng.once_in(8));
@@ -145,7 +156,7 @@ fn script_image(rng: &mut Rng) -> Image {
     let mut entries = Vec::new();
     for point in points {
         if rng.once_in(4) {
-            entries.push((point, *rng.pick(&[1, 2, 3, 3, 3, 4])));
+            entries.push((point, *rng.pick(&ROLES)));
         }
     }
     Image { version: version(rng), ranges, profile: Profile::of(&entries) }
@@ -169,16 +180,16 @@ fn spread_image(rng: &mut Rng, n: usize, m: usize) -> Image {
     Image { version: version(rng), profile: profile(rng, &ranges, m), ranges }
 }
 
-/// The largest image: 4,096 ranges and 64 entries.
+/// The largest image.
 pub fn large_image(rng: &mut Rng) -> Image {
-    spread_image(rng, MAX_RANGES, MAX_PROFILE)
+    spread_image(rng, MAX_RANGES, MAX_ENTRIES)
 }
 
 pub fn valid_image(rng: &mut Rng) -> Image {
     match rng.below(40) {
         0 => large_image(rng),
         1 => {
-            let (n, m) = (rng.below(MAX_RANGES + 1), rng.below(MAX_PROFILE + 1));
+            let (n, m) = (rng.below(MAX_RANGES + 1), rng.below(MAX_ENTRIES + 1));
             spread_image(rng, n, m)
         }
         2..=5 => {
@@ -190,6 +201,20 @@ pub fn valid_image(rng: &mut Rng) -> Image {
     }
 }
 
+/// Limits of the header's words, and numbers beside them.
+const ABOUT_LIMITS: [usize; 10] = [
+    2,
+    HEADER_BYTES - 1,
+    HEADER_BYTES,
+    HEADER_BYTES + 1,
+    MAX_ENTRIES,
+    MAX_ENTRIES + 1,
+    MAX_RANGES,
+    MAX_RANGES + 1,
+    MAX_IMAGE,
+    MAX_IMAGE + 1,
+];
+
 fn damage_header(rng: &mut Rng, draft: &mut Draft) {
     let word = &mut draft.header[rng.below(8)];
     *word = match rng.below(9) {
@@ -200,7 +225,7 @@ fn damage_header(rng: &mut Rng, draft: &mut Draft) {
         4 => *word ^ 1 << rng.below(32),
         // Counts whose multiples pass 2^32.
         5 => *rng.pick(&[357_913_942, 536_870_913, 0x8000_0000]),
-        6 => *rng.pick(&[2, 31, 32, 33, 64, 65, 4096, 4097, 49_696, 49_697]),
+        6 => *rng.pick(&ABOUT_LIMITS) as u32,
         7 => word.wrapping_add(4),
         _ => rng.word(),
     };
@@ -209,8 +234,8 @@ fn damage_header(rng: &mut Rng, draft: &mut Draft) {
 fn damage_ranges(rng: &mut Rng, draft: &mut Draft) {
     if draft.ranges.len() < 2 {
         draft.ranges = vec![
-            Range { first: 0x41, last: 0x5A, class: 1 },
-            Range { first: 0x61, last: 0x7A, class: 1 },
+            Range { first: 0x41, last: 0x5A, class: START },
+            Range { first: 0x61, last: 0x7A, class: START },
         ];
     }
     let i = 1 + rng.below(draft.ranges.len() - 1);
@@ -221,7 +246,7 @@ fn damage_ranges(rng: &mut Rng, draft: &mut Draft) {
         2 => draft.ranges[i].first = before.last,
         3 => draft.ranges[i].first = surrogate,
         4 => draft.ranges[i].last = surrogate,
-        5 => draft.ranges[i] = Range { first: 0xD7FF, last: 0xE000, class: 1 },
+        5 => draft.ranges[i] = Range { first: 0xD7FF, last: 0xE000, class: START },
         6 => draft.ranges[i].class = *rng.pick(&[0, 6, 7, u32::MAX]),
         7 => draft.ranges[i].last = draft.ranges[i].first.wrapping_sub(1),
         8 => draft.ranges[i].last = *rng.pick(&[0x110000, u32::MAX]),
@@ -232,7 +257,7 @@ fn damage_ranges(rng: &mut Rng, draft: &mut Draft) {
 
 fn damage_profile(rng: &mut Rng, draft: &mut Draft) {
     if draft.entries.len() < 2 {
-        draft.entries = vec![(0x2D, 3), (0x2E, 3), (0x5F, 1)];
+        draft.entries = vec![(0x2D, role::MEDIAL), (0x2E, role::MEDIAL), (0x5F, role::START)];
     }
     let i = 1 + rng.below(draft.entries.len() - 1);
     match rng.below(5) {
@@ -247,13 +272,29 @@ fn damage_profile(rng: &mut Rng, draft: &mut Draft) {
 
 /// One range or entry above the limit, all else good.
 fn over_limit(rng: &mut Rng) -> Draft {
-    let (n, m) = *rng.pick(&[(4097, 0), (4097, 62), (4097, 64), (10, 65), (4095, 65), (4096, 65)]);
+    const N: usize = MAX_RANGES;
+    const M: usize = MAX_ENTRIES;
+    let counts = [(N + 1, 0), (N + 1, M - 2), (N + 1, M), (10, M + 1), (N - 1, M + 1), (N, M + 1)];
+    let (n, m) = *rng.pick(&counts);
     let full = spread_image(rng, n, 0);
     let mut draft = Draft::of(&full);
-    draft.entries = (0..m).map(|i| (0x100 + i, 1 + i % 4)).collect();
+    draft.entries = (0..m as u32).map(|i| (0x100 + i, 1 + i % 4)).collect();
     draft.fit();
     draft
 }
+
+/// Lengths about the least and the most.
+const LENGTHS: [usize; 9] = [
+    0,
+    1,
+    12,
+    HEADER_BYTES - 1,
+    HEADER_BYTES,
+    HEADER_BYTES + 1,
+    MAX_IMAGE - 1,
+    MAX_IMAGE,
+    MAX_IMAGE + 1,
+];
 
 /// Cuts or lengthens the bytes; the header may be told.
 fn damage_length(rng: &mut Rng, bytes: &mut Vec<u8>) {
@@ -261,9 +302,9 @@ fn damage_length(rng: &mut Rng, bytes: &mut Vec<u8>) {
         0 => rng.below(bytes.len()),
         1 => bytes.len() - 1,
         2 => bytes.len() + 1 + rng.below(20),
-        3 => bytes.len() - *rng.pick(&[4, 8, 12]),
-        4 => bytes.len() + *rng.pick(&[4, 8, 12]),
-        _ => *rng.pick(&[0, 1, 12, 31, 32, 33, 49_695, 49_696, 49_697]),
+        3 => bytes.len() - *rng.pick(&[4, ENTRY_BYTES, RANGE_BYTES]),
+        4 => bytes.len() + *rng.pick(&[4, ENTRY_BYTES, RANGE_BYTES]),
+        _ => *rng.pick(&LENGTHS),
     };
     let fill = rng.word() as u8;
     bytes.resize(length, fill);

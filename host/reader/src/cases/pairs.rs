@@ -1,15 +1,16 @@
 //! A newer image made from an older one.
 
 use super::Rng;
-use crate::image::{Image, Profile, Range, MAX_PROFILE, MAX_RANGES};
+use crate::image::{Image, Profile, Range, CODE_POINTS, MAX_ENTRIES, MAX_RANGES};
+use crate::names::{class, role};
 use crate::utf8::is_scalar;
 
 /// The classes that Table 1 permits a class to become.
-fn permitted_classes(class: u8) -> &'static [u8] {
-    match class {
-        0 => &[1, 2, 5],
-        5 => &[1, 2],
-        2 => &[1],
+fn permitted_classes(class: u8) -> &'static [u32] {
+    match class.into() {
+        class::UNASSIGNED => &[class::START, class::NONSTART, class::OTHER],
+        class::OTHER => &[class::START, class::NONSTART],
+        class::NONSTART => &[class::START],
         _ => &[],
     }
 }
@@ -21,7 +22,7 @@ fn ranges_of(table: &[u8]) -> Vec<Range> {
         let (point, class) = (point as u32, u32::from(class));
         match ranges.last_mut() {
             Some(range) if range.last + 1 == point && range.class == class => range.last = point,
-            _ if class == 0 || !is_scalar(point) => {}
+            _ if class == class::UNASSIGNED || !is_scalar(point) => {}
             _ => ranges.push(Range { first: point, last: point, class }),
         }
     }
@@ -37,12 +38,12 @@ fn run(rng: &mut Rng, image: &Image) -> std::ops::Range<usize> {
         _ => *rng.pick(&[0x2F, 0x41, 0xE9, 0x378, 0xD7FF, 0xE000, 0x10FFFF]),
     } as usize;
     let length = *rng.pick(&[1, 1, 2, 10, 3000]);
-    first..(first + length).min(0x110000)
+    first..(first + length).min(CODE_POINTS)
 }
 
 /// The image with another table, unless that needs too many ranges.
 fn with_table(rng: &mut Rng, image: &Image, mut table: Vec<u8>) -> Image {
-    table[0xD800..0xE000].fill(0);
+    table[0xD800..0xE000].fill(class::UNASSIGNED as u8);
     let ranges = ranges_of(&table);
     let ranges = if ranges.len() > MAX_RANGES { image.ranges.clone() } else { ranges };
     let version = image.version.wrapping_add(rng.below(3) as u32);
@@ -57,7 +58,7 @@ pub fn permitted_changes(rng: &mut Rng, image: &Image) -> Image {
         for point in run(rng, image) {
             let classes = permitted_classes(table[point]);
             if !classes.is_empty() {
-                table[point] = classes[choice % classes.len()];
+                table[point] = classes[choice % classes.len()] as u8;
             }
         }
     }
@@ -83,10 +84,10 @@ pub fn unequal_profile(rng: &mut Rng, image: &Image) -> Image {
     let i = rng.below(entries.len().max(1));
     match choice {
         1 => drop(entries.remove(i)),
-        2 => entries[i].1 = entries[i].1 % 4 + 1,
-        _ if entries.len() == MAX_PROFILE => drop(entries.pop()),
+        2 => entries[i].1 = entries[i].1 % role::OTHER + 1,
+        _ if entries.len() == MAX_ENTRIES => drop(entries.pop()),
         _ if entries.last().map_or(false, |entry| entry.0 == 0x10FFFF) => drop(entries.pop()),
-        _ => entries.push((0x10FFFF, 1 + rng.below(4) as u32)),
+        _ => entries.push((0x10FFFF, 1 + rng.below(role::OTHER as usize) as u32)),
     }
     Image { profile: Profile::of(&entries), ..image.clone() }
 }

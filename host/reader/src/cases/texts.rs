@@ -2,7 +2,9 @@
 
 use super::images::EDGES;
 use super::Rng;
-use crate::image::{Image, NONSTART, OTHER, START, SYNTAX, WHITE};
+use crate::image::Image;
+use crate::names::class::{NONSTART, OTHER, START, SYNTAX, UNASSIGNED, WHITE};
+use crate::names::role;
 use crate::token::MAX_TEXT;
 use crate::utf8::is_scalar;
 
@@ -65,8 +67,12 @@ fn palette(rng: &mut Rng, image: &Image) -> Palette {
         continues: of(&|class| class == START || class == NONSTART),
         syntaxes: of(&|class| class == SYNTAX),
         whites: of(&|class| class == WHITE),
-        others: of(&|class| class == 0 || class == OTHER || class == NONSTART),
-        medials: points.iter().copied().filter(|&point| image.role(point) == 3).collect(),
+        others: of(&|class| class == UNASSIGNED || class == OTHER || class == NONSTART),
+        medials: points
+            .iter()
+            .copied()
+            .filter(|&point| image.role(point) == role::MEDIAL)
+            .collect(),
     }
 }
 

@@ -1,31 +1,45 @@
-//! The paper's own readings of the small images M and M2.
+//! The readings that docs/RULES.md gives of the small images M and M2.
 
+use luffinarc_reader::class::{NONSTART, START, SYNTAX, WHITE};
+use luffinarc_reader::image::{profile_offset, MAX_IMAGE, MAX_RANGES, RANGE_BYTES};
+use luffinarc_reader::lister::MAX_SCRIPT;
+use luffinarc_reader::token::{MAX_TEXT, TOKEN_WORDS};
 use luffinarc_reader::*;
 
-const SMALL: [u32; 15] =
-    [0x20, 0x20, 4, 0x2E, 0x2E, 3, 0x30, 0x39, 2, 0x41, 0x5A, 1, 0x61, 0x7A, 1];
+/// The ranges of M.
+#[rustfmt::skip]
+const SMALL: [u32; 15] = [
+    0x20, 0x20, WHITE,
+    0x2E, 0x2E, SYNTAX,
+    0x30, 0x39, NONSTART,
+    0x41, 0x5A, START,
+    0x61, 0x7A, START,
+];
+
+/// The version word of M and M2.
+const VERSION: u32 = 1_048_576;
 
 fn image(version: u32, words: &[u32], entries: &[(u32, u32)]) -> Vec<u8> {
-    let mut out = vec![0; 50_000];
+    let mut out = vec![0; MAX_IMAGE];
     let total = write(version, words, &Profile::of(entries), &mut out).unwrap();
     out.truncate(total);
     out
 }
 
 fn m() -> Vec<u8> {
-    image(1_048_576, &SMALL, &[(0x2E, 3)])
+    image(VERSION, &SMALL, &[(0x2E, role::MEDIAL)])
 }
 
 fn m2() -> Vec<u8> {
-    let words = [&SMALL[..], &[0xE9, 0xE9, 1]].concat();
-    image(1_048_576, &words, &[(0x2E, 3)])
+    let words = [&SMALL[..], &[0xE9, 0xE9, START]].concat();
+    image(VERSION, &words, &[(0x2E, role::MEDIAL)])
 }
 
 fn tokens(image: &[u8], text: &[u8]) -> Result<Vec<u32>, Refusal> {
-    let mut words = vec![0; 3 * text.len()];
+    let mut words = vec![0; TOKEN_WORDS * text.len()];
     let n = list(image, text, &mut words)?;
     assert_eq!(count(image, text), Ok(n));
-    Ok(words[..3 * n].to_vec())
+    Ok(words[..TOKEN_WORDS * n].to_vec())
 }
 
 #[test]
@@ -43,13 +57,13 @@ fn readings() {
         assert_eq!(tokens(&m(), text), Ok(list.to_vec()));
     }
     let refused: [(&[u8], Refusal); 7] = [
-        (b"1a", Refusal::NoToken(0)),
-        (b"a 1", Refusal::NoToken(2)),
+        (b"1a", Refusal::Characters(0)),
+        (b"a 1", Refusal::Characters(2)),
         (b"\xC0\x80", Refusal::IllFormed(0)),
         (b"\x61\xE2\x82", Refusal::IllFormed(1)),
         (b"\x61\xED\xA0\x80", Refusal::IllFormed(1)),
         (b"\xF4\x90\x80\x80", Refusal::IllFormed(0)),
-        (b"\x61\xC3\xA9", Refusal::NoToken(1)),
+        (b"\x61\xC3\xA9", Refusal::Characters(1)),
     ];
     for (text, refusal) in refused {
         assert_eq!(tokens(&m(), text), Err(refusal));
@@ -74,7 +88,7 @@ fn lookups_and_pairs() {
     let looked: Vec<u32> = [0x20, 0x2E, 0x7A].map(|p| lookup(&m(), p).unwrap().1).to_vec();
     assert_eq!(looked, [3, 2, 2]);
     assert_eq!(pair(&m(), &m2()), Ok(()));
-    assert_eq!(pair(&m2(), &m()), Err(PairRefusal::Pair(Refusal::Forbidden(0xE9))));
+    assert_eq!(pair(&m2(), &m()), Err(PairRefusal::Pair(Refusal::Change(0xE9))));
 }
 
 #[test]
@@ -83,15 +97,18 @@ fn counts_at_their_limits() {
     huge[12..16].copy_from_slice(&357_913_942u32.to_le_bytes());
     assert_eq!(check(&huge), Err(Refusal::Header));
     huge[8] = 101;
-    assert_eq!(check(&huge), Err(Refusal::ImageLength));
-    let words: Vec<u32> = (0..4097).flat_map(|i| [2 * i, 2 * i, 1]).collect();
-    let full = image(0, &words[3..], &[]);
-    assert_eq!(check(&full).unwrap().ranges, 4096);
+    assert_eq!(check(&huge), Err(Refusal::Length));
+    let most = MAX_RANGES as u32;
+    let words: Vec<u32> = (0..most).flat_map(|i| [2 * i, 2 * i, START]).collect();
+    let full = image(0, &words, &[]);
+    assert_eq!(check(&full).unwrap().ranges, MAX_RANGES);
     let mut over = full.clone();
-    over.extend([0, 0x20, 1].map(u32::to_le_bytes).concat());
-    over[8..12].copy_from_slice(&49_196u32.to_le_bytes());
-    over[12..16].copy_from_slice(&4097u32.to_le_bytes());
-    over[24..28].copy_from_slice(&49_196u32.to_le_bytes());
+    over.extend([2 * most, 2 * most, START].map(u32::to_le_bytes).concat());
+    let total = profile_offset(MAX_RANGES + 1) as u32;
+    assert_eq!(over.len(), full.len() + RANGE_BYTES);
+    over[8..12].copy_from_slice(&total.to_le_bytes());
+    over[12..16].copy_from_slice(&(most + 1).to_le_bytes());
+    over[24..28].copy_from_slice(&total.to_le_bytes());
     assert_eq!(check(&over), Err(Refusal::Header));
 }
 
@@ -100,16 +117,17 @@ fn lister_output() {
     let good = [&m()[..], b"ab.c1 ."].concat();
     assert_eq!(lister(&good), "tokens 3\nidentifier 0 5\nwhitespace 5 6\nsyntax 6 7\n");
     assert_eq!(lister(&[&m()[..], b"a 1"].concat()), "refused 7 2\n");
-    assert_eq!(lister(&[&m()[..], &[b'a'; 8192]].concat()), "tokens 1\nidentifier 0 8192\n");
-    assert_eq!(lister(&[&m()[..], &[b'a'; 8193]].concat()), "refused 5\n");
+    let long = [&m()[..], &[b'a'; MAX_SCRIPT]].concat();
+    assert_eq!(lister(&long), format!("tokens 1\nidentifier 0 {MAX_SCRIPT}\n"));
+    assert_eq!(lister(&[&long[..], b"a"].concat()), "refused 5\n");
 }
 
 #[test]
 fn text_limit() {
-    let text = vec![b'a'; 1_048_577];
+    let text = vec![b'a'; MAX_TEXT + 1];
     assert_eq!(count(&m(), &text[1..]), Ok(1));
     assert_eq!(count(&m(), &text), Err(Refusal::TextLength));
-    assert_eq!(at(&m(), &text, 2_000_000), Err(Refusal::TextLength));
+    assert_eq!(at(&m(), &text, 2 * MAX_TEXT), Err(Refusal::TextLength));
 }
 
 #[test]
@@ -121,6 +139,6 @@ fn unicode_images() {
     let images = ["14.0", "15.0", "16.0", "17.0"].map(read);
     for two in images.windows(2) {
         assert_eq!(pair(&two[0], &two[1]), Ok(()));
-        assert!(matches!(pair(&two[1], &two[0]), Err(PairRefusal::Pair(Refusal::Forbidden(_)))));
+        assert!(matches!(pair(&two[1], &two[0]), Err(PairRefusal::Pair(Refusal::Change(_)))));
     }
 }

@@ -1,0 +1,103 @@
+-- A text has no more tokens than bytes, so there is always room for them in so many records. Assumes nothing.
+use Prim.Native.Nat.{ℕ, _≤_, _<_}
+use mathlib.Core.Path.{_≡_, refl, ap, _∙_}
+use mathlib.Core.Bool.{Bool, true, false}
+use mathlib.Core.List.{List, [], _∷_}
+use mathlib.Core.Option.{Option, none, some}
+use native.Mathlib.Omega.{arith}
+use lib.ListN.{length, length-append}
+use lib.Dec.{ltb}
+use Rattle.refusal.specs.declared.Refusal.{Refusal}
+use Rattle.refusal.specs.declared.Refusal.the-variants as refusal
+use Rattle.refusal.specs.Refusal.{numberOf}
+use Rattle.refusal.specs.Outcome.{Outcome, given, refused, unless, refusedIf}
+use Rattle.utf8.specs.declared.Text.{Text}
+use Rattle.utf8.specs.declared.Text.the-variants as form
+use Rattle.utf8.specs.Table.{Sequence}
+use Rattle.utf8.specs.Text.{Character, Encoded, ends, takes, decode, textOf}
+use Rattle.utf8.proofs.SequenceLaws.{not-empty}
+use Rattle.utf8.proofs.TextLaws.{decode-means}
+use Rattle.image.specs.Check.{refusalOf}
+use Rattle.image.proofs.ImageLaws.{refusal-number}
+use Rattle.grammar.specs.Scan.{Tok}
+use Rattle.grammar.specs.Division.{Division}
+use Rattle.grammar.specs.Division as division
+use Rattle.grammar.specs.Meaning.{Meaning}
+use Rattle.grammar.specs.Grammar.{Kind, identifier, syntax, whitespace, Token}
+use Rattle.grammar.specs.Record.{roomOf}
+use Rattle.grammar.specs.Reading.{maxText, meaningOf, readingOf, tokensOf, lengthRefusal, formRefusalBy, judged, outcomeOf, roomed, writtenOf, listOf}
+use Rattle.grammar.proofs.GrammarLaws.{tokens-divide}
+use Rattle.grammar.proofs.AnswerLaws.{counts-given, roomed-in, roomed-given}
+
+-- a sequence has a byte, and a token a unit
+sequence-some : (q : List ℕ) → Sequence q → 0 < length q
+sequence-some [] f = absurd (not-empty f)
+sequence-some (b ∷ q) f = omega arith
+
+token-some : {A : Type 0} (m : Meaning A) (k : Kind) (u : List A) → Token m k u → 0 < length u
+token-some m identifier u t = let l = ap length (t .whole) in omega arith
+token-some m syntax u t = let l = ap length (t .whole) in omega arith
+token-some m whitespace u t = let l = ap length (t .whole) in omega arith
+
+few-characters : {s rest : List ℕ} {cs : List Character} → Encoded s cs rest → length cs ≤ length s
+few-characters (ends n) = omega arith
+few-characters (takes q r e f c) =
+    let i = few-characters c in
+    let l = ap length e ∙ length-append q r in
+    omega (arith, sequence-some q f)
+
+few-divided : {A : Type 0} (m : Meaning A) {s left : List A} {ts : List (Tok A Kind)} → Division (Token m) s ts left → length ts ≤ length s
+few-divided m (division.ends n) = omega arith
+few-divided m (division.takes {k = k} {u = u} {rest = r} l d) =
+    let i = few-divided m d in
+    let e = ap length (l .whole) ∙ length-append u r in
+    omega (arith, token-some m k u (l .token))
+
+module _ (s text : List ℕ) where
+  pub few-tokens : length (tokensOf s text) ≤ length text
+  unfolding readingOf
+  few-tokens = omega (arith, few-divided (meaningOf s) (tokens-divide (meaningOf s) (decode text .characters)), few-characters (decode-means text))
+
+  -- an outcome is a refusal of 1 to 7, or no more tokens than the text has bytes
+  abbrev Read : Outcome (List (Tok Character Kind)) → Type 0
+  Read (given ts) = length ts ≤ length text
+  Read (refused r) = numberOf r ≤ 7
+
+  by-left : (l : List Character) → Read (judged (tokensOf s text) l)
+  by-left [] = few-tokens
+  by-left (c ∷ l) = omega arith
+
+  by-form : (t : Text) (o : Outcome (List (Tok Character Kind))) → Read o → Read (unless (formRefusalBy t) o)
+  by-form form.WellFormed o h = h
+  by-form (form.IllFormed p) o h = omega arith
+
+  by-length : (b : Bool) (o : Outcome (List (Tok Character Kind))) → Read o → Read (unless (refusedIf b refusal.TextLength) o)
+  by-length true o h = omega arith
+  by-length false o h = h
+
+  by-image : (a : Option Refusal) (o : Outcome (List (Tok Character Kind))) → refusalOf s ≡ a → Read o → Read (unless a o)
+  by-image none o e h = h
+  by-image (some r) o e h = omega (arith, refusal-number s r e)
+
+  outcome-read : Read (outcomeOf s text)
+  unfolding outcomeOf lengthRefusal
+  outcome-read = by-image (refusalOf s) _ refl (by-length (ltb maxText (length text)) _ (by-form (textOf text) _ (by-left (readingOf s text .left))))
+
+  pub outcome-number : (r : Refusal) → outcomeOf s text ≡ refused r → numberOf r ≤ 7
+  outcome-number r e = rw e at outcome-read
+
+  -- so nothing lacks room where there is room for a token at every byte
+  pub written-all : (words : ℕ) → length text ≤ roomOf words → writtenOf s text words ≡ outcomeOf s text
+  unfolding writtenOf
+  written-all words h = go (outcomeOf s text) outcome-read
+    where
+      go : (o : Outcome (List (Tok Character Kind))) → Read o → roomed words o ≡ o
+      go (given ts) l = roomed-in words ts (omega arith)
+      go (refused r) l = refl
+
+  -- and what is listed has room
+  pub list-fits : (words n : ℕ) → listOf s text words ≡ given n → n ≤ roomOf words
+  unfolding listOf writtenOf
+  list-fits words n e =
+      let (ts, g, l) = counts-given (roomed words (outcomeOf s text)) n e in
+      omega (arith, roomed-given words (outcomeOf s text) ts g .1)

@@ -1,0 +1,98 @@
+//! The classes, roles and kinds by name, with their numbers.
+
+/// The class of a code point.
+#[derive(Clone, Copy, Debug, PartialEq, Eq, Hash)]
+pub enum Class {
+    /// In no range.
+    Unassigned = 0,
+    /// May begin an identifier.
+    Start = 1,
+    /// May continue an identifier, not begin one.
+    Nonstart = 2,
+    /// A syntax character.
+    Syntax = 3,
+    /// White space.
+    White = 4,
+    /// Assigned, and none of these.
+    Other = 5,
+}
+
+impl Class {
+    /// The class with this number, if one has it.
+    pub fn from_number(number: u32) -> Option<Class> {
+        match number {
+            0 => Some(Class::Unassigned),
+            1 => Some(Class::Start),
+            2 => Some(Class::Nonstart),
+            3 => Some(Class::Syntax),
+            4 => Some(Class::White),
+            5 => Some(Class::Other),
+            _ => None,
+        }
+    }
+
+    /// The class's number.
+    pub fn number(self) -> u32 {
+        self as u32
+    }
+}
+
+/// The role of a code point in a profile.
+#[derive(Clone, Copy, Debug, PartialEq, Eq, Hash)]
+pub enum Role {
+    /// Its class is Start.
+    Start = 1,
+    /// Its class is Nonstart.
+    Nonstart = 2,
+    /// It is a medial and keeps its class.
+    Medial = 3,
+    /// Its class is Other.
+    Other = 4,
+}
+
+impl Role {
+    /// The role with this number, if one has it.
+    pub fn from_number(number: u32) -> Option<Role> {
+        match number {
+            1 => Some(Role::Start),
+            2 => Some(Role::Nonstart),
+            3 => Some(Role::Medial),
+            4 => Some(Role::Other),
+            _ => None,
+        }
+    }
+
+    /// The role's number.
+    pub fn number(self) -> u32 {
+        self as u32
+    }
+}
+
+/// The kind of a token.
+#[derive(Clone, Copy, Debug, PartialEq, Eq, Hash)]
+#[non_exhaustive]
+pub enum Kind {
+    /// One Start, any number of Continue, then any number of groups of one medial and one or more Continue.
+    Identifier = 1,
+    /// One code point of class Syntax.
+    Syntax = 2,
+    /// One or more code points of class White.
+    Whitespace = 3,
+}
+
+impl Kind {
+    /// The kind with this number, if one has it.
+    pub fn from_number(number: u32) -> Option<Kind> {
+        match number {
+            1 => Some(Kind::Identifier),
+            2 => Some(Kind::Syntax),
+            3 => Some(Kind::Whitespace),
+            _ => None,
+        }
+    }
+
+    /// The kind's number.
+    pub fn number(self) -> u32 {
+        self as u32
+    }
+}

@@ -1,0 +1,123 @@
+//! Names and numbers are the same in the C header, the Rust crate, the reader and Rattle.
+
+use luffinarc::{Class, Kind, Refusal, Role};
+use luffinarc_reader::{class, image, kind, role, token};
+use std::fmt::Debug;
+
+const HEADER: &str = include_str!("../../include/luffinarc.h");
+
+/// The number of a name in the C header, as `#define NAME NUMBER` or `NAME = NUMBER`.
+fn in_c(name: &str) -> u32 {
+    let words: Vec<&str> = HEADER.split_whitespace().filter(|&word| word != "=").collect();
+    let number = |two: &[&str]| two[1].trim_end_matches(',').parse().ok();
+    let found = words.windows(2).filter(|two| two[0] == name).find_map(number);
+    found.unwrap_or_else(|| panic!("no {name} in C"))
+}
+
+/// The name of a variant, as it is shown, without what it carries.
+fn name(variant: impl Debug) -> String {
+    let shown = format!("{variant:?}");
+    shown.split(|c: char| !c.is_alphanumeric()).next().unwrap().to_string()
+}
+
+/// The name of a variant in C: `IllFormed` is ILL_FORMED.
+fn c_name(variant: impl Debug) -> String {
+    let rises =
+        |c: char| if c.is_uppercase() { vec!['_', c] } else { vec![c.to_ascii_uppercase()] };
+    name(variant).chars().flat_map(rises).skip(1).collect()
+}
+
+#[test]
+fn refusals() {
+    let rattle = include_str!("../../../crates/refusal/src/lib.rt");
+    let all = [
+        Refusal::Length,
+        Refusal::Header,
+        Refusal::Range { index: 7 },
+        Refusal::Entry { index: 7 },
+        Refusal::TextLength,
+        Refusal::IllFormed { place: 7 },
+        Refusal::Characters { place: 7 },
+        Refusal::Room { needed: 7 },
+        Refusal::NotScalar { number: 7 },
+        Refusal::Change { code_point: 7 },
+        Refusal::Profiles,
+        Refusal::Buffer { needed: 7 },
+        Refusal::Shape,
+    ];
+    for (refusal, number) in all.into_iter().zip(1..) {
+        assert_eq!(refusal.number(), number);
+        let of_reader = luffinarc_reader::Refusal::named(number, 7).unwrap();
+        assert_eq!((name(of_reader), of_reader.number()), (name(refusal), number));
+        assert_eq!(of_reader.carried(), refusal.carried());
+        assert_eq!(in_c(&format!("LUFFINARC_{}", c_name(refusal))), number);
+        let held = if refusal.carried().is_some() { "(_)" } else { "" };
+        let line = format!("Refusal::{}{held} => {number},", name(refusal));
+        assert!(rattle.contains(&line), "no {line} in Rattle");
+    }
+    assert_eq!(luffinarc_reader::Refusal::named(14, 7), None);
+}
+
+/// The numbers of a variant in C, Rust and the reader.
+fn same(group: &str, variant: impl Debug, number: u32, of_reader: u32) {
+    let of_c = in_c(&format!("LUFFINARC_{group}_{}", c_name(variant)));
+    assert_eq!((number, of_reader), (of_c, of_c));
+}
+
+#[test]
+fn classes_roles_and_kinds() {
+    let classes = [
+        (Class::Unassigned, class::UNASSIGNED),
+        (Class::Start, class::START),
+        (Class::Nonstart, class::NONSTART),
+        (Class::Syntax, class::SYNTAX),
+        (Class::White, class::WHITE),
+        (Class::Other, class::OTHER),
+    ];
+    for (class, of_reader) in classes {
+        same("CLASS", class, class.number(), of_reader);
+        assert_eq!(Class::from_number(class.number()), Some(class));
+    }
+    let roles = [
+        (Role::Start, role::START),
+        (Role::Nonstart, role::NONSTART),
+        (Role::Medial, role::MEDIAL),
+        (Role::Other, role::OTHER),
+    ];
+    for (role, of_reader) in roles {
+        same("ROLE", role, role.number(), of_reader);
+        assert_eq!(Role::from_number(role.number()), Some(role));
+    }
+    let kinds = [
+        (Kind::Identifier, kind::IDENTIFIER),
+        (Kind::Syntax, kind::SYNTAX),
+        (Kind::Whitespace, kind::WHITESPACE),
+    ];
+    for (kind, of_reader) in kinds {
+        same("KIND", kind, kind.number(), of_reader);
+        assert_eq!(Kind::from_number(kind.number()), Some(kind));
+    }
+    let none = (Class::from_number(6), Role::from_number(5), Kind::from_number(4));
+    assert_eq!(
+        (none, Role::from_number(0), Kind::from_number(0)),
+        ((None, None, None), None, None)
+    );
+}
+
+#[test]
+fn limits() {
+    let limits = [
+        ("MAX_RANGES", luffinarc::MAX_RANGES, image::MAX_RANGES),
+        ("MAX_ENTRIES", luffinarc::MAX_ENTRIES, image::MAX_ENTRIES),
+        ("MAX_IMAGE", luffinarc::MAX_IMAGE, image::MAX_IMAGE),
+        ("MAX_TEXT", luffinarc::MAX_TEXT, token::MAX_TEXT),
+        ("RANGE_WORDS", luffinarc::RANGE_WORDS, image::RANGE_WORDS),
+        ("TOKEN_WORDS", luffinarc::TOKEN_WORDS, token::TOKEN_WORDS),
+    ];
+    for (name, of_rust, of_reader) in limits {
+        let of_c = in_c(&format!("LUFFINARC_{name}")) as usize;
+        assert_eq!((of_rust, of_reader), (of_c, of_c), "{name}");
+    }
+    assert_eq!(in_c("LUFFINARC_DONE"), luffinarc::calls::DONE);
+    assert_eq!(in_c("LUFFINARC_ANSWER") as usize, luffinarc::calls::Answer::default().len());
+}
