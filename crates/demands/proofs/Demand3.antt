@@ -4,8 +4,8 @@ use mathlib.Core.Path.{_≡_, refl, sym, ap, _∙_}
 use mathlib.Core.Bool.{true}
 use mathlib.Core.List.{List, [], _∷_}
 use mathlib.Core.Logic.{_⊎_, inl, inr, ⊎-map}
-use mathlib.Core.Option.{none, some}
-use lib.ListN.{length, take, drop}
+use mathlib.Core.Option.{some}
+use lib.ListN.{length, drop}
 use lib.Seq.{drop-drop, take-at}
 use Rattle.lists.specs.Laid.{laid}
 use Rattle.lists.proofs.BoolLaws.{impossible}

@@ -1,5 +1,5 @@
 -- Counting and writing the list: each answer, exactly when, and what the buffer then holds. Assumes nothing.
-use Prim.Native.Nat.{ℕ, _≤_, _<_}
+use Prim.Native.Nat.{ℕ, _≤_}
 use mathlib.Core.Path.{_≡_, refl, sym, ap, subst, _∙_}
 use mathlib.Core.Bool.{Bool, true, false}
 use mathlib.Core.List.{List, [], _∷_}
@@ -23,7 +23,7 @@ use Rattle.grammar.specs.Grammar.{Kind}
 use Rattle.grammar.specs.Record.{roomOf, listedWords}
 use Rattle.grammar.specs.Reading.{maxText, readingOf, lengthRefusal, formRefusalBy, formRefusal, judged, outcomeOf, countOf, roomed, writtenOf, listOf, laidBy, listWords}
 use Rattle.grammar.proofs.AnswerLaws.{counts-given, counts-refused, roomed-in, roomed-out, roomed-given}
-use Rattle.demands.specs.Demand2.{Readable, Divided, Stopped}
+use Rattle.demands.specs.Demand2.{Divided}
 use Rattle.demands.specs.Means.{Refuses, of-image, too-long, ill-formed, no-token, CountMeans, counts, count-refuses, ListMeans, lists, no-room, list-refuses}
 use Rattle.demands.proofs.DividedLaws.{reading-divides, divided-unique}
 

@@ -5,7 +5,7 @@ use mathlib.Core.Bool.{Bool, true, false, cond}
 use mathlib.Core.List.{List}
 use lib.Dec.{eqb}
 use Rattle.image.specs.Class.{classNamed}
-use Rattle.image.specs.Profile.{profileOf, roleOf, afterRole, isMedial}
+use Rattle.image.specs.Profile.{roleOf, afterRole, isMedial}
 use Rattle.image.specs.Permitted.{Permitted, same}
 use Rattle.image.specs.Same.{SameProfile}
 use Rattle.image.specs.Check.{rangeClass, entryRole, classOf, medialOf}

@@ -1,5 +1,5 @@
 -- Taking one token at a place: each answer, exactly when. Assumes nothing.
-use Prim.Native.Nat.{ℕ, _+_, _≤_, _<_}
+use Prim.Native.Nat.{ℕ, _≤_, _<_}
 use mathlib.Core.Path.{_≡_, refl, sym, ap, subst, _∙_}
 use mathlib.Core.List.{List, [], _∷_}
 use mathlib.Core.Option.{Option, none, some}
@@ -14,7 +14,6 @@ use Rattle.utf8.specs.Text.{Character, Encoded, ends as no-more, takes as reads
 use Rattle.utf8.proofs.TextLaws.{decode-means, means-decode}
 use Rattle.utf8.proofs.SequenceLaws.{step-means, means-step}
 use Rattle.image.specs.Check.{refusalOf}
-use Rattle.image.specs.Accepted.{Accepted}
 use Rattle.image.proofs.ImageLaws.{refusal-means, means-refusal, accepted, refused-none}
 use Rattle.grammar.specs.Scan.{Tok}
 use Rattle.grammar.specs.Division.{Division, ends, takes}
