@@ -28,7 +28,7 @@ use Rattle.grammar.specs.Meaning.{Meaning}
 use Rattle.grammar.specs.Grammar.{Kind, identifier, syntax, whitespace, Continue, IsContinue, IsMedial, IsWhite, Identifier, Token}
 use Rattle.grammar.specs.Kinds.{kindOfClass}
 use Rattle.grammar.proofs.GrammarLaws.{first-class, fits, tokens-divide}
-use Rattle.grammar.proofs.TailLaws.{Tail, no-more, continued, linked, identifier-tail, tail-identifier, tail-append, tail-from}
+use Rattle.grammar.proofs.TailLaws.{Tail, no-more, continued, linked, identifier-begun, tail-identifier, tail-append, tail-from}
 use Rattle.demands.specs.Firm.{Allowed, Settled, Changed, Firm, Touched}
 
 -- a Continue stays one; a class that begins a token doesn't change; nothing becomes White
@@ -118,9 +118,9 @@ module _ {A : Type 0} (older newer : Meaning A) where
 
   token-stays : (k : Kind) (u : List A) → AllAllowed u → Token older k u → Token newer k u
   token-stays identifier u a t =
-      let (c, r, e, f, h) = identifier-tail older t in
-      let b : AllAllowed (c ∷ r) = rw e at a in
-      rw e (tail-identifier newer (keeps-first (b .0 .permitted) identifier (ap kindOfClass f) ∙ f) (tail-stays (b .1) h))
+      let i = identifier-begun older t in
+      let b : AllAllowed (i .first ∷ i .after) = rw (i .whole) at a in
+      rw (i .whole) (tail-identifier newer (keeps-first (b .0 .permitted) identifier (ap kindOfClass (i .start)) ∙ i .start) (tail-stays (b .1) (i .tail)))
   token-stays syntax u a t =
       let c : AllAllowed (t .only ∷ []) = rw (t .whole) at a in
       record { only = t .only; whole = t .whole; class = keeps-first (c .0 .permitted) syntax (ap kindOfClass (t .class)) ∙ t .class }
@@ -178,17 +178,17 @@ module _ {A : Type 0} (older newer : Meaning A) where
 
       go : (j : Kind) → Token older j u → c ∷ r ≡ u ++ rest → Settled older newer r
       go identifier t e =
-          let (x, v, w, f, i) = identifier-tail older t in
-          let h : c ≡ x = let z = ap (λ y. y ++ rest) w in cc in
-          absurd (n (inl (ap (older .class) h ∙ f)))
+          let i = identifier-begun older t in
+          let h : c ≡ i .first = let z = ap (λ y. y ++ rest) (i .whole) in cc in
+          absurd (n (inl (ap (older .class) h ∙ i .start)))
       go syntax t e = after (t .only) [] (e ∙ ap (λ x. x ++ rest) (t .whole)) tt
       go whitespace t e = after (t .first) (t .others) (e ∙ ap (λ x. x ++ rest) (t .whole)) (t .white .1)
 
   -- an identifier that is the longest is followed by no tail
   grows : {s u rest : List A} → Longest (Token older) s identifier u rest → (x y : List A) → rest ≡ x ++ y → Tail older x → length x ≤ 0
   grows {s} {u} {rest} L x y e t =
-      let (c, r, w, f, i) = identifier-tail older (L .token) in
-      let j : Identifier older (u ++ x) = rw w (tail-identifier older f (tail-append older i t)) in
+      let i = identifier-begun older (L .token) in
+      let j : Identifier older (u ++ x) = rw (i .whole) (tail-identifier older (i .start) (tail-append older (i .tail) t)) in
       let l = L .longest identifier (u ++ x) y (L .whole ∙ ap (λ z. u ++ z) e ∙ sym (append-assoc u x y)) j in
       omega (arith, length-append u x)
 
@@ -210,11 +210,11 @@ module _ {A : Type 0} (older newer : Meaning A) where
       (v w : List A) → s ≡ v ++ w → Identifier newer v → length u < length v → ⊥
   identifier-bound {s} {u} {rest} {left} {ts} a L d g v w e t h =
       let (x, z, p, q) = beyond u v rest w (sym (L .whole) ∙ e) h in
-      let (b, y, k, f, i) = identifier-tail older (L .token) in
-      let (c, y′, k′, f′, i′) = identifier-tail newer t in
-      let j : y′ ≡ y ++ x ∷ z = let o = ap (λ l. l ++ x ∷ z) k in cc in
-      let o = all-split (Allowed older newer) u (x ∷ (z ++ w)) (rw (L .whole, q) at a) .1 in
-      stops x z w o (rw q at L) (rw q at d) g (tail-from newer y (rw j at i′))
+      let b = identifier-begun older (L .token) in
+      let i = identifier-begun newer t in
+      let f : i .after ≡ b .after ++ x ∷ z = let r = ap (λ y. y ++ x ∷ z) (b .whole) in let k = i .whole in cc in
+      let c = all-split (Allowed older newer) u (x ∷ (z ++ w)) (rw (L .whole, q) at a) .1 in
+      stops x z w c (rw q at L) (rw q at d) g (tail-from newer (b .after) (rw f at (i .tail)))
 
   -- the longest token stays the longest
   keeps : {s u rest left : List A} {k : Kind} {ts : List (Tok A Kind)} → AllAllowed s → Longest (Token older) s k u rest → Division (Token older) rest ts left → Sure 2 ts left →
@@ -228,10 +228,10 @@ module _ {A : Type 0} (older newer : Meaning A) where
       not-longer : (v w : List A) → s ≡ v ++ w → Identifier newer v → length u < length v → ⊥
       not-longer v w e t h =
           let (c, x, p, f) = fits older .starts k u (L .token) in
-          let (c′, x′, p′, f′, i) = identifier-tail newer t in
-          let y : c′ ≡ c = let q = ap (λ l. l ++ w) p′ in let q′ = ap (λ l. l ++ rest) p in let r = L .whole in cc in
+          let i = identifier-begun newer t in
+          let y : i .first ≡ c = let z = i .whole in let q = ap (λ l. l ++ rest) p in let r = L .whole in cc in
           let o : Settled older newer (c ∷ (x ++ rest)) = rw p at (token-settled k u rest b (L .token)) in
-          let j : identifier ≡ k = let z = ap kindOfClass (sym o ∙ ap (newer .class) (sym y) ∙ f′) in cc in
+          let j : identifier ≡ k = let z = ap kindOfClass (sym o ∙ ap (newer .class) (sym y) ∙ i .start) in cc in
           identifier-bound a (rw (← j) at L) d g v w e t h
 
       bound : (j : Kind) (v w : List A) → s ≡ v ++ w → Token newer j v → length v ≤ length u

@@ -30,13 +30,24 @@ module _ {A : Type 0} (m : Meaning A) where
       ([], d ∷ c ∷ (s .0 ++ s .1), ap (λ x. d ∷ c ∷ x) (s .2), tt, group (s .0) e h (s .3) (s .4))
 
   -- an identifier is a Start and a tail
-  pub identifier-tail : {u : List A} → Identifier m u → (c : A) × (r : List A) × (u ≡ c ∷ r) × (m .class c ≡ Start) × Tail r
-  identifier-tail i = (i .first, i .plain ++ i .groups, i .whole, i .start, plain-tail (i .plain) (i .continued) (groups-tail (i .grouped)))
+  pub record Begun (u : List A) : Type 0 where
+    pub first : A
+    pub after : List A
+    pub whole : u ≡ first ∷ after
+    pub start : m .class first ≡ Start
+    pub tail : Tail after
+
+  pub identifier-begun : {u : List A} → Identifier m u → Begun u
+  identifier-begun i =
+      record { first = i .first; after = i .plain ++ i .groups; whole = i .whole; start = i .start; tail = plain-tail (i .plain) (i .continued) (groups-tail (i .grouped)) }
 
   pub tail-identifier : {c : A} {r : List A} → m .class c ≡ Start → Tail r → Identifier m (c ∷ r)
   tail-identifier {c} e t =
       let (cs, gs, w, a, g) = tail-split t in
       record { first = c; plain = cs; groups = gs; whole = ap (λ x. c ∷ x) w; start = e; continued = a; grouped = g }
+
+  pub begun-identifier : {u : List A} → Begun u → Identifier m u
+  begun-identifier b = rw (b .whole) (tail-identifier (b .start) (b .tail))
 
   pub tail-append : {u v : List A} → Tail u → Tail v → Tail (u ++ v)
   tail-append no-more t = t
