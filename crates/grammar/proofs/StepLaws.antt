@@ -172,6 +172,10 @@ module _ {A K : Type 0} (L : Local A K) where
   read-settles (under k u) s e = refl
   read-settles (held k u d) s e = ap (λ b. heldBy b k u d s) e ∙ completes k u d s
 
+  pub settles-first : (k : K) (u : List A) (d : A) (s : List A) → goesFirst L k s ≡ false → readFrom (held k u d) s ≡ preceded (tok k u ∷ []) (readFrom idle (d ∷ s))
+  unfolding readFrom
+  settles-first k u d s e = ap (λ b. heldBy b k u d s) e
+
   -- the text's end
   read-under : (k : K) (u : List A) → readFrom (under k u) [] ≡ tokensLeft (tok k u ∷ []) []
   unfolding readFrom
@@ -227,6 +231,16 @@ module _ {A K : Type 0} (L : Local A K) where
       go : (b : Bool) → 1 ≤ length (heldBy b k u d s .tokens)
       go true = omega arith
       go false = omega arith
+
+  pub finish-begins : (q : State A K) → (us : List (Tok A K)) × (finish L q .tokens ≡ underWay q ++ us)
+  unfolding finish settle
+  finish-begins idle = ([], refl)
+  finish-begins (under k u) = ([], refl)
+  finish-begins (held k u d) = go (L .kindOf d)
+    where
+      go : (o : Option K) → (us : List (Tok A K)) × (ended L (after (tok k u ∷ []) (begin L o d)) .tokens ≡ tok k u ∷ us)
+      go none = ([], refl)
+      go (some j) = (tok j (d ∷ []) ∷ [], refl)
 
   -- no more than two tokens are pending
   pub pending-two : (q : State A K) → length (finish L q .tokens) ≤ 2
