@@ -1,12 +1,12 @@
 -- The one-pass reader of the three kinds gives the one division of a text into the tokens of the grammar. Assumes nothing.
-use mathlib.Core.Path.{_≡_, refl, ap}
+use mathlib.Core.Path.{_≡_, refl, sym, ap, _∙_}
 use mathlib.Core.Bool.{Bool, true, false, false≢true, _&&_}
 use mathlib.Core.List.{List, [], _∷_, _++_}
 use mathlib.Core.Option.{some}
 use mathlib.Core.Logic.{_↔_, _⊎_, inl, inr}
 use Prim.Native.Nat.{_≤_, zero-le, suc-le-suc}
 use lib.ListN.{length}
-use Rattle.lists.proofs.BoolLaws.{or-cases, and-left, and-right, and-in, or-left, or-right}
+use Rattle.lists.proofs.BoolLaws.{or-cases, and-left, and-right, and-in, or-left, or-right, or-none}
 use Rattle.image.specs.Class.{Class, Unassigned, Start, Nonstart, Syntax, White, Other}
 use Rattle.grammar.specs.All.{All}
 use Rattle.grammar.specs.Scan.{Tok, walk, reading}
@@ -81,6 +81,10 @@ module _ {A : Type 0} (m : Meaning A) where
   tail-split (t-continue {c = c} e t) = let s = tail-split t in (c ∷ s .0, s .1, ap (λ x. c ∷ x) (s .2), (e, s .3), s .4)
   tail-split (t-medial e h t) = let s = tail-split t in rw (s .2) (split-medial e (s .0) (s .3) (rw (s .2) at h) (s .4))
 
+  -- white space goes on with White alone
+  pub more-white : (c : A) (r : List A) → more m whitespace (c ∷ r) ≡ isWhite (m .class c)
+  more-white c r = or-none (isWhite (m .class c))
+
   abbrev run : Kind → List A → List A
   run k r = walk (rules m) (some k) r .run
 
@@ -112,7 +116,7 @@ module _ {A : Type 0} (m : Meaning A) where
 
   white-run : (r : List A) → All (IsWhite m) (run whitespace r)
   white-run [] = rw (run-nil whitespace) tt
-  white-run (c ∷ r) = let t = white-run r in run-step (All (IsWhite m)) whitespace c r tt (λ e. (white-means (m .class c) e, t))
+  white-run (c ∷ r) = let t = white-run r in run-step (All (IsWhite m)) whitespace c r tt (λ e. (white-means (m .class c) (sym (more-white c r) ∙ e), t))
 
   nothing-run : (r : List A) → run syntax r ≡ []
   nothing-run [] = run-nil syntax
@@ -133,7 +137,7 @@ module _ {A : Type 0} (m : Meaning A) where
 
   white-bound : (v : List A) → All (IsWhite m) v → (w : List A) → length v ≤ length (run whitespace (v ++ w))
   white-bound [] a w = zero-le
-  white-bound (c ∷ v) a w = rw (run-more whitespace c (v ++ w) (ap isWhite (a .0))) (suc-le-suc (white-bound v (a .1) w))
+  white-bound (c ∷ v) a w = rw (run-more whitespace c (v ++ w) (more-white c (v ++ w) ∙ ap isWhite (a .0))) (suc-le-suc (white-bound v (a .1) w))
 
   token-starts : (k : Kind) (u : List A) → Token m k u → (c : A) × (v : List A) × (u ≡ c ∷ v) × (kindOf m c ≡ some k)
   token-starts identifier u t = (t .first, t .plain ++ t .groups, t .whole, ap kindOfClass (t .start))

@@ -1,6 +1,7 @@
 pub mod ScanLaws
 pub mod DivisionLaws
 pub mod GrammarLaws
+pub mod StepLaws
 pub mod RecordLaws
 pub mod AnswerLaws
 pub mod FewLaws
