@@ -20,18 +20,17 @@ element-copy-out-t14 c = search needs
 
 cast-t15 : tie.Need-cast-t15
 cast-t15 c =
-    omega (
-      arith,
-      c .before .before .before .before .before .pre .1 .0 .each _ (c .before .if1 .taken),
-      traits-small _ (getD (c .before .before .before .before .before .args .text .now) (c .before .before .before .before .before .args .at) 0) (c .before .before .before .before .before .pre .0),
-    )
+    let b = c .before .before .before .before .before in
+    omega (arith, b .pre .1 .0 .each _ (c .before .if1 .taken), traits-small _ (getD (b .args .text .now) (b .args .at) 0) (b .pre .0))
 
 returns : tie.Need-returns
 returns c =
+    let p = c .before .before .before .before .before .pre in
+    let l = c .before .if1 .taken in
     record {
-      memo = c .before .before .before .before .before .pre .1 .1 .0;
+      memo = p .1 .1 .0;
       none = λ e. absurd (omega arith);
-      some = λ l. (ascii-at _ _ (c .before .before .before .before .before .pre .1 .1 .1) (c .before .if1 .taken), c .before .before .before .before .before .pre .1 .0 .each _ (c .before .if1 .taken));
+      some = λ _. (ascii-at _ _ (p .1 .1 .1) l, p .1 .0 .each _ l);
     }
 
 read-decoded-requires : tie.Need-read-decoded-requires

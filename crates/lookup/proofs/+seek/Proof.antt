@@ -46,7 +46,8 @@ module _ (t : ℕ) where
   returns-2 : lts.Need-returns-2 calls given seek.Post
   returns-2 c =
       let b = c .before .before .before .before in
-      c .add-step .ensures ∙ seek-low _ _ _ _ _ (b .record-at .ensures) (b .before .if1 .left) _ (c .before .seek .ensures) (c .before .before .if2 .taken)
+      c .add-step .ensures
+      ∙ seek-low _ _ _ _ _ (b .record-at .ensures) (b .before .if1 .left) _ (c .before .seek .ensures) (c .before .before .if2 .taken)
 
   add-seek : lts.Need-add-seek calls given seek.Post
   add-seek c =
@@ -63,7 +64,8 @@ module _ (t : ℕ) where
   returns-3 c =
       let i = c .before .before in
       let b = i .before .before .before .before in
-      c .add-step2 .ensures ∙ seek-high _ _ _ _ _ (b .record-at .ensures) (b .before .if1 .left) _ (c .before .seek2 .ensures) (i .before .before .if2 .left) (i .if3 .taken)
+      c .add-step2 .ensures
+      ∙ seek-high _ _ _ _ _ (b .record-at .ensures) (b .before .if1 .left) _ (c .before .seek2 .ensures) (i .before .before .if2 .left) (i .if3 .taken)
 
   returns-4 : lts.Need-returns-4 calls given seek.Post
   returns-4 c =
