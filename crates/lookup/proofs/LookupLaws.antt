@@ -74,8 +74,9 @@ module _ (s : List ℕ) (x : ℕ) where
 
   scalar-means : refusalOf s ≡ none → (b : Bool) → isScalar x ≡ b → LookupMeans s x (cond b (found.Class (classOf s x) steps) (found.Refused (refusal.NotScalar x)))
   scalar-means a true h =
-      rw (class-by-sections s x)
-      (found-class (accepted s a) h (class-cases (rangeAt s) (rangeCount s) x) (has-role (pointAt s) (roleAt s) (entryCount s) x _ (class-cases (entryRange (pointAt s) (roleAt s)) (entryCount s) x)))
+      let c = class-cases (rangeAt s) (rangeCount s) x in
+      let r = has-role (pointAt s) (roleAt s) (entryCount s) x _ (class-cases (entryRange (pointAt s) (roleAt s)) (entryCount s) x) in
+      rw (class-by-sections s x) (found-class (accepted s a) h c r)
   scalar-means a false h = not-scalar (accepted s a) h
 
   means-by : (o : Option Refusal) → refusalOf s ≡ o → LookupMeans s x (lookupBy s x o)

@@ -76,7 +76,8 @@ module _ (s : List ℕ) (a : refusalOf s ≡ none) where
       record { ordered = λ i l. omega arith; after = λ i h l. good i l .rises h }
 
   -- what the search in a section finds
-  pub found-at : (section : Section) (x : ℕ) → Sought (recordAt s section) (recordCount s section) (records-rise section) x (seekOf (recordAt s section) 0 (recordCount s section) x)
+  pub found-at :
+      (section : Section) (x : ℕ) → Sought (recordAt s section) (recordCount s section) x (seekOf (recordAt s section) 0 (recordCount s section) x)
   found-at section x = seek-all (recordAt s section) (recordCount s section) (records-rise section) x
 
   -- classes in the ranges go to 5
