@@ -9,12 +9,12 @@ use Rattle.utf8.specs.Text.{decodeIn, decode, textOf}
 use Rattle.image.specs.Word.{wordAt}
 use Rattle.image.specs.Header.{lengthRight, headerRight}
 use Rattle.image.specs.Ranges.{rangeAt, goodAlone, follows, goodRange, firstBadRange, classIn}
-use Rattle.image.specs.Profile.{pointAt, roleAt, goodEntry, firstBadEntry, profileOf, roleOf, afterRole, isMedial}
-use Rattle.image.specs.Check.{refusalOf, rangeClass, classOf, medialOf}
+use Rattle.image.specs.Profile.{pointAt, roleAt, goodEntryAlone, goodEntry, firstBadEntry, profileOf, roleOf, afterRole, isMedial}
+use Rattle.image.specs.Check.{recordsRefusal, refusalOf, rangeClass, classOf, medialOf}
 use Rattle.grammar.specs.Scan.{walk}
 use Rattle.grammar.specs.Reading.{meaningOf, readingOf, lengthRefusal, outcomeOf}
 use Rattle.demands.specs.Cases.{Case, M, M2, cases, numbersOf}
 
 pub cases-hold : map (λ (c : Case). numbersOf (outcomeOf (c .image) (c .text))) cases ≡ map (λ (c : Case). c .answer) cases
-unfolding firstFrom firstWhere eachFrom each column isScalar stepOf decodeIn decode textOf wordAt lengthRight headerRight rangeAt goodAlone follows goodRange firstBadRange classIn pointAt roleAt goodEntry firstBadEntry profileOf roleOf afterRole isMedial refusalOf rangeClass classOf medialOf walk meaningOf readingOf lengthRefusal outcomeOf M M2 cases
+unfolding firstFrom firstWhere eachFrom each column isScalar stepOf decodeIn decode textOf wordAt lengthRight headerRight rangeAt goodAlone follows goodRange firstBadRange classIn pointAt roleAt goodEntryAlone goodEntry firstBadEntry profileOf roleOf afterRole isMedial recordsRefusal refusalOf rangeClass classOf medialOf walk meaningOf readingOf lengthRefusal outcomeOf M M2 cases
 cases-hold = refl

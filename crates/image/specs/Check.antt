@@ -1,7 +1,7 @@
 -- What checking and reading an image give (docs/RULES.md, "Named refusals" 1 to 4 and 8).
 use Prim.Native.Nat.{ℕ, _/_}
 use mathlib.Core.List.{List}
-use mathlib.Core.Bool.{Bool, true, false, cond}
+use mathlib.Core.Bool.{Bool, cond}
 use mathlib.Core.Option.{Option, none, some}
 use lib.ListN.{length}
 use lib.Dec.{ltb}
@@ -14,7 +14,6 @@ use Rattle.image.specs.Header.{versionOf, rangeCount, entryCount, length
 use Rattle.image.specs.Ranges.{rangeAt, rangeWords, firstBadRange, classIn}
 use Rattle.image.specs.Profile.{pointAt, roleAt, firstBadEntry, profileOf, noProfile, roleBy, afterRole, isMedial}
 use Rattle.image.specs.declared.Range.{Range}
-use Rattle.image.specs.declared.Answer.{Answer}
 use Rattle.image.specs.declared.Answer.the-variants as answer
 use Rattle.image.specs.declared.Checked.{Checked}
 

@@ -21,9 +21,6 @@ and-right false b e = absurd (false≢true e)
 pub and-in : (a b : Bool) → a ≡ true → b ≡ true → (a && b) ≡ true
 and-in a b e f = rw (e, f)
 
-pub and-false : (a b : Bool) → a ≡ false → (a && b) ≡ false
-and-false a b e = rw e
-
 pub or-cases : (a b : Bool) → (a || b) ≡ true → (a ≡ true) ⊎ (b ≡ true)
 or-cases true b e = inl refl
 or-cases false b e = inr e

@@ -5,8 +5,8 @@ use mathlib.Core.List.{List, [], _∷_, _++_, append-assoc, append-nil}
 use native.Mathlib.Numerals.{add-one}
 use native.Mathlib.Nat.{zero-add, mul-suc, add-zero, mul-zero}
 use native.Mathlib.Omega.{arith}
-use lib.ListN.{length, drop, getD, set, replicate, length-append, length-replicate, List·getD-append}
-use lib.Seq.{set-at, append-snoc, drop-drop, drop-at, getD-drop, getD-append-add}
+use lib.ListN.{length, getD, set, replicate, length-append, length-replicate, List·getD-append}
+use lib.Seq.{set-at, append-snoc, getD-append-add}
 use Rattle.lists.specs.Each.{eachFrom, each, single, column}
 
 -- for loops: k - i indexes left from i on
@@ -34,32 +34,21 @@ module _ (f : ℕ → List ℕ) (w : ℕ) (long : (i : ℕ) → length (f i) ≡
   unfolding each
   length-each n = length-from n 0
 
-  -- from the w * j-th value on stands f (i + j), then the others
-  pub drop-from : (k i j : ℕ) → j < k → (rest : List ℕ) → drop (w * j) (eachFrom f k i ++ rest) ≡ f (i + j) ++ (eachFrom f (k - suc j) (suc (i + j)) ++ rest)
+  at-from : (n j i k : ℕ) → i < n → k < w → getD (eachFrom f n j) (w * i + k) 0 ≡ getD (f (j + i)) k 0
   unfolding eachFrom
-  drop-from zero i j h rest = absurd (omega arith)
-  drop-from (suc k) i zero h rest =
-      let z : k ≡ suc k - 1 = omega arith in
-      rw (mul-zero w, add-zero i, append-assoc) (ap (λ (m : ℕ). f i ++ (eachFrom f m (suc i) ++ rest)) z)
-  drop-from (suc k) i (suc j) h rest =
-      let a : w * suc j ≡ w + w * j = mul-suc w j ∙ (let z : w * j + w ≡ w + w * j = omega arith in z) in
-      let q : k - suc j ≡ suc k - suc (suc j) = omega arith in
-      let t : suc i + j ≡ i + suc j = omega arith in
-      rw (a, append-assoc, ← drop-drop (w * j) w (f i ++ (eachFrom f k (suc i) ++ rest)), drop-at (f i) (eachFrom f k (suc i) ++ rest) w (long i))
-      (drop-from k (suc i) j (omega arith) rest ∙ (λ d. f (t d) ++ (eachFrom f (q d) (suc (t d)) ++ rest)))
-
-  pub drop-each : (n j : ℕ) → j < n → (rest : List ℕ) → drop (w * j) (each f n ++ rest) ≡ f j ++ (eachFrom f (n - suc j) (suc j) ++ rest)
-  unfolding each
-  drop-each n j h rest = drop-from n 0 j h rest ∙ (let z : 0 + j ≡ j = zero-add j in λ d. f (z d) ++ (eachFrom f (n - suc j) (suc (z d)) ++ rest))
+  at-from zero j i k h l = absurd (omega arith)
+  at-from (suc n) j zero k h l =
+      let z = long j in
+      rw (mul-zero w, zero-add k, add-zero j) (List·getD-append (f j) (eachFrom f n (suc j)) 0 k (omega arith))
+  at-from (suc n) j (suc i) k h l =
+      let z : w * suc i + k ≡ length (f j) + (w * i + k) = omega (arith, long j, mul-suc w i) in
+      let t : suc j + i ≡ j + suc i = omega arith in
+      rw (z, getD-append-add) (at-from n (suc j) i k (omega arith) l ∙ ap (λ (m : ℕ). getD (f m) k 0) t)
 
   -- the k-th value of the i-th list
   pub each-at : (n i k : ℕ) → i < n → k < w → getD (each f n) (w * i + k) 0 ≡ getD (f i) k 0
-  each-at n i k h l =
-      let z = long i in
-      sym (getD-drop (w * i) (each f n) k 0)
-      ∙ ap (λ (x : List ℕ). getD (drop (w * i) x) k 0) (sym (append-nil (each f n)))
-      ∙ ap (λ (x : List ℕ). getD x k 0) (drop-each n i h [])
-      ∙ List·getD-append (f i) (eachFrom f (n - suc i) (suc i) ++ []) 0 k (omega arith)
+  unfolding each
+  each-at n i k h l = at-from n 0 i k h l ∙ ap (λ (m : ℕ). getD (f m) k 0) (zero-add i)
 
 -- the same function at each index gives the same list
 pub each-same : (f g : ℕ → List ℕ) (k i : ℕ) → ((j : ℕ) → i ≤ j → j < i + k → f j ≡ g j) → eachFrom f k i ≡ eachFrom g k i
@@ -101,22 +90,15 @@ module _ (size : ℕ) (f : ℕ → ℕ) where
       ∙ ap (λ (l : List ℕ). l ++ replicate left 0) (sym (each-snoc (single f) i 0 ∙ ap (λ (j : ℕ). eachFrom (single f) i 0 ++ single f j) (zero-add i)))
       ∙ ap (λ (j : ℕ). eachFrom (single f) j 0 ++ replicate left 0) (sym (add-one i))
 
-  pub length-column : (m : ℕ) → m ≤ size → length (column size f m) ≡ size
-  unfolding column
-  length-column m h = simp (length-append, length-singles m, length-replicate) (omega arith)
-
-  singles-at : (k i j : ℕ) → j < k → getD (eachFrom (single f) k i) j 0 ≡ f (i + j)
-  unfolding eachFrom
-  singles-at zero i j h = absurd (omega arith)
-  singles-at (suc k) i zero h = ap f (sym (add-zero i))
-  singles-at (suc k) i (suc j) h = singles-at k (suc i) j (omega arith) ∙ ap f (let z : suc i + j ≡ i + suc j = omega arith in z)
-
   -- what a column holds: f below m, and zero past it
   pub column-at : (m j : ℕ) → j < m → getD (column size f m) j 0 ≡ f j
-  unfolding column each
+  unfolding column
   column-at m j h =
       let l = length-singles m in
-      List·getD-append (each (single f) m) (replicate (size - m) 0) 0 j (omega arith) ∙ singles-at m 0 j h ∙ ap f (zero-add j)
+      let z : j ≡ 1 * j + 0 = omega arith in
+      List·getD-append (each (single f) m) (replicate (size - m) 0) 0 j (omega arith)
+      ∙ ap (λ (k : ℕ). getD (each (single f) m) k 0) z
+      ∙ each-at (single f) 1 one m j 0 h (omega arith)
 
   zeros-at : (k j : ℕ) → _≡_ {A = ℕ} (getD (replicate k 0) j 0) 0
   zeros-at zero j = refl

@@ -1,7 +1,7 @@
 -- What the pair check of two images answers (docs/RULES.md, "Permitted changes", and refusals 10 and 11).
 use Prim.Native.Nat.{ℕ, _+_}
 use mathlib.Core.List.{List}
-use mathlib.Core.Bool.{Bool, true, false, not, _&&_, _||_, cond}
+use mathlib.Core.Bool.{Bool, not, _&&_, _||_, cond}
 use mathlib.Core.Option.{Option, none, some}
 use lib.Dec.{ltb, eqb}
 use Rattle.lists.specs.First.{firstWhere}
