@@ -36,7 +36,17 @@ use Rattle.image.specs.Ranges.{rangeAt}
 use Rattle.image.specs.Profile.{pointAt, roleAt, pointIn, roleIn, profileOf, noProfile}
 use Rattle.image.specs.Same.{SameProfile}
 use Rattle.image.specs.Accepted.{Sized, Headed, Accepted}
-use Rattle.image.specs.Means.{RefusalMeans, is-accepted, bad-length, bad-header, bad-range, bad-entry}
+use Rattle.image.specs.Means.{
+  RefusalMeans,
+  is-accepted,
+  bad-length,
+  bad-header,
+  bad-range,
+  bad-entry,
+  CheckMeans,
+  check-refused,
+  is-checked,
+}
 use Rattle.image.specs.Check.{recordsRefusal, refusalOf, checkBy, checkOf}
 use Rattle.image.specs.declared.Profile.{Profile}
 use Rattle.image.specs.declared.Answer.{Answer}
@@ -220,6 +230,19 @@ module _ (s : List ℕ) where
 
 -- the answer with a refusal, and without one
 module _ (s : List ℕ) where
+  check-by : (o : Option Refusal) → refusalOf s ≡ o → CheckMeans s (checkBy s o)
+  check-by none e = is-checked (accepted s e)
+  check-by (some r) e = check-refused (refusal-means s (some r) e)
+
+  pub check-means : (k : Checked) → checkOf s ≡ k → CheckMeans s k
+  unfolding checkOf
+  check-means k e = subst (CheckMeans s) e (check-by _ refl)
+
+  pub means-check : (k : Checked) → CheckMeans s k → checkOf s ≡ k
+  unfolding checkOf
+  means-check _ (check-refused {r} m) = ap (checkBy s) (means-refusal s (some r) m)
+  means-check _ (is-checked a) = ap (checkBy s) (refused-none s a)
+
   pub refuses : (r : Refusal) → refusalOf s ≡ some r → answer.Refused r ≡ checkOf s .answer
   unfolding checkOf
   refuses r e = ap (λ (o : Option Refusal). checkBy s o .answer) (sym e)

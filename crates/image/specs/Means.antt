@@ -27,6 +27,11 @@ pub data RefusalMeans (s : List ℕ) : Option Refusal → Type 0 where
       {i : ℕ} → Headed s → AllGood (GoodRange (rangeAt s)) (rangeCount s) → FirstBad (GoodEntry (pointAt s) (roleAt s)) (entryCount s) i
       → RefusalMeans s (some (refusal.Entry i))
 
+-- a check: 1 to 4; or version, number of ranges and profile
+pub data CheckMeans (s : List ℕ) : Checked → Type 0 where
+  check-refused : {r : Refusal} → RefusalMeans s (some r) → CheckMeans s (refusedBy r)
+  is-checked : Accepted s → CheckMeans s (acceptedOf s)
+
 -- a read into the buffer `out`, and what the buffer then holds: 1 to 4; 8 with the number of ranges; or version, number of ranges
 -- and profile, and the ranges at the buffer's front. A refused read leaves the buffer as it was.
 pub data ReadMeans (s out : List ℕ) : Checked → List ℕ → Type 0 where

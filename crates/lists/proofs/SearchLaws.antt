@@ -14,11 +14,11 @@ pub record Searching (good : ℕ → Bool) (n i : ℕ) : Type 0 where
   pub within : i ≤ n
   pub same : firstFrom (bad good) (n - i) i ≡ firstWhere (bad good) n
 
-module _ (good : ℕ → Bool) (n : ℕ) where
+module _ {good : ℕ → Bool} {n : ℕ} where
   pub search-begins : Searching good n 0
   search-begins = record { within = omega arith; same = first-begins (bad good) n }
 
-  module _ (i : ℕ) (h : Searching good n i) where
+  module _ {i : ℕ} (h : Searching good n i) where
     pub good-next : i < n → good i ≡ true → Searching good n (i + 1)
     good-next l e = record { within = omega arith; same = sym (first-next (bad good) n i (ap not e) l) ∙ h .same }
 

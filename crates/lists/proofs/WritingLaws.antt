@@ -18,12 +18,12 @@ pub record Writing (f : ℕ → List ℕ) (w n : ℕ) (before out : List ℕ) (i
   pub size : length out ≡ length before
   pub same : laid out (w * i) (eachFrom f (n - i) i) ≡ laid before 0 (each f n)
 
-module _ (f : ℕ → List ℕ) (w n : ℕ) (before : List ℕ) where
+module _ {f : ℕ → List ℕ} {w n : ℕ} {before : List ℕ} where
   pub writing-begins : Writing f w n before before 0
   writing-begins =
       record { within = omega arith; size = refl; same = rw (mul-zero w, each-begins f n) }
 
-  module _ (out : List ℕ) (i : ℕ) (h : Writing f w n before out i) where
+  module _ {out : List ℕ} {i : ℕ} (h : Writing f w n before out i) where
     pub writing-ends : n ≤ i → out ≡ laid before 0 (each f n)
     writing-ends l = sym (laid-none out (w * i)) ∙ ap (laid out (w * i)) (sym (each-end f n i l)) ∙ h .same
 

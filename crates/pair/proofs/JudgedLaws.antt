@@ -23,7 +23,9 @@ walk-begins s n e p =
     }
 
 -- the header, the ranges and the entries fill the image
-pub filled : (s : List ℕ) (n : ℕ) → refusalOf s ≡ none → n ≡ rangeCount s → (length s ≡ imageEnd n (entryCount s)) × (entryCount s ≤ maxEntries) × (n ≤ maxRanges)
+pub filled :
+    (s : List ℕ) (n : ℕ) → refusalOf s ≡ none → n ≡ rangeCount s
+    → (length s ≡ imageEnd n (entryCount s)) × (entryCount s ≤ maxEntries) × (n ≤ maxRanges)
 filled s n e p =
     let h = accepted s e .header in
     (rw p (accepted-size s e), h .few-entries, omega arith)

@@ -63,7 +63,9 @@ module _ (older newer : List ℕ) where
     forbids-none x f true e = rw (e, permits x (f e))
     forbids-none x f false e = rw e
 
-    forbids : (x : ℕ) → isScalar x ≡ true → (PermittedAt older newer x → ⊥) → (b : Bool) → permitted (rangeClass older x) (rangeClass newer x) ≡ b → forbiddenAt older newer x ≡ true
+    forbids :
+        (x : ℕ) → isScalar x ≡ true → (PermittedAt older newer x → ⊥) → (t : Bool) → permitted (rangeClass older x) (rangeClass newer x) ≡ t
+        → forbiddenAt older newer x ≡ true
     unfolding forbiddenAt
     forbids x s f true e = absurd (f (permitted-is _ _ e))
     forbids x s f false e = rw (s, e)

@@ -11,14 +11,14 @@ use Rattle.image.specs.Profile.{pointAt, roleAt}
 use Rattle.pair.specs.Pair.{differsAt, sameEntries}
 use Rattle.pair.specs.Judged.{wordsDiffer, EntriesFrom}
 
-module _ (older newer : List ℕ) where
-  -- entry i stands i entries after the first
-  pub entry-words :
-      (a b count i : ℕ) → EntriesFrom older a count → EntriesFrom newer b count
-      → differsAt older newer i ≡ wordsDiffer older newer (a + entryBytes * i) (b + entryBytes * i)
-  unfolding differsAt wordsDiffer pointAt roleAt
-  entry-words a b count i p q = rw (p .begin, q .begin)
+-- entry i stands i entries after the first
+pub entry-words :
+    {older newer : List ℕ} {a b count : ℕ} (i : ℕ) → EntriesFrom older a count → EntriesFrom newer b count
+    → differsAt older newer i ≡ wordsDiffer older newer (a + entryBytes * i) (b + entryBytes * i)
+unfolding differsAt wordsDiffer pointAt roleAt
+entry-words i p q = rw (p .begin, q .begin)
 
+module _ (older newer : List ℕ) where
   -- one entry that differs, or none
   pub entries-differ :
       (count i : ℕ) → i < count → ((k : ℕ) → k < i → differsAt older newer k ≡ false) → differsAt older newer i ≡ true

@@ -12,7 +12,7 @@ use Rattle.lookup.proofs.ClassLaws.{class-held, class-gap}
 use Rattle.pair.specs.declared.Ahead.{Ahead}
 use Rattle.pair.specs.Walk.{Walk, placeAfter, AheadOf, StepOf}
 
-module _ (s : List ℕ) (n i x : ℕ) (w : Walk s n i x) (h : x ≤ lastCodePoint) where
+module _ {s : List ℕ} {n i x : ℕ} (w : Walk s n i x) (h : x ≤ lastCodePoint) where
   -- the place stays i up to the end of range i
   stay : (e : ℕ) → x ≤ e → (i < n → e + 1 ≤ rangeAt s i .last) → Walk s n i (e + 1)
   stay e l f =
@@ -26,7 +26,9 @@ module _ (s : List ℕ) (n i x : ℕ) (w : Walk s n i x) (h : x ≤ lastCodePoin
             };
       }
 
-  on : (last next : ℕ) → ((e : ℕ) → x ≤ e → e < last → Walk s n i (e + 1)) → Walk s n next (last + 1) → (e : ℕ) → x ≤ e → e ≤ last → Walk s n (placeAfter last next i e) (e + 1)
+  on :
+      (last next : ℕ) → ((e : ℕ) → x ≤ e → e < last → Walk s n i (e + 1)) → Walk s n next (last + 1) → (e : ℕ) → x ≤ e → e ≤ last
+      → Walk s n (placeAfter last next i e) (e + 1)
   on last next f g e l u = go (decLt e last)
     where
       go : Dec (e < last) → Walk s n (placeAfter last next i e) (e + 1)
@@ -39,7 +41,9 @@ module _ (s : List ℕ) (n i x : ℕ) (w : Walk s n i x) (h : x ≤ lastCodePoin
       record {
         from = h;
         to = omega arith;
-        same = λ y l u. class-gap (rangeAt s) n (w .good) i y (w .place .passed .within) (λ p. let q = w .place .passed .before p in omega arith) (λ p. absurd (omega arith));
+        same =
+            λ y l u. class-gap (rangeAt s) n (w .good) i y (w .place .passed .within) (λ p. let q = w .place .passed .before p in omega arith)
+            (λ p. absurd (omega arith));
         onward = on _ _ (λ e l u. stay e l (λ p. absurd (omega arith))) (stay lastCodePoint h (λ p. absurd (omega arith)));
       }
 
@@ -52,7 +56,9 @@ module _ (s : List ℕ) (n i x : ℕ) (w : Walk s n i x) (h : x ≤ lastCodePoin
         record {
           from = omega arith;
           to = omega arith;
-          same = λ y l u. class-gap (rangeAt s) n (w .good) i y (w .place .passed .within) (λ q. let t = w .place .passed .before q in omega arith) (λ q. omega arith);
+          same =
+              λ y l u. class-gap (rangeAt s) n (w .good) i y (w .place .passed .within) (λ q. let t = w .place .passed .before q in omega arith)
+              (λ q. omega arith);
           onward = on _ _ (λ e l u. stay e l (λ q. omega arith)) (stay (rangeAt s i .first - 1) (omega arith) (λ q. omega arith));
         }
 
@@ -87,7 +93,7 @@ module _ (s : List ℕ) (n i x : ℕ) (w : Walk s n i x) (h : x ≤ lastCodePoin
                   };
             }
 
-    module _ (r : Range) (e : r ≡ rangeAt s i) where
+    module _ {r : Range} (e : r ≡ rangeAt s i) where
       -- before range i
       pub gap-ahead : x < r .first → AheadOf s n i x (record { last = r .first - 1; class = 0; next = i })
       gap-ahead p = rw e (gap (rw e at p))
@@ -97,10 +103,11 @@ module _ (s : List ℕ) (n i x : ℕ) (w : Walk s n i x) (h : x ≤ lastCodePoin
       range-ahead p = rw e (inside (rw e at p))
 
 -- a step of both walks ends where the first of the two does
-pub both-ahead : (older newer : List ℕ) (n m i j x e p q : ℕ) (a b : Ahead) → AheadOf older n i x a → AheadOf newer m j x b →
-    (x ≤ e) × (e ≤ a .last) × (e ≤ b .last) → p ≡ placeAfter (a .last) (a .next) i e → q ≡ placeAfter (b .last) (b .next) j e →
-    StepOf older newer n m x (record { last = e; older = a .class; newer = b .class; i = p; j = q })
-both-ahead older newer n m i j x e p q a b f g l u v =
+pub both-ahead :
+    {older newer : List ℕ} {n m i j x : ℕ} (e : ℕ) {p q : ℕ} {a b : Ahead} → AheadOf older n i x a → AheadOf newer m j x b
+    → (x ≤ e) × (e ≤ a .last) × (e ≤ b .last) → p ≡ placeAfter (a .last) (a .next) i e → q ≡ placeAfter (b .last) (b .next) j e
+    → StepOf older newer n m x (record { last = e; older = a .class; newer = b .class; i = p; j = q })
+both-ahead e f g l u v =
     let t = f .to in
     record {
       from = l .0;

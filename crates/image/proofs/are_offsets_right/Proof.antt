@@ -34,7 +34,9 @@ cast-if2 : tie.Need-cast-if2
 cast-if2 c = search needs
 
 returns-2 : tie.Need-returns-2
-returns-2 c = simp (← c .before .before .before .word .ensures, ← c .before .word2 .ensures, eq-eqb _ _ (c .before .before .if1 .left), ne-eqb _ _ (c .if2 .taken))
+returns-2 c =
+    let b = c .before .before in
+    simp (← b .before .word .ensures, ← c .before .word2 .ensures, eq-eqb _ _ (b .if1 .left), ne-eqb _ _ (c .if2 .taken))
 
 word-requires-3 : tie.Need-word-requires-3
 word-requires-3 c κs = search needs
@@ -49,9 +51,12 @@ add-result : tie.Need-add-result
 add-result c = search needs
 
 returns-3 : tie.Need-returns-3
-returns-3 c = let a = c .before .before .before .before .before .before .args in
+returns-3 c =
+    let d = c .before in
+    let b = d .before .before in
+    let a = b .before .before .before .args in
     ap (λ (x : ℕ). eqb x (imageEnd (a .n) (a .m))) (c .word3 .ensures)
-    ∙ last-decides _ _ _ (eq-eqb _ _ (sym (c .before .before .before .before .word .ensures) ∙ c .before .before .before .if1 .left)) (eq-eqb _ _ (sym (c .before .before .word2 .ensures) ∙ c .before .if2 .left))
+    ∙ last-decides _ _ _ (eq-eqb _ _ (sym (b .before .word .ensures) ∙ b .if1 .left)) (eq-eqb _ _ (sym (d .before .word2 .ensures) ∙ d .if2 .left))
 
 pub are-offsets-right-spec : {M : Type 1} → statement M
 are-offsets-right-spec =

@@ -1,4 +1,4 @@
--- `image::first_bad_range` meets its contract. Assumes nothing.
+-- `image::first_bad_range` meets its contract. The loop: all ranges before i are good. Assumes nothing.
 use Prim.Native.Nat.{_-_}
 use mathlib.Core.Path.{sym, _∙_}
 use native.Mathlib.Omega.{arith}
@@ -14,7 +14,7 @@ abbrev μ-loop : tie.MeasureT-loop
 μ-loop image n i₀ i = n - i
 
 loop-holds : tie.Need-loop-holds Inv-loop μ-loop
-loop-holds c = search-begins (goodRange (rangeAt (c .before .args .image .now))) _
+loop-holds c = search-begins
 
 is-good-range-requires : tie.Need-is-good-range-requires Inv-loop μ-loop
 is-good-range-requires c κs = omega arith
@@ -26,15 +26,19 @@ loop-less : tie.Need-loop-less Inv-loop μ-loop
 loop-less c = omega arith
 
 loop-again : tie.Need-loop-again Inv-loop μ-loop
-loop-again c = good-next (goodRange (rangeAt (c .before .before .before .before .before .args .image .now))) _ _ (c .before .before .before .loop .inv) (c .before .before .loop-test .taken) (sym (c .before .is-good-range .ensures) ∙ c .if1 .taken)
+loop-again c =
+    let b = c .before .before in
+    good-next (b .before .loop .inv) (b .loop-test .taken) (sym (c .before .is-good-range .ensures) ∙ c .if1 .taken)
 
 returns : tie.Need-returns Inv-loop μ-loop
 unfolding firstBadRange
-returns c = bad-here (goodRange (rangeAt (c .before .before .before .before .before .args .image .now))) _ _ (c .before .before .before .loop .inv) (c .before .before .loop-test .taken) (sym (c .before .is-good-range .ensures) ∙ c .if1 .left)
+returns c =
+    let b = c .before .before in
+    bad-here (b .before .loop .inv) (b .loop-test .taken) (sym (c .before .is-good-range .ensures) ∙ c .if1 .left)
 
 returns-2 : tie.Need-returns-2 Inv-loop μ-loop
 unfolding firstBadRange
-returns-2 c = none-bad (goodRange (rangeAt (c .before .before .before .args .image .now))) _ _ (c .before .loop .inv) (c .loop-test .left)
+returns-2 c = none-bad (c .before .loop .inv) (c .loop-test .left)
 
 pub first-bad-range-spec : {M : Type 1} → statement M
 first-bad-range-spec =

@@ -16,18 +16,18 @@ use Rattle.image.proofs.is_good_entry.Statement.{statement}
 use Rattle.image.proofs.is_good_entry.Tie as tie
 
 -- entry i has the code point p and the role r; b is the answer of the test of the pair
-module _
-    (s : List ℕ) (base i p r : ℕ) (b : Bool) (e : base ≡ entriesAt (rangeCount s)) (ep : p ≡ wordAt s (base + entryBytes * i))
-    (er : r ≡ wordAt s (base + entryBytes * i + wordBytes)) (t : b ≡ goodEntryAlone p r)
-  where
-    pub tests : goodEntry (pointAt s) (roleAt s) i ≡ (b && (eqb i 0 || ltb (pointAt s (i - 1)) p))
-    unfolding goodEntry
-    tests = rw (← point-is s base i e, ← role-is s base i e, ← ep, ← er, ← t)
+tests :
+    (s : List ℕ) (base i p r : ℕ) (b : Bool) → base ≡ entriesAt (rangeCount s) → p ≡ wordAt s (base + entryBytes * i)
+    → r ≡ wordAt s (base + entryBytes * i + wordBytes) → b ≡ goodEntryAlone p r
+    → goodEntry (pointAt s) (roleAt s) i ≡ (b && (eqb i 0 || ltb (pointAt s (i - 1)) p))
+unfolding goodEntry
+tests s base i p r b e ep er t = rw (← point-is s base i e, ← role-is s base i e, ← ep, ← er, ← t)
 
-    pub before : (q : ℕ) → 0 < i → q ≡ wordAt s (base + entryBytes * i - entryBytes) → q ≡ pointAt s (i - 1)
-    before q l f =
-        let k : base + entryBytes * i - entryBytes ≡ base + entryBytes * (i - 1) = omega arith in
-        f ∙ ap (wordAt s) k ∙ point-is s base (i - 1) e
+before :
+    (s : List ℕ) (base i q : ℕ) → base ≡ entriesAt (rangeCount s) → 0 < i → q ≡ wordAt s (base + entryBytes * i - entryBytes) → q ≡ pointAt s (i - 1)
+before s base i q e l f =
+    let k : base + entryBytes * i - entryBytes ≡ base + entryBytes * (i - 1) = omega arith in
+    f ∙ ap (wordAt s) k ∙ point-is s base (i - 1) e
 
 mul-at : tie.Need-mul-at
 mul-at c = search needs
@@ -50,7 +50,8 @@ is-good-entry-alone-requires c κs = search needs
 returns : tie.Need-returns
 returns c =
     let d = c .before .before in
-    sym (tests _ _ _ _ _ _ (d .before .before .before .before .pre .0) (d .before .before .word .ensures) (d .before .word2 .ensures) (d .is-good-entry-alone .ensures)
+    let w = d .before .before in
+    sym (tests _ _ _ _ _ _ (w .before .before .pre .0) (w .word .ensures) (d .before .word2 .ensures) (d .is-good-entry-alone .ensures)
     ∙ simp (c .before .if1 .taken, eq-eqb _ _ (c .if2 .taken)))
 
 sub-word : tie.Need-sub-word
@@ -62,15 +63,17 @@ word-requires-3 c κs = search needs
 returns-2 : tie.Need-returns-2
 returns-2 c =
     let d = c .before .before .before in
-    let e = d .before .before .before .before .pre .0 in
+    let w = d .before .before in
+    let e = w .before .before .pre .0 in
     let z = c .before .if2 .left in
-    sym (tests _ _ _ _ _ _ e (d .before .before .word .ensures) (d .before .word2 .ensures) (d .is-good-entry-alone .ensures)
-    ∙ simp (c .before .before .if1 .taken, ne-eqb _ _ z, ← before _ _ _ _ _ _ e (d .before .before .word .ensures) (d .before .word2 .ensures) (d .is-good-entry-alone .ensures) _ (omega arith) (c .word3 .ensures)))
+    sym (tests _ _ _ _ _ _ e (w .word .ensures) (d .before .word2 .ensures) (d .is-good-entry-alone .ensures)
+    ∙ simp (c .before .before .if1 .taken, ne-eqb _ _ z, ← before _ _ _ _ e (omega arith) (c .word3 .ensures)))
 
 returns-3 : tie.Need-returns-3
 returns-3 c =
     let d = c .before in
-    sym (tests _ _ _ _ _ _ (d .before .before .before .before .pre .0) (d .before .before .word .ensures) (d .before .word2 .ensures) (d .is-good-entry-alone .ensures)
+    let w = d .before .before in
+    sym (tests _ _ _ _ _ _ (w .before .before .pre .0) (w .word .ensures) (d .before .word2 .ensures) (d .is-good-entry-alone .ensures)
     ∙ simp (c .if1 .left))
 
 pub is-good-entry-spec : {M : Type 1} → statement M

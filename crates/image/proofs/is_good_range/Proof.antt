@@ -26,7 +26,16 @@ may-follow-requires c κs = search needs
 
 returns-2 : tie.Need-returns-2
 unfolding goodRange
-returns-2 c = simp (c .may-follow .ensures, ← c .before .before .before .before .before .range-at .ensures, ← c .before .range-at2 .ensures, ← c .before .before .before .before .is-good-alone .ensures, c .before .before .before .if1 .taken, ne-eqb _ _ (c .before .before .if2 .left))
+returns-2 c =
+    let b = c .before .before .before in
+    simp (
+      c .may-follow .ensures,
+      ← b .before .before .range-at .ensures,
+      ← c .before .range-at2 .ensures,
+      ← b .before .is-good-alone .ensures,
+      b .if1 .taken,
+      ne-eqb _ _ (c .before .before .if2 .left),
+    )
 
 returns-3 : tie.Need-returns-3
 unfolding goodRange

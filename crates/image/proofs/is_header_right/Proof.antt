@@ -27,7 +27,17 @@ cast-n c = search needs
 
 returns-3 : tie.Need-returns-3
 unfolding headerRight
-returns-3 c = simp (← c .before .before .before .before .before .word .ensures, ← c .before .before .before .word2 .ensures, ← c .before .word3 .ensures, eq-eqb _ _ (c .before .before .before .before .if1 .left), eq-eqb _ _ (c .before .before .if2 .left), lt-leb _ _ (c .if3 .taken))
+returns-3 c =
+    let z = c .before .before in
+    let f = z .before .before in
+    simp (
+      ← f .before .word .ensures,
+      ← z .before .word2 .ensures,
+      ← c .before .word3 .ensures,
+      eq-eqb _ _ (f .if1 .left),
+      eq-eqb _ _ (z .if2 .left),
+      lt-leb _ _ (c .if3 .taken),
+    )
 
 word-requires-4 : tie.Need-word-requires-4
 word-requires-4 c κs = search needs
@@ -37,14 +47,42 @@ cast-m c = search needs
 
 returns-4 : tie.Need-returns-4
 unfolding headerRight
-returns-4 c = simp (← c .before .before .before .before .before .before .before .word .ensures, ← c .before .before .before .before .before .word2 .ensures, ← c .before .before .before .word3 .ensures, ← c .before .word4 .ensures, eq-eqb _ _ (c .before .before .before .before .before .before .if1 .left), eq-eqb _ _ (c .before .before .before .before .if2 .left), le-leb _ _ (c .before .before .if3 .left), lt-leb _ _ (c .if4 .taken))
+returns-4 c =
+    let n = c .before .before in
+    let z = n .before .before in
+    let f = z .before .before in
+    simp (
+      ← f .before .word .ensures,
+      ← z .before .word2 .ensures,
+      ← n .before .word3 .ensures,
+      ← c .before .word4 .ensures,
+      eq-eqb _ _ (f .if1 .left),
+      eq-eqb _ _ (z .if2 .left),
+      le-leb _ _ (n .if3 .left),
+      lt-leb _ _ (c .if4 .taken),
+    )
 
 are-offsets-right-requires : tie.Need-are-offsets-right-requires
 are-offsets-right-requires c κs = search needs
 
 returns-5 : tie.Need-returns-5
 unfolding headerRight
-returns-5 c = simp (c .are-offsets-right .ensures, ← c .before .before .before .before .before .before .before .before .word .ensures, ← c .before .before .before .before .before .before .word2 .ensures, ← c .before .before .before .before .word3 .ensures, ← c .before .before .word4 .ensures, eq-eqb _ _ (c .before .before .before .before .before .before .before .if1 .left), eq-eqb _ _ (c .before .before .before .before .before .if2 .left), le-leb _ _ (c .before .before .before .if3 .left), le-leb _ _ (c .before .if4 .left))
+returns-5 c =
+    let m = c .before in
+    let n = m .before .before in
+    let z = n .before .before in
+    let f = z .before .before in
+    simp (
+      c .are-offsets-right .ensures,
+      ← f .before .word .ensures,
+      ← z .before .word2 .ensures,
+      ← n .before .word3 .ensures,
+      ← m .before .word4 .ensures,
+      eq-eqb _ _ (f .if1 .left),
+      eq-eqb _ _ (z .if2 .left),
+      le-leb _ _ (n .if3 .left),
+      le-leb _ _ (m .if4 .left),
+    )
 
 pub is-header-right-spec : {M : Type 1} → statement M
 is-header-right-spec =

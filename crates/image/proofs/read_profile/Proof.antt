@@ -16,7 +16,8 @@ filled : (f : ℕ → ℕ) (i v : ℕ) (p : List ℕ) → p ≡ column maxEntrie
 filled f i v p e d h = rw (e, d) (column-set maxEntries f i h)
 
 abbrev Inv-loop : tie.InvT-loop
-Inv-loop image base m points₀ roles₀ i₀ points roles i = (i ≤ m) × (points ≡ column maxEntries (pointAt image) i) × (roles ≡ column maxEntries (roleAt image) i)
+Inv-loop image base m points₀ roles₀ i₀ points roles i =
+    (i ≤ m) × (points ≡ column maxEntries (pointAt image) i) × (roles ≡ column maxEntries (roleAt image) i)
 
 abbrev μ-loop : tie.MeasureT-loop
 μ-loop image base m points₀ roles₀ i₀ points roles i = m - i

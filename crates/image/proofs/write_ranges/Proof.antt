@@ -22,7 +22,7 @@ abbrev μ-loop : tie.MeasureT-loop
 μ-loop image n out₀ i₀ out i = n - i
 
 loop-holds : tie.Need-loop-holds Inv-loop μ-loop
-loop-holds c = writing-begins (wordsOf _) wordsPerRange _ _
+loop-holds c = writing-begins
 
 range-at-requires : tie.Need-range-at-requires Inv-loop μ-loop
 range-at-requires c κs = omega arith
@@ -54,9 +54,8 @@ loop-less c = omega arith
 loop-again : tie.Need-loop-again Inv-loop μ-loop
 loop-again c =
     let l = c .before .before .before .before .before .before .loop in
-    let s = c .before .before .before .before .before .before .before .before .before .args .image .now in
     let at = wordsPerRange * l .i in
-    writing-lent (wordsOf s) wordsPerRange _ _ (l .out) (l .i) (l .inv) refl (omega arith) (omega arith) _
+    writing-lent (l .inv) refl (omega arith) (omega arith) _
     (c .before .before .put-range .ensures
     ∙ ap (λ (x : Range). laid (take (length (l .out) - at) (drop at (l .out))) 0 (rangeWords x)) (c .before .before .before .before .range-at .ensures))
 
@@ -64,7 +63,7 @@ same-length : tie.Need-same-length Inv-loop μ-loop
 same-length c = c .before .loop .inv .size
 
 returns : tie.Need-returns Inv-loop μ-loop
-returns c = writing-ends (wordsOf _) wordsPerRange _ _ _ _ (c .before .loop .inv) (c .loop-test .left)
+returns c = writing-ends (c .before .loop .inv) (c .loop-test .left)
 
 pub write-ranges-spec : {M : Type 1} → statement M
 write-ranges-spec =

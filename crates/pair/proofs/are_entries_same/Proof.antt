@@ -31,10 +31,18 @@ add-entries-differ-2 : tie.Need-add-entries-differ-2 Inv-loop μ-loop
 add-entries-differ-2 c = let h = c .before .before .before .before .pre .1 .room in omega arith
 
 entries-differ-requires : tie.Need-entries-differ-requires Inv-loop μ-loop
-entries-differ-requires c κs = let h = c .before .before .before .before .pre .0 .room in let k = c .before .before .before .before .pre .1 .room in (omega arith, omega arith)
+entries-differ-requires c κs =
+    let p = c .before .before .before .before .pre in
+    let h = p .0 .room in
+    let k = p .1 .room in
+    (omega arith, omega arith)
 
 returns : tie.Need-returns Inv-loop μ-loop
-returns c = entries-differ _ _ _ _ (c .before .before .loop-test .taken) (c .before .before .before .loop .inv .1) (entry-words _ _ _ _ _ _ (c .before .before .before .before .before .before .pre .0) (c .before .before .before .before .before .before .pre .1) ∙ sym (c .before .entries-differ .ensures) ∙ c .if1 .taken)
+returns c =
+    let l = c .before .before .before in
+    let p = l .before .before .before .pre in
+    entries-differ _ _ _ _ (c .before .before .loop-test .taken) (l .loop .inv .1)
+    (entry-words _ (p .0) (p .1) ∙ sym (c .before .entries-differ .ensures) ∙ c .if1 .taken)
 
 add-i : tie.Need-add-i Inv-loop μ-loop
 add-i c = omega arith
@@ -43,7 +51,10 @@ loop-less : tie.Need-loop-less Inv-loop μ-loop
 loop-less c = omega arith
 
 loop-again : tie.Need-loop-again Inv-loop μ-loop
-loop-again c = (omega arith, below-more _ _ (c .before .before .before .loop .inv .1) (entry-words _ _ _ _ _ _ (c .before .before .before .before .before .before .pre .0) (c .before .before .before .before .before .before .pre .1) ∙ sym (c .before .entries-differ .ensures) ∙ c .if1 .left))
+loop-again c =
+    let l = c .before .before .before in
+    let p = l .before .before .before .pre in
+    (omega arith, below-more _ _ (l .loop .inv .1) (entry-words _ (p .0) (p .1) ∙ sym (c .before .entries-differ .ensures) ∙ c .if1 .left))
 
 returns-2 : tie.Need-returns-2 Inv-loop μ-loop
 returns-2 c = entries-same _ _ _ _ (c .loop-test .left) (c .before .loop .inv .1)

@@ -17,11 +17,15 @@ cast-t8 c = search needs
 
 returns : tie.Need-returns
 unfolding comparedOf
-returns c = simp (sym (c .before .before .before .has-same-profile .ensures) ∙ c .before .before .if1 .taken, ← c .before .first-forbidden .ensures, lt-ltb _ _ (c .if2 .taken))
+returns c =
+    let b = c .before .before in
+    simp (sym (b .before .has-same-profile .ensures) ∙ b .if1 .taken, ← c .before .first-forbidden .ensures, lt-ltb _ _ (c .if2 .taken))
 
 returns-2 : tie.Need-returns-2
 unfolding comparedOf
-returns-2 c = simp (sym (c .before .before .before .has-same-profile .ensures) ∙ c .before .before .if1 .taken, ← c .before .first-forbidden .ensures, le-ltb _ _ (c .if2 .left))
+returns-2 c =
+    let b = c .before .before in
+    simp (sym (b .before .has-same-profile .ensures) ∙ b .if1 .taken, ← c .before .first-forbidden .ensures, le-ltb _ _ (c .if2 .left))
 
 returns-3 : tie.Need-returns-3
 unfolding comparedOf

@@ -29,7 +29,9 @@ word-requires-4 c κs = search needs
 
 returns-2 : tie.Need-returns-2
 unfolding wordsDiffer
-returns-2 c = simp (← c .before .before .before .before .word .ensures, ← c .before .before .before .word2 .ensures, ← c .before .word3 .ensures, ← c .word4 .ensures, eq-eqb _ _ (c .before .before .if1 .left))
+returns-2 c =
+    let b = c .before .before in
+    simp (← b .before .before .word .ensures, ← b .before .word2 .ensures, ← c .before .word3 .ensures, ← c .word4 .ensures, eq-eqb _ _ (b .if1 .left))
 
 pub entries-differ-spec : {M : Type 1} → statement M
 entries-differ-spec =

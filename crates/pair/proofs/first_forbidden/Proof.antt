@@ -16,7 +16,9 @@ abbrev μ-loop : tie.MeasureT-loop
 μ-loop older newer n m x₀ i₀ j₀ x i j = codePoints - x
 
 loop-holds : tie.Need-loop-holds Inv-loop μ-loop
-loop-holds c = let p = c .before .before .pre in clear-begin _ _ _ _ (walk-begins _ _ (p .older-accepted) (p .older-ranges)) (walk-begins _ _ (p .newer-accepted) (p .newer-ranges))
+loop-holds c =
+    let p = c .before .before .pre in
+    clear-begin (walk-begins _ _ (p .older-accepted) (p .older-ranges)) (walk-begins _ _ (p .newer-accepted) (p .newer-ranges))
 
 walk-step-requires : tie.Need-walk-step-requires Inv-loop μ-loop
 walk-step-requires c κs = (c .before .loop .inv .older-at, (c .before .loop .inv .newer-at, omega arith))
@@ -31,13 +33,21 @@ loop-less : tie.Need-loop-less Inv-loop μ-loop
 loop-less c = let t = c .before .before .before .walk-step .ensures .from in omega arith
 
 loop-again : tie.Need-loop-again Inv-loop μ-loop
-loop-again c = clear-next _ _ _ _ _ _ _ (c .before .before .before .before .before .before .before .before .pre .older-ranges) (c .before .before .before .before .before .before .before .before .pre .newer-ranges) (c .before .before .before .before .before .loop .inv) _ (c .before .before .before .walk-step .ensures) (sym (c .before .before .is-permitted .ensures) ∙ c .before .if1 .taken)
+loop-again c =
+    let w = c .before .before .before in
+    let l = w .before .before in
+    let p = l .before .before .before .pre in
+    clear-next (p .older-ranges) (p .newer-ranges) (l .loop .inv) (w .walk-step .ensures) (sym (c .before .before .is-permitted .ensures) ∙ c .before .if1 .taken)
 
 returns : tie.Need-returns Inv-loop μ-loop
-returns c = clear-here _ _ _ _ _ _ _ (c .before .before .before .before .before .before .before .pre .older-ranges) (c .before .before .before .before .before .before .before .pre .newer-ranges) (c .before .before .before .before .loop .inv) _ (c .before .before .walk-step .ensures) (sym (c .before .is-permitted .ensures) ∙ c .if1 .left)
+returns c =
+    let w = c .before .before in
+    let l = w .before .before in
+    let p = l .before .before .before .pre in
+    clear-here (p .older-ranges) (p .newer-ranges) (l .loop .inv) (w .walk-step .ensures) (sym (c .before .is-permitted .ensures) ∙ c .if1 .left)
 
 returns-2 : tie.Need-returns-2 Inv-loop μ-loop
-returns-2 c = clear-end _ _ _ _ _ _ _ (c .before .loop .inv) (c .loop-test .left)
+returns-2 c = clear-end (c .before .loop .inv) (c .loop-test .left)
 
 pub first-forbidden-spec : {M : Type 1} → statement M
 first-forbidden-spec =

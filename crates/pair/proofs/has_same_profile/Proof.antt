@@ -37,7 +37,11 @@ add-are-entries-same-2 : tie.Need-add-are-entries-same-2
 add-are-entries-same-2 c = let h = c .before .before .before .before .before .pre in let (z, u, v) = filled _ _ (h .newer-accepted) (h .newer-ranges) in omega arith
 
 are-entries-same-requires : tie.Need-are-entries-same-requires
-are-entries-same-requires c κs = let h = c .before .before .before .before .before .pre in (entries-begin _ _ _ (h .older-accepted) (h .older-ranges) (c .before .before .word .ensures), entries-begin _ _ _ (h .newer-accepted) (h .newer-ranges) (sym (c .if1 .left) ∙ c .before .word2 .ensures))
+are-entries-same-requires c κs =
+    let h = c .before .before .before .before .before .pre in (
+      entries-begin _ _ _ (h .older-accepted) (h .older-ranges) (c .before .before .word .ensures),
+      entries-begin _ _ _ (h .newer-accepted) (h .newer-ranges) (sym (c .if1 .left) ∙ c .before .word2 .ensures),
+    )
 
 returns-2 : tie.Need-returns-2
 unfolding sameProfile

@@ -16,15 +16,23 @@ enum-known-answer-2 : tie.Need-enum-known-answer-2
 enum-known-answer-2 c = search needs
 
 compare-requires : tie.Need-compare-requires
-compare-requires c κs = let t = says _ _ (c .before .before .before .check .ensures) _ (c .before .answer2 .given .1) in record { older-accepted = c .before .before .before .before .before .before .pre .0; newer-accepted = t .0; older-ranges = c .before .before .before .before .before .before .pre .1; newer-ranges = t .2 }
+compare-requires c κs =
+    let b = c .before .before .before in
+    let p = b .before .before .before .pre in
+    let t = says _ _ (b .check .ensures) _ (c .before .answer2 .given .1) in
+    record { older-accepted = p .0; newer-accepted = t .0; older-ranges = p .1; newer-ranges = t .2 }
 
 returns : tie.Need-returns
 unfolding pairOf
-returns c = let t = says _ _ (c .before .before .before .check .ensures) _ (c .before .answer .given .1) in simp (c .before .before .before .before .before .before .pre .0, t .0)
+returns c =
+    let b = c .before .before .before in
+    simp (b .before .before .before .pre .0, says _ _ (b .check .ensures) _ (c .before .answer .given .1) .0)
 
 returns-2 : tie.Need-returns-2
 unfolding pairOf
-returns-2 c = let t = says _ _ (c .before .before .before .before .check .ensures) _ (c .before .before .answer2 .given .1) in c .compare .ensures ∙ simp (c .before .before .before .before .before .before .before .pre .0, t .0)
+returns-2 c =
+    let b = c .before .before .before .before in
+    c .compare .ensures ∙ simp (b .before .before .before .pre .0, says _ _ (b .check .ensures) _ (c .before .before .answer2 .given .1) .0)
 
 pub judge-newer-spec : {M : Type 1} → statement M
 judge-newer-spec =

@@ -6,7 +6,7 @@ use Rattle.pair.proofs.look_ahead.Statement.{statement}
 use Rattle.pair.proofs.look_ahead.Tie as tie
 
 returns : tie.Need-returns
-returns c = ends-ahead _ _ _ _ (c .before .before .pre .0) (c .before .before .pre .1) (c .if1 .taken)
+returns c = ends-ahead (c .before .before .pre .0) (c .before .before .pre .1) (c .if1 .taken)
 
 range-at-requires : tie.Need-range-at-requires
 range-at-requires c κs = let w = c .before .before .pre .0 .room in omega arith
@@ -15,13 +15,19 @@ sub-t7 : tie.Need-sub-t7
 sub-t7 c = search needs
 
 returns-2 : tie.Need-returns-2
-returns-2 c = gap-ahead _ _ _ _ (c .before .before .before .before .before .before .pre .0) (c .before .before .before .before .before .before .pre .1) (c .before .before .before .before .if1 .left) _ (c .before .before .before .range-at .ensures) (c .before .if2 .taken)
+returns-2 c =
+    let b = c .before .before .before in
+    let p = b .before .before .before .pre in
+    gap-ahead (p .0) (p .1) (b .before .if1 .left) (b .range-at .ensures) (c .before .if2 .taken)
 
 add-t8 : tie.Need-add-t8
 add-t8 c = search needs
 
 returns-3 : tie.Need-returns-3
-returns-3 c = range-ahead _ _ _ _ (c .before .before .before .before .before .pre .0) (c .before .before .before .before .before .pre .1) (c .before .before .before .if1 .left) _ (c .before .before .range-at .ensures) (c .if2 .left)
+returns-3 c =
+    let b = c .before .before in
+    let p = b .before .before .before .pre in
+    range-ahead (p .0) (p .1) (b .before .if1 .left) (b .range-at .ensures) (c .if2 .left)
 
 pub look-ahead-spec : {M : Type 1} → statement M
 look-ahead-spec = tie.close (tie.spec returns range-at-requires sub-t7 returns-2 add-t8 returns-3)

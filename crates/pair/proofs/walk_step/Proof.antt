@@ -24,7 +24,9 @@ returns c =
     let g = c .before .before .before .before .look-ahead2 .ensures in
     let p = f .from in
     let q = g .from in
-    both-ahead _ _ _ _ _ _ _ (c .before .before .if1 .last) _ _ _ _ f g (⊎-elim (λ w. (omega arith, omega arith, omega arith)) (λ w. (omega arith, omega arith, omega arith)) (c .before .before .if1 .came)) (c .before .place-after .ensures) (c .place-after2 .ensures)
+    both-ahead (c .before .before .if1 .last) f g
+    (⊎-elim (λ w. (omega arith, omega arith, omega arith)) (λ w. (omega arith, omega arith, omega arith)) (c .before .before .if1 .came))
+    (c .before .place-after .ensures) (c .place-after2 .ensures)
 
 pub walk-step-spec : {M : Type 1} → statement M
 walk-step-spec =

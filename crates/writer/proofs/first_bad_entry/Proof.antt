@@ -1,4 +1,4 @@
--- `writer::first_bad_entry` meets its contract. The loop's invariant: the first bad entry from i on is the first bad one. Assumes nothing.
+-- `writer::first_bad_entry` meets its contract. The loop: all entries before i are good. Assumes nothing.
 use Prim.Native.Nat.{_-_}
 use mathlib.Core.Path.{sym, _∙_}
 use native.Mathlib.Omega.{arith}
@@ -15,7 +15,7 @@ abbrev μ-loop : tie.MeasureT-loop
 μ-loop points roles m i₀ i = m - i
 
 loop-holds : tie.Need-loop-holds Inv-loop μ-loop
-loop-holds c = search-begins (goodEntry (valueAt (c .args .points .now)) (valueAt (c .args .roles .now))) _
+loop-holds c = search-begins
 
 is-good-entry-requires : tie.Need-is-good-entry-requires Inv-loop μ-loop
 is-good-entry-requires c κs = omega arith
@@ -28,18 +28,18 @@ loop-less c = omega arith
 
 loop-again : tie.Need-loop-again Inv-loop μ-loop
 loop-again c =
-    let a = c .before .before .before .before .args in
-    good-next (goodEntry (valueAt (a .points .now)) (valueAt (a .roles .now))) _ _ (c .before .before .before .loop .inv) (c .before .before .loop-test .taken) (sym (c .before .is-good-entry .ensures) ∙ c .if1 .taken)
+    let b = c .before .before in
+    good-next (b .before .loop .inv) (b .loop-test .taken) (sym (c .before .is-good-entry .ensures) ∙ c .if1 .taken)
 
 returns : tie.Need-returns Inv-loop μ-loop
 unfolding firstBadEntry
 returns c =
-    let a = c .before .before .before .before .args in
-    bad-here (goodEntry (valueAt (a .points .now)) (valueAt (a .roles .now))) _ _ (c .before .before .before .loop .inv) (c .before .before .loop-test .taken) (sym (c .before .is-good-entry .ensures) ∙ c .if1 .left)
+    let b = c .before .before in
+    bad-here (b .before .loop .inv) (b .loop-test .taken) (sym (c .before .is-good-entry .ensures) ∙ c .if1 .left)
 
 returns-2 : tie.Need-returns-2 Inv-loop μ-loop
 unfolding firstBadEntry
-returns-2 c = let a = c .before .before .args in none-bad (goodEntry (valueAt (a .points .now)) (valueAt (a .roles .now))) _ _ (c .before .loop .inv) (c .loop-test .left)
+returns-2 c = none-bad (c .before .loop .inv) (c .loop-test .left)
 
 pub first-bad-entry-spec : {M : Type 1} → statement M
 first-bad-entry-spec =

@@ -24,7 +24,7 @@ abbrev μ-loop : tie.MeasureT-loop
 μ-loop out₀ points roles m i₀ out i = m - i
 
 loop-holds : tie.Need-loop-holds Inv-loop μ-loop
-loop-holds c = let a = c .before .args in writing-begins (bytesIn (a .points .now) (a .roles .now) (a .m)) entryBytes _ _
+loop-holds c = writing-begins
 
 mul-at : tie.Need-mul-at Inv-loop μ-loop
 mul-at c = omega arith
@@ -61,10 +61,8 @@ loop-less c = omega arith
 
 loop-again : tie.Need-loop-again Inv-loop μ-loop
 loop-again c =
-    let a = c .before .before .before .before .before .before .before .before .before .args in
     let l = c .before .before .before .before .before .before .before .loop in
-    let f = bytesIn (a .points .now) (a .roles .now) (a .m) in
-    writing-lent f entryBytes _ _ (l .out) (l .i) (l .inv) (length-all _) (omega arith) (omega arith) _ (c .before .before .put-entry .ensures)
+    writing-lent (l .inv) (length-all _) (omega arith) (omega arith) _ (c .before .before .put-entry .ensures)
 
 same-length : tie.Need-same-length Inv-loop μ-loop
 same-length c = c .before .loop .inv .size
@@ -73,7 +71,7 @@ returns : tie.Need-returns Inv-loop μ-loop
 unfolding each
 returns c =
     let a = c .before .before .before .args in
-    writing-ends (bytesIn (a .points .now) (a .roles .now) (a .m)) entryBytes _ _ _ _ (c .before .loop .inv) (c .loop-test .left)
+    writing-ends (c .before .loop .inv) (c .loop-test .left)
     ∙ ap (laid (a .out .now) 0) (bytes-each-list (entryWords (profileBy (a .points .now) (a .roles .now) (a .m))) (a .m) 0)
 
 pub put-entries-spec : {M : Type 1} → statement M

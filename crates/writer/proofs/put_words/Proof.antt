@@ -23,7 +23,7 @@ abbrev μ-loop : tie.MeasureT-loop
 μ-loop out₀ words i₀ out i = length words - i
 
 loop-holds : tie.Need-loop-holds Inv-loop μ-loop
-loop-holds c = writing-begins (bytesIn (c .before .before .args .words .now)) wordBytes _ _
+loop-holds c = writing-begins
 
 mul-at : tie.Need-mul-at Inv-loop μ-loop
 mul-at c = omega arith
@@ -54,9 +54,8 @@ loop-less c = omega arith
 
 loop-again : tie.Need-loop-again Inv-loop μ-loop
 loop-again c =
-    let words = c .before .before .before .before .before .before .before .before .before .args .words .now in
     let l = c .before .before .before .before .before .before .loop in
-    writing-lent (bytesIn words) wordBytes _ _ (l .out) (l .i) (l .inv) (length-four _) (omega arith) (omega arith) _ (c .before .before .put-word .ensures)
+    writing-lent (l .inv) (length-four _) (omega arith) (omega arith) _ (c .before .before .put-word .ensures)
 
 same-length : tie.Need-same-length Inv-loop μ-loop
 same-length c = c .before .loop .inv .size
@@ -65,7 +64,7 @@ returns : tie.Need-returns Inv-loop μ-loop
 unfolding each
 returns c =
     let a = c .before .before .before .before .args in
-    writing-ends (bytesIn (a .words .now)) wordBytes _ _ _ _ (c .before .loop .inv) (c .loop-test .left)
+    writing-ends (c .before .loop .inv) (c .loop-test .left)
     ∙ ap (laid (a .out .now) 0) (bytes-each-word (a .words .now) (length (a .words .now)) 0 (omega arith))
 
 pub put-words-spec : {M : Type 1} → statement M
