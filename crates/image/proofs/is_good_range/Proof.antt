@@ -13,7 +13,9 @@ is-good-alone-requires c κs = search needs
 
 returns : tie.Need-returns
 unfolding goodRange
-returns c = simp (← c .before .before .before .range-at .ensures, ← c .before .before .is-good-alone .ensures, c .before .if1 .taken, eq-eqb _ _ (c .if2 .taken))
+returns c =
+    let b = c .before .before in
+    simp (← b .before .range-at .ensures, ← b .is-good-alone .ensures, c .before .if1 .taken, eq-eqb _ _ (c .if2 .taken))
 
 sub-range-at : tie.Need-sub-range-at
 sub-range-at c = search needs

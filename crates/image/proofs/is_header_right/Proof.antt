@@ -17,7 +17,9 @@ word-requires-2 c κs = search needs
 
 returns-2 : tie.Need-returns-2
 unfolding headerRight
-returns-2 c = simp (← c .before .before .before .word .ensures, ← c .before .word2 .ensures, eq-eqb _ _ (c .before .before .if1 .left), ne-eqb _ _ (c .if2 .taken))
+returns-2 c =
+    let f = c .before .before in
+    simp (← f .before .word .ensures, ← c .before .word2 .ensures, eq-eqb _ _ (f .if1 .left), ne-eqb _ _ (c .if2 .taken))
 
 word-requires-3 : tie.Need-word-requires-3
 word-requires-3 c κs = search needs

@@ -22,19 +22,21 @@ right s p = headed s (sized s (p .0)) (p .1)
 
 -- n is the number of ranges, i the index of the first bad one
 module _ (s : List ℕ) (h : Headed s) (n i : ℕ) (en : n ≡ rangeCount s) (ei : i ≡ firstBadRange (rangeAt s) n) where
+  first : i ≡ firstBadRange (rangeAt s) (rangeCount s)
+  first = ei ∙ ap (firstBadRange (rangeAt s)) en
+
   range-bad : i < n → refusalOf s ≡ some (refusal.Range i)
-  range-bad l = past-header s h ∙ range-found _ _ _ _ _ none i (ei ∙ ap (firstBadRange (rangeAt s)) en) (omega arith)
+  range-bad l = past-header s h ∙ range-found _ _ _ _ _ none i first (omega arith)
 
   module _ (none-before : n ≤ i) (m j : ℕ) (em : m ≡ entryCount s) (ej : j ≡ firstBadEntry (pointAt s) (roleAt s) m) where
+    first-entry : j ≡ firstBadEntry (pointAt s) (roleAt s) (entryCount s)
+    first-entry = ej ∙ ap (firstBadEntry (pointAt s) (roleAt s)) em
+
     entry-bad : j < m → refusalOf s ≡ some (refusal.Entry j)
-    entry-bad l =
-        past-header s h
-        ∙ entry-found _ _ _ _ _ none i (ei ∙ ap (firstBadRange (rangeAt s)) en) (omega arith) j (ej ∙ ap (firstBadEntry (pointAt s) (roleAt s)) em) (omega arith)
+    entry-bad l = past-header s h ∙ entry-found _ _ _ _ _ none i first (omega arith) j first-entry (omega arith)
 
     none-bad : m ≤ j → refusalOf s ≡ none
-    none-bad l =
-        past-header s h
-        ∙ none-found _ _ _ _ _ none i (ei ∙ ap (firstBadRange (rangeAt s)) en) (omega arith) j (ej ∙ ap (firstBadEntry (pointAt s) (roleAt s)) em) (omega arith)
+    none-bad l = past-header s h ∙ none-found _ _ _ _ _ none i first (omega arith) j first-entry (omega arith)
 
 word-requires : tie.Need-word-requires
 word-requires c κs = let h = right _ (c .before .pre) in omega arith
@@ -47,8 +49,8 @@ first-bad-range-requires c κs = let h = right _ (c .before .before .pre) in ome
 
 returns : tie.Need-returns
 returns c =
-    refuses _ _
-    (range-bad _ (right _ (c .before .before .before .before .pre)) _ _ (c .before .before .word .ensures) (c .before .first-bad-range .ensures) (c .if1 .taken))
+    let b = c .before .before in
+    refuses _ _ (range-bad _ (right _ (b .before .before .pre)) _ _ (b .word .ensures) (c .before .first-bad-range .ensures) (c .if1 .taken))
 
 word-requires-2 : tie.Need-word-requires-2
 word-requires-2 c κs = let h = right _ (c .before .before .before .before .pre) in omega arith

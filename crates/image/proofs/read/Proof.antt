@@ -62,7 +62,8 @@ returns-3 c =
     let b = c .before .before .before .before .before .before .before in
     let a = b .before .before .before .before .before .args in
     let k = accepted-by (a .image .now) _ (b .before .before .judge .ensures) _ _ (b .a2 .given .1) in
-    let w = read-by (a .image .now) (a .out .now) _ (none-refuses _ (a .out .now) (k .0) (rw (k .2) at (c .before .before .before .before .before .if1 .left))) in (
+    let fits = rw (k .2) at (c .before .before .before .before .before .if1 .left) in
+    let w = read-by (a .image .now) (a .out .now) _ (none-refuses _ (a .out .now) (k .0) fits) in (
       c .accept .ensures ∙ sym (w .0),
       c .before .before .before .write-ranges .ensures
           ∙ ap (λ (n : ℕ). laid (a .out .now) 0 (each (λ (i : ℕ). rangeWords (rangeAt (a .image .now) i)) n)) (k .2)

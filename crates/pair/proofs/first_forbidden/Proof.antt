@@ -37,7 +37,8 @@ loop-again c =
     let w = c .before .before .before in
     let l = w .before .before in
     let p = l .before .before .before .pre in
-    clear-next (p .older-ranges) (p .newer-ranges) (l .loop .inv) (w .walk-step .ensures) (sym (c .before .before .is-permitted .ensures) ∙ c .before .if1 .taken)
+    clear-next (p .older-ranges) (p .newer-ranges) (l .loop .inv) (w .walk-step .ensures)
+    (sym (c .before .before .is-permitted .ensures) ∙ c .before .if1 .taken)
 
 returns : tie.Need-returns Inv-loop μ-loop
 returns c =

@@ -13,7 +13,9 @@ is-good-alone-requires c κs = search needs
 
 returns : tie.Need-returns
 unfolding goodRange
-returns c = simp (← c .before .before .before .range-in .ensures, ← c .before .before .is-good-alone .ensures, c .before .if1 .taken, eq-eqb _ _ (c .if2 .taken))
+returns c =
+    let b = c .before .before in
+    simp (← b .before .range-in .ensures, ← b .is-good-alone .ensures, c .before .if1 .taken, eq-eqb _ _ (c .if2 .taken))
 
 sub-range-in : tie.Need-sub-range-in
 sub-range-in c = search needs
@@ -27,9 +29,15 @@ may-follow-requires c κs = search needs
 returns-2 : tie.Need-returns-2
 unfolding goodRange
 returns-2 c =
-    let r = c .before .before .before .before .before in
-    let a = c .before .before .before .before in
-    simp (c .may-follow .ensures, ← r .range-in .ensures, ← c .before .range-in2 .ensures, ← a .is-good-alone .ensures, c .before .before .before .if1 .taken, ne-eqb _ _ (c .before .before .if2 .left))
+    let b = c .before .before .before in
+    simp (
+      c .may-follow .ensures,
+      ← b .before .before .range-in .ensures,
+      ← c .before .range-in2 .ensures,
+      ← b .before .is-good-alone .ensures,
+      b .if1 .taken,
+      ne-eqb _ _ (c .before .before .if2 .left),
+    )
 
 returns-3 : tie.Need-returns-3
 unfolding goodRange

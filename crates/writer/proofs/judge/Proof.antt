@@ -25,7 +25,13 @@ returns-4 : tie.Need-returns-4
 unfolding writeOf writeRefusal recordsRefusal
 returns-4 c =
     let a = c .before .before in
-    simp (eq-eqb _ _ (a .before .before .if1 .left), le-leb _ _ (a .before .if2 .left), le-leb _ _ (a .if3 .left), ← c .before .first-bad-range .ensures, lt-ltb _ _ (c .if4 .taken))
+    simp (
+      eq-eqb _ _ (a .before .before .if1 .left),
+      le-leb _ _ (a .before .if2 .left),
+      le-leb _ _ (a .if3 .left),
+      ← c .before .first-bad-range .ensures,
+      lt-ltb _ _ (c .if4 .taken),
+    )
 
 first-bad-entry-requires : tie.Need-first-bad-entry-requires
 first-bad-entry-requires c κs = search needs
@@ -35,7 +41,15 @@ unfolding writeOf writeRefusal recordsRefusal
 returns-5 c =
     let b = c .before .before in
     let a = b .before .before in
-    simp (eq-eqb _ _ (a .before .before .if1 .left), le-leb _ _ (a .before .if2 .left), le-leb _ _ (a .if3 .left), ← b .before .first-bad-range .ensures, le-ltb _ _ (b .if4 .left), ← c .before .first-bad-entry .ensures, lt-ltb _ _ (c .if5 .taken))
+    simp (
+      eq-eqb _ _ (a .before .before .if1 .left),
+      le-leb _ _ (a .before .if2 .left),
+      le-leb _ _ (a .if3 .left),
+      ← b .before .first-bad-range .ensures,
+      le-ltb _ _ (b .if4 .left),
+      ← c .before .first-bad-entry .ensures,
+      lt-ltb _ _ (c .if5 .taken),
+    )
 
 mul-len : tie.Need-mul-len
 mul-len c = search needs
@@ -55,7 +69,16 @@ returns-6 c =
     let d = c .before in
     let b = d .before .before in
     let a = b .before .before in
-    simp (eq-eqb _ _ (a .before .before .if1 .left), le-leb _ _ (a .before .if2 .left), le-leb _ _ (a .if3 .left), ← b .before .first-bad-range .ensures, le-ltb _ _ (b .if4 .left), ← d .before .first-bad-entry .ensures, le-ltb _ _ (d .if5 .left), lt-leb _ _ (c .if6 .taken))
+    simp (
+      eq-eqb _ _ (a .before .before .if1 .left),
+      le-leb _ _ (a .before .if2 .left),
+      le-leb _ _ (a .if3 .left),
+      ← b .before .first-bad-range .ensures,
+      le-ltb _ _ (b .if4 .left),
+      ← d .before .first-bad-entry .ensures,
+      le-ltb _ _ (d .if5 .left),
+      lt-leb _ _ (c .if6 .taken),
+    )
 
 returns-7 : tie.Need-returns-7
 unfolding writeOf writeRefusal recordsRefusal
@@ -63,7 +86,16 @@ returns-7 c =
     let d = c .before in
     let b = d .before .before in
     let a = b .before .before in
-    simp (eq-eqb _ _ (a .before .before .if1 .left), le-leb _ _ (a .before .if2 .left), le-leb _ _ (a .if3 .left), ← b .before .first-bad-range .ensures, le-ltb _ _ (b .if4 .left), ← d .before .first-bad-entry .ensures, le-ltb _ _ (d .if5 .left), le-leb _ _ (c .if6 .left))
+    simp (
+      eq-eqb _ _ (a .before .before .if1 .left),
+      le-leb _ _ (a .before .if2 .left),
+      le-leb _ _ (a .if3 .left),
+      ← b .before .first-bad-range .ensures,
+      le-ltb _ _ (b .if4 .left),
+      ← d .before .first-bad-entry .ensures,
+      le-ltb _ _ (d .if5 .left),
+      le-leb _ _ (c .if6 .left),
+    )
 
 pub judge-spec : {M : Type 1} → statement M
 judge-spec =

@@ -30,7 +30,8 @@ returns : tie.Need-returns
 unfolding bytesOf bytesOfAll
 returns c =
     let s = c .before .before .before .before .before .before .before .before .before in
-    joined (s .args .out .now) (bytesOf (s .args .point)) (bytesOf (s .args .role)) _ _ wordBytes refl (s .pre) (c .before .before .before .before .before .before .put-word .ensures) (c .before .before .put-word2 .ensures)
+    joined (s .args .out .now) (bytesOf (s .args .point)) (bytesOf (s .args .role)) _ _ wordBytes refl (s .pre)
+    (c .before .before .before .before .before .before .put-word .ensures) (c .before .before .put-word2 .ensures)
 
 pub put-entry-spec : {M : Type 1} → statement M
 put-entry-spec =
