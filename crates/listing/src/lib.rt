@@ -52,7 +52,10 @@ fn list_script<'a>(image: &'a [u8], text: &'a [u8], out: &mut [u32]) -> Counted
     let answer = image::judge(image);
     match answer {
         Answer::Refused(r) => Counted::Refused(r),
-        Answer::Accepted { version: _, ranges: _ } => {
+        Answer::Accepted {
+            version: _,
+            ranges: _,
+        } => {
             if MAX_SCRIPT < text.len() {
                 return Counted::Refused(Refusal::TextLength);
             }

@@ -41,9 +41,6 @@ module _ (s : List ℕ) (h : Headed s) (n i : ℕ) (en : n ≡ rangeCount s) (ei
 word-requires : tie.Need-word-requires
 word-requires c κs = let h = right _ (c .before .pre) in omega arith
 
-cast-n : tie.Need-cast-n
-cast-n c = search needs
-
 first-bad-range-requires : tie.Need-first-bad-range-requires
 first-bad-range-requires c κs = let h = right _ (c .before .before .pre) in omega (arith, c .word .ensures)
 
@@ -54,15 +51,6 @@ returns c =
 
 word-requires-2 : tie.Need-word-requires-2
 word-requires-2 c κs = let h = right _ (c .before .before .before .before .pre) in omega arith
-
-cast-m : tie.Need-cast-m
-cast-m c = search needs
-
-mul-first-bad-entry : tie.Need-mul-first-bad-entry
-mul-first-bad-entry c = search needs
-
-add-first-bad-entry : tie.Need-add-first-bad-entry
-add-first-bad-entry c = search needs
 
 first-bad-entry-requires : tie.Need-first-bad-entry-requires
 first-bad-entry-requires c κs =
@@ -97,13 +85,13 @@ judge-records-spec =
     tie.close
     (tie.spec
     word-requires
-    cast-n
+    (λ c. search needs)
     first-bad-range-requires
     returns
     word-requires-2
-    cast-m
-    mul-first-bad-entry
-    add-first-bad-entry
+    (λ c. search needs)
+    (λ c. search needs)
+    (λ c. search needs)
     first-bad-entry-requires
     returns-2
     word-requires-3

@@ -23,9 +23,6 @@ loop-holds c =
 walk-step-requires : tie.Need-walk-step-requires Inv-loop μ-loop
 walk-step-requires c κs = (c .before .loop .inv .older-at, (c .before .loop .inv .newer-at, omega arith))
 
-is-permitted-requires : tie.Need-is-permitted-requires Inv-loop μ-loop
-is-permitted-requires c κs = search needs
-
 add-x : tie.Need-add-x Inv-loop μ-loop
 add-x c = let t = c .before .before .before .walk-step .ensures .to in omega arith
 
@@ -58,7 +55,7 @@ first-forbidden-spec =
     μ-loop
     loop-holds
     walk-step-requires
-    is-permitted-requires
+    (λ c κs. search needs)
     add-x
     loop-less
     loop-again

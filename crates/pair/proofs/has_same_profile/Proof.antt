@@ -11,14 +11,8 @@ use Rattle.pair.proofs.has_same_profile.Tie as tie
 word-requires : tie.Need-word-requires
 word-requires c κs = let h = fill (c .before .before .pre) in omega arith
 
-cast-count : tie.Need-cast-count
-cast-count c = search needs
-
 word-requires-2 : tie.Need-word-requires-2
 word-requires-2 c κs = let h = fill (c .before .before .before .pre) in omega arith
-
-cast-if1 : tie.Need-cast-if1
-cast-if1 c = search needs
 
 returns : tie.Need-returns
 unfolding sameProfile
@@ -54,9 +48,9 @@ has-same-profile-spec =
     tie.close
     (tie.spec
     word-requires
-    cast-count
+    (λ c. search needs)
     word-requires-2
-    cast-if1
+    (λ c. search needs)
     returns
     mul-are-entries-same
     add-are-entries-same

@@ -10,9 +10,6 @@ returns : tie.Need-returns
 unfolding permitted
 returns c = simp (eq-eqb _ _ (c .if1 .taken))
 
-is-continue-requires : tie.Need-is-continue-requires
-is-continue-requires c κs = search needs
-
 returns-2 : tie.Need-returns-2
 unfolding permitted
 returns-2 c =
@@ -24,9 +21,6 @@ unfolding permitted
 returns-3 c =
     let b = c .before .before in
     simp (ne-eqb _ _ (b .before .if1 .left), eq-eqb _ _ (b .if2 .taken), sym (c .before .is-continue .ensures) ∙ c .if3 .left)
-
-is-continue-requires-2 : tie.Need-is-continue-requires-2
-is-continue-requires-2 c κs = search needs
 
 returns-4 : tie.Need-returns-4
 unfolding permitted
@@ -51,10 +45,10 @@ is-permitted-spec =
     tie.close
     (tie.spec
     returns
-    is-continue-requires
+    (λ c κs. search needs)
     returns-2
     returns-3
-    is-continue-requires-2
+    (λ c κs. search needs)
     returns-4
     returns-5
     returns-6)

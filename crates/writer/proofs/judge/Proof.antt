@@ -18,9 +18,6 @@ returns-3 : tie.Need-returns-3
 unfolding writeOf writeRefusal recordsRefusal
 returns-3 c = simp (eq-eqb _ _ (c .before .before .if1 .left), le-leb _ _ (c .before .if2 .left), lt-leb _ _ (c .if3 .taken))
 
-first-bad-range-requires : tie.Need-first-bad-range-requires
-first-bad-range-requires c κs = search needs
-
 returns-4 : tie.Need-returns-4
 unfolding writeOf writeRefusal recordsRefusal
 returns-4 c =
@@ -32,9 +29,6 @@ returns-4 c =
       ← c .before .first-bad-range .ensures,
       lt-ltb _ _ (c .if4 .taken),
     )
-
-first-bad-entry-requires : tie.Need-first-bad-entry-requires
-first-bad-entry-requires c κs = search needs
 
 returns-5 : tie.Need-returns-5
 unfolding writeOf writeRefusal recordsRefusal
@@ -50,18 +44,6 @@ returns-5 c =
       ← c .before .first-bad-entry .ensures,
       lt-ltb _ _ (c .if5 .taken),
     )
-
-mul-len : tie.Need-mul-len
-mul-len c = search needs
-
-add-len : tie.Need-add-len
-add-len c = search needs
-
-mul-len-2 : tie.Need-mul-len-2
-mul-len-2 c = search needs
-
-add-len-2 : tie.Need-add-len-2
-add-len-2 c = search needs
 
 returns-6 : tie.Need-returns-6
 unfolding writeOf writeRefusal recordsRefusal
@@ -104,13 +86,13 @@ judge-spec =
     returns
     returns-2
     returns-3
-    first-bad-range-requires
+    (λ c κs. search needs)
     returns-4
-    first-bad-entry-requires
-    mul-len
-    add-len
-    mul-len-2
-    add-len-2
+    (λ c κs. search needs)
+    (λ c. search needs)
+    (λ c. search needs)
+    (λ c. search needs)
+    (λ c. search needs)
     returns-5
     returns-6
     returns-7)
