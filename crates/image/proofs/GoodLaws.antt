@@ -74,7 +74,8 @@ module _ (at : ℕ → Range) (i : ℕ) where
       go (no u) (no v) (yes w) = absurd (g .no-surrogate firstSurrogate (omega arith) (omega arith) (omega arith) (omega arith))
       go (no u) (no v) (no w) = absurd (g .no-surrogate (r .first) (omega arith) (g .ordered) (omega arith) (omega arith))
 
-  is-apart : GoodRange at i → 0 < i → (c : Bool) → eqb (r .class) (p .class) ≡ c → (t : Bool) → eqb (p .last + 1) (r .first) ≡ t → (not c || not t) ≡ true
+  is-apart :
+      GoodRange at i → 0 < i → (c : Bool) → eqb (r .class) (p .class) ≡ c → (t : Bool) → eqb (p .last + 1) (r .first) ≡ t → (not c || not t) ≡ true
   is-apart g h false e t f = refl
   is-apart g h true e false f = refl
   is-apart g h true e true f = absurd (g .apart h (sym (eqb-true _ _ e)) (eqb-true _ _ f))
@@ -118,16 +119,13 @@ pub entries-told : (point role : ℕ → ℕ) → Tells (goodEntry point role) (
 entries-told point role = record { to = entry-to point role; from = entry-from point role }
 
 -- whether a record is good depends on it and the one before it
-pub good-range-same : (f g : ℕ → Range) (i : ℕ) → f i ≡ g i → f (i - 1) ≡ g (i - 1) → goodRange f i ≡ goodRange g i
-unfolding goodRange
-good-range-same f g i e h = rw (e, h)
-
 pub good-entry-same : (f g a b : ℕ → ℕ) (i : ℕ) → f i ≡ g i → f (i - 1) ≡ g (i - 1) → a i ≡ b i → goodEntry f a i ≡ goodEntry g b i
 unfolding goodEntry
 good-entry-same f g a b i e h r = rw (e, h, r)
 
-pub range-same : (f g : ℕ → Range) (i : ℕ) → f i ≡ g i → f (i - 1) ≡ g (i - 1) → GoodRange g i → GoodRange f i
-range-same f g i e h k = range-to f i (good-range-same f g i e h ∙ range-from g i k)
+pub entry-same : {f g a b : ℕ → ℕ} {i : ℕ} → f i ≡ g i → f (i - 1) ≡ g (i - 1) → a i ≡ b i → GoodEntry g b i → GoodEntry f a i
+entry-same {f} {g} {a} {b} {i} e h r k = entry-to f a i (good-entry-same f g a b i e h r ∙ entry-from g b i k)
 
-pub entry-same : (f g a b : ℕ → ℕ) (i : ℕ) → f i ≡ g i → f (i - 1) ≡ g (i - 1) → a i ≡ b i → GoodEntry g b i → GoodEntry f a i
-entry-same f g a b i e h r k = entry-to f a i (good-entry-same f g a b i e h r ∙ entry-from g b i k)
+pub range-same : {f g : ℕ → Range} {i : ℕ} → f i ≡ g i → f (i - 1) ≡ g (i - 1) → GoodRange g i → GoodRange f i
+unfolding goodRange
+range-same {f} {g} {i} e h k = range-to f i (rw (e, h) (range-from g i k))

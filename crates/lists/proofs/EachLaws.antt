@@ -5,7 +5,7 @@ use mathlib.Core.List.{List, [], _∷_, _++_, append-assoc, append-nil}
 use native.Mathlib.Numerals.{add-one}
 use native.Mathlib.Nat.{zero-add, mul-suc, add-zero, mul-zero}
 use native.Mathlib.Omega.{arith}
-use lib.ListN.{length, getD, set, replicate, length-append, length-replicate, List·getD-append}
+use lib.ListN.{length, getD, set, replicate, length-append, List·getD-append}
 use lib.Seq.{set-at, append-snoc, getD-append-add}
 use Rattle.lists.specs.Each.{eachFrom, each, single, column}
 

@@ -41,4 +41,5 @@ module _ (out ws : List ℕ) (at : ℕ) (fits : at + length ws ≤ length out) w
   lent ys e =
       let n : length (drop at out) ≤ length out - at = rw length-drop (omega arith) in
       let z : 0 + length ws ≡ length ws = omega arith in
-      rw (drop-of-length-le (drop at out) n, append-nil, e, take-all (length out - at) (drop at out) n, z, drop-drop) (sym (append-assoc (take at out) ws (drop (at + length ws) out)))
+      rw (drop-of-length-le (drop at out) n, append-nil, e, take-all (length out - at) (drop at out) n, z, drop-drop)
+      (sym (append-assoc (take at out) ws (drop (at + length ws) out)))

@@ -10,7 +10,7 @@ use Rattle.image.specs.Header.{rangeCount, entryCount, entriesAt, imageEnd}
 use Rattle.image.specs.Check.{refusalOf}
 use Rattle.image.proofs.ImageLaws.{accepted, accepted-size}
 use Rattle.pair.specs.Walk.{Walk}
-use Rattle.pair.specs.Judged.{EntriesFrom}
+use Rattle.pair.specs.Judged.{Judged, EntriesFrom}
 
 -- the walk begins at code point 0
 pub walk-begins : (s : List ℕ) (n : ℕ) → refusalOf s ≡ none → n ≡ rangeCount s → Walk s n 0 0
@@ -22,14 +22,20 @@ walk-begins s n e p =
       place = record { passed = record { within = omega arith; before = λ l. absurd (omega arith) }; reached = λ l. omega arith };
     }
 
--- the header, the ranges and the entries fill the image
-pub filled :
-    (s : List ℕ) (n : ℕ) → refusalOf s ≡ none → n ≡ rangeCount s
-    → (length s ≡ imageEnd n (entryCount s)) × (entryCount s ≤ maxEntries) × (n ≤ maxRanges)
+-- the header, n ranges and the entries fill an image
+pub record Filled (s : List ℕ) (n : ℕ) : Type 0 where
+  pub size : length s ≡ imageEnd n (entryCount s)
+  pub few-ranges : n ≤ maxRanges
+  pub few-entries : entryCount s ≤ maxEntries
+
+filled : (s : List ℕ) (n : ℕ) → refusalOf s ≡ none → n ≡ rangeCount s → Filled s n
 filled s n e p =
     let h = accepted s e .header in
-    (rw p (accepted-size s e), h .few-entries, omega arith)
+    record { size = rw p (accepted-size s e); few-ranges = omega arith; few-entries = h .few-entries }
+
+pub fill : {older newer : List ℕ} {n m : ℕ} → Judged older newer n m → Filled older n × Filled newer m
+fill j = (filled _ _ (j .older-accepted) (j .older-ranges), filled _ _ (j .newer-accepted) (j .newer-ranges))
 
 -- where the profile entries begin
 pub entries-begin : (s : List ℕ) (n count : ℕ) → refusalOf s ≡ none → n ≡ rangeCount s → count ≡ entryCount s → EntriesFrom s (entriesAt n) count
-entries-begin s n count e p q = let (z, u, v) = filled s n e p in record { begin = rw p; room = omega arith }
+entries-begin s n count e p q = let z = filled s n e p in record { begin = rw p; room = omega arith }

@@ -124,14 +124,17 @@ module _ (older newer : List ℕ) where
 
   -- the answers
   module _ (a : Accepted older) (b : Accepted newer) where
-    means-change : SameProfile older newer → (t : Bool) → ltb (firstForbidden older newer) codePoints ≡ t
-        → PairMeans older newer (cond t (pair.Refused (refusal.Change (firstForbidden older newer))) pair.Permitted)
+    abbrev first : ℕ
+    first = firstForbidden older newer
+
+    abbrev changed : Bool → Pair
+    changed t = cond t (pair.Refused (refusal.Change first)) pair.Permitted
+
+    means-change : SameProfile older newer → (t : Bool) → ltb first codePoints ≡ t → PairMeans older newer (changed t)
     means-change s true e = bad-change a b s (first-change a b (ltb-true _ _ e))
     means-change s false e = all-permitted a b s (only-permitted a b (ltb-false _ _ e))
 
-    means-compared : (t : Bool) → sameProfile older newer ≡ t
-        → PairMeans older newer
-        (cond t (cond (ltb (firstForbidden older newer) codePoints) (pair.Refused (refusal.Change (firstForbidden older newer))) pair.Permitted) (pair.Refused refusal.Profiles))
+    means-compared : (t : Bool) → sameProfile older newer ≡ t → PairMeans older newer (cond t (changed (ltb first codePoints)) (pair.Refused refusal.Profiles))
     means-compared true e = means-change (same-profile e) _ refl
     means-compared false e = other-profile a b (λ s. true≢false (sym (profile-same s) ∙ e))
 

@@ -48,30 +48,34 @@ unfolding each
 words-back words e = let w = whole words e in words-from words (rangesIn words) 0 (omega arith)
 
 module _ (version : ℕ) (words : List ℕ) (p : Profile) (e : Shaped words) where
+  abbrev header : List ℕ
+  header = headerWords version (rangesIn words) (p .used)
+
+  abbrev entries : List ℕ
+  entries = each (entryWords p) (p .used)
+
   -- the image's numbers: those of the header, the words, and the entries
-  pub image-words : imageWords version (rangeIn words) (rangesIn words) p ≡ headerWords version (rangesIn words) (p .used) ++ (words ++ each (entryWords p) (p .used))
+  pub image-words : imageWords version (rangeIn words) (rangesIn words) p ≡ header ++ (words ++ entries)
   unfolding imageWords
-  image-words = ap (λ (l : List ℕ). headerWords version (rangesIn words) (p .used) ++ (l ++ each (entryWords p) (p .used))) (words-back words e)
+  image-words = ap (λ (l : List ℕ). header ++ (l ++ entries)) (words-back words e)
 
   -- its bytes
-  pub image-parts : imageOf version (rangeIn words) (rangesIn words) p ≡ (bytesOfAll (headerWords version (rangesIn words) (p .used)) ++ bytesOfAll words) ++ bytesOfAll (each (entryWords p) (p .used))
+  pub image-parts : imageOf version (rangeIn words) (rangesIn words) p ≡ (bytesOfAll header ++ bytesOfAll words) ++ bytesOfAll entries
   unfolding imageOf
   image-parts =
-      let h = headerWords version (rangesIn words) (p .used) in
-      let t = each (entryWords p) (p .used) in
       ap bytesOfAll image-words
-      ∙ all-append h (words ++ t)
-      ∙ ap (λ (l : List ℕ). bytesOfAll h ++ l) (all-append words t)
-      ∙ sym (append-assoc (bytesOfAll h) (bytesOfAll words) (bytesOfAll t))
+      ∙ all-append header (words ++ entries)
+      ∙ ap (λ (l : List ℕ). bytesOfAll header ++ l) (all-append words entries)
+      ∙ sym (append-assoc (bytesOfAll header) (bytesOfAll words) (bytesOfAll entries))
 
-  pub length-entries : length (each (entryWords p) (p .used)) ≡ 2 * p .used
+  pub length-entries : length entries ≡ 2 * p .used
   length-entries = length-each (entryWords p) 2 (λ i. refl) (p .used)
 
   pub length-words : length (imageWords version (rangeIn words) (rangesIn words) p) ≡ 8 + wordsPerRange * rangesIn words + 2 * p .used
   length-words =
       let w = whole words e in
       let l = length-entries in
-      ap length image-words ∙ (let n = length-append words (each (entryWords p) (p .used)) in omega arith)
+      ap length image-words ∙ (let n = length-append words entries in omega arith)
 
   pub length-image : length (imageOf version (rangeIn words) (rangesIn words) p) ≡ imageEnd (rangesIn words) (p .used)
   unfolding imageOf

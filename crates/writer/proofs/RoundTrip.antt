@@ -118,7 +118,8 @@ module _
         let h = long in
         let x : k < wordsPerRange * n = omega (arith, whole words e) in
         ap (wordAt image) (let y : at ≡ wordBytes * (8 + k) = omega arith in y)
-        ∙ number-at (8 + k) (getD words k 0) (omega arith) (getD-append-add (headerWords version n (p .used)) (words ++ entries) k 0 ∙ List·getD-append words entries 0 k l) (hw k)
+        ∙ number-at (8 + k) (getD words k 0) (omega arith)
+        (getD-append-add (headerWords version n (p .used)) (words ++ entries) k 0 ∙ List·getD-append words entries 0 k l) (hw k)
 
     pub range-back : (i : ℕ) → i < n → rangeAt image i ≡ rangeIn words i
     unfolding rangeAt rangeIn
@@ -132,7 +133,8 @@ module _
 
     -- a number of the entries
     entry-number :
-        (i j at : ℕ) → i < p .used → j < 2 → imageEnd n i + wordBytes * j ≡ at → IsWord (getD (entryWords p i) j 0) → wordAt image at ≡ getD (entryWords p i) j 0
+        (i j at : ℕ) → i < p .used → j < 2 → imageEnd n i + wordBytes * j ≡ at → IsWord (getD (entryWords p i) j 0)
+        → wordAt image at ≡ getD (entryWords p i) j 0
     unfolding numbers entries
     entry-number i j at l m z v =
         let h = long in
@@ -154,11 +156,11 @@ module _
     role-back i l = let c = count-back in entry-number i 1 _ l (omega arith) (omega arith) (hr i)
 
     ranges-good : (i : ℕ) → i < n → GoodRange (rangeAt image) i
-    ranges-good i l = range-same (rangeAt image) (rangeIn words) i (range-back i l) (range-back (i - 1) (omega arith)) (w .ranges i l)
+    ranges-good i l = range-same (range-back i l) (range-back (i - 1) (omega arith)) (w .ranges i l)
 
     entries-good : (i : ℕ) → i < p .used → GoodEntry (pointAt image) (roleAt image) i
     entries-good i l =
-        entry-same (pointAt image) (pointIn p) (roleAt image) (roleIn p) i (point-back i l) (point-back (i - 1) (omega arith)) (role-back i l) (w .entries i l)
+        entry-same (point-back i l) (point-back (i - 1) (omega arith)) (role-back i l) (w .entries i l)
 
     accepted-back : refusalOf image ≡ none
     accepted-back =
@@ -199,7 +201,8 @@ image-same :
 unfolding imageOf imageWords each
 image-same v f g n p q e h =
     let r = each-same (λ (i : ℕ). rangeWords (f i)) (λ (i : ℕ). rangeWords (g i)) n 0 (λ i _ l. ap rangeWords (e i (omega arith))) in
-    let t = each-same (entryWords p) (entryWords q) (p .used) 0 (λ i _ l. let x = h .point i (omega arith) in let y = h .role i (omega arith) in λ d. x d ∷ y d ∷ []) in
+    let t =
+    each-same (entryWords p) (entryWords q) (p .used) 0 (λ i _ l. let x = h .point i (omega arith) in let y = h .role i (omega arith) in λ d. x d ∷ y d ∷ []) in
     let u = t ∙ ap (λ (k : ℕ). eachFrom (entryWords q) k 0) (h .count) in
     ap bytesOfAll (λ d. headerWords v n (h .count d) ++ (r d ++ u d))
 
@@ -255,7 +258,9 @@ module _ (s : List ℕ) (b : AllBytes s) (a : refusalOf s ≡ none) where
   range-bytes =
       let l = size in
       bytes-each s b (λ (i : ℕ). rangeWords (rangeAt s i)) wordsPerRange rangeBytes headerBytes refl
-      (λ j. ap (λ (x : ℕ). wordAt s (entriesAt j) ∷ wordAt s (entriesAt j + 4) ∷ wordAt s x ∷ []) (let z : entriesAt j + 8 ≡ entriesAt j + 4 + 4 = omega arith in z))
+      (λ j.
+      let z : entriesAt j + 8 ≡ entriesAt j + 4 + 4 = omega arith in
+      ap (λ (x : ℕ). wordAt s (entriesAt j) ∷ wordAt s (entriesAt j + 4) ∷ wordAt s x ∷ []) z)
       (rangeCount s) 0 headerBytes (omega arith) (omega arith)
 
   entry-bytes : bytesOfAll (each (entryWords (profileOf s)) (entryCount s)) ≡ take (entryBytes * entryCount s) (drop (entriesAt (rangeCount s)) s)
@@ -327,10 +332,10 @@ module _ (s : List ℕ) (b : AllBytes s) (a : refusalOf s ≡ none) where
               few-entries = k .header .few-entries;
             };
         ranges =
-            λ i l. range-same (rangeIn (rangesOf s)) (rangeAt s) i (range-read s i (omega arith)) (range-read s (i - 1) (omega arith)) (k .ranges i (omega arith));
+            λ i l. range-same (range-read s i (omega arith)) (range-read s (i - 1) (omega arith)) (k .ranges i (omega arith));
         entries =
             λ i l.
-            entry-same (pointIn (profileOf s)) (pointAt s) (roleIn (profileOf s)) (roleAt s) i (e i l .0) (e (i - 1) (omega arith) .0) (e i l .1) (k .entries i l);
+            entry-same (e i l .0) (e (i - 1) (omega arith) .0) (e i l .1) (k .entries i l);
       }
 
   -- and gives the same bytes

@@ -10,9 +10,6 @@ use Rattle.image.proofs.accept.Tie as tie
 word-requires : tie.Need-word-requires
 word-requires c κs = let h = accepted (c .before .args .image .now) (c .before .pre .0) .header in omega arith
 
-cast-m : tie.Need-cast-m
-cast-m c = search needs
-
 mul-read-profile : tie.Need-mul-read-profile
 mul-read-profile c = let h = accepted (c .before .before .args .image .now) (c .before .before .pre .0) .header in omega arith
 
@@ -30,4 +27,4 @@ returns c = simp (c .read-profile .ensures, c .before .before .before .pre .1, c
 pub accept-spec : {M : Type 1} → statement M
 accept-spec =
     tie.close
-    (tie.spec word-requires cast-m mul-read-profile add-read-profile read-profile-requires returns)
+    (tie.spec word-requires (λ c. search needs) mul-read-profile add-read-profile read-profile-requires returns)

@@ -12,43 +12,13 @@ use Rattle.image.proofs.are_offsets_right.Tie as tie
 last-decides : (p q r : Bool) → p ≡ true → q ≡ true → r ≡ (p && (q && r))
 last-decides p q r e f = rw (e, f)
 
-word-requires : tie.Need-word-requires
-word-requires c κs = search needs
-
-cast-if1 : tie.Need-cast-if1
-cast-if1 c = search needs
-
 returns : tie.Need-returns
 returns c = simp (← c .before .word .ensures, ne-eqb _ _ (c .if1 .taken))
-
-mul-entries : tie.Need-mul-entries
-mul-entries c = search needs
-
-add-entries : tie.Need-add-entries
-add-entries c = search needs
-
-word-requires-2 : tie.Need-word-requires-2
-word-requires-2 c κs = search needs
-
-cast-if2 : tie.Need-cast-if2
-cast-if2 c = search needs
 
 returns-2 : tie.Need-returns-2
 returns-2 c =
     let b = c .before .before in
     simp (← b .before .word .ensures, ← c .before .word2 .ensures, eq-eqb _ _ (b .if1 .left), ne-eqb _ _ (c .if2 .taken))
-
-word-requires-3 : tie.Need-word-requires-3
-word-requires-3 c κs = search needs
-
-cast-result : tie.Need-cast-result
-cast-result c = search needs
-
-mul-result : tie.Need-mul-result
-mul-result c = search needs
-
-add-result : tie.Need-add-result
-add-result c = search needs
 
 returns-3 : tie.Need-returns-3
 returns-3 c =
@@ -62,16 +32,16 @@ pub are-offsets-right-spec : {M : Type 1} → statement M
 are-offsets-right-spec =
     tie.close
     (tie.spec
-    word-requires
-    cast-if1
+    (λ c κs. search needs)
+    (λ c. search needs)
     returns
-    mul-entries
-    add-entries
-    word-requires-2
-    cast-if2
+    (λ c. search needs)
+    (λ c. search needs)
+    (λ c κs. search needs)
+    (λ c. search needs)
     returns-2
-    word-requires-3
-    cast-result
-    mul-result
-    add-result
+    (λ c κs. search needs)
+    (λ c. search needs)
+    (λ c. search needs)
+    (λ c. search needs)
     returns-3)

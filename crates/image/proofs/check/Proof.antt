@@ -6,18 +6,6 @@ use borrow.Author.Needs.{needs}
 use Rattle.image.proofs.check.Statement.{statement}
 use Rattle.image.proofs.check.Tie as tie
 
-judge-requires : tie.Need-judge-requires
-judge-requires c κs = search needs
-
-enum-known-a : tie.Need-enum-known-a
-enum-known-a c = search needs
-
-refuse-requires : tie.Need-refuse-requires
-refuse-requires c κs = search needs
-
-enum-known-a-2 : tie.Need-enum-known-a-2
-enum-known-a-2 c = search needs
-
 accept-requires : tie.Need-accept-requires
 accept-requires c κs = accepted-by _ _ (c .before .before .before .judge .ensures) _ _ (c .before .a2 .given .1)
 
@@ -35,10 +23,10 @@ pub check-spec : {M : Type 1} → statement M
 check-spec =
     tie.close
     (tie.spec
-    judge-requires
-    enum-known-a
-    refuse-requires
-    enum-known-a-2
+    (λ c κs. search needs)
+    (λ c. search needs)
+    (λ c κs. search needs)
+    (λ c. search needs)
     accept-requires
     returns
     returns-2)

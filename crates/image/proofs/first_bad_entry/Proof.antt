@@ -19,12 +19,6 @@ loop-holds c = search-begins
 is-good-entry-requires : tie.Need-is-good-entry-requires Inv-loop μ-loop
 is-good-entry-requires c κs = (c .before .before .before .pre .0, omega arith)
 
-add-i : tie.Need-add-i Inv-loop μ-loop
-add-i c = omega arith
-
-loop-less : tie.Need-loop-less Inv-loop μ-loop
-loop-less c = omega arith
-
 loop-again : tie.Need-loop-again Inv-loop μ-loop
 loop-again c =
     let b = c .before .before in
@@ -48,8 +42,8 @@ first-bad-entry-spec =
     μ-loop
     loop-holds
     is-good-entry-requires
-    add-i
-    loop-less
+    (λ c. omega arith)
+    (λ c. omega arith)
     loop-again
     returns
     returns-2)

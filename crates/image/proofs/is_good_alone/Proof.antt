@@ -36,9 +36,6 @@ returns c = simp (lt-leb _ _ (c .if1 .taken))
 returns-2 : tie.Need-returns-2
 returns-2 c = high (c .before .before .before .before .args .r) (c .before .before .if1 .left) (c .if2 .taken)
 
-has-surrogate-requires : tie.Need-has-surrogate-requires
-has-surrogate-requires c κs = search needs
-
 returns-3 : tie.Need-returns-3
 returns-3 c =
     let b = c .before .before in
@@ -61,4 +58,4 @@ returns-5 c =
     (not-false _ (sym (d .before .has-surrogate .ensures) ∙ d .if3 .left)) _ (le-leb _ _ (e .if4 .left))
 
 pub is-good-alone-spec : {M : Type 1} → statement M
-is-good-alone-spec = tie.close (tie.spec returns returns-2 has-surrogate-requires returns-3 returns-4 returns-5)
+is-good-alone-spec = tie.close (tie.spec returns returns-2 (λ c κs. search needs) returns-3 returns-4 returns-5)

@@ -29,36 +29,12 @@ before s base i q e l f =
     let k : base + entryBytes * i - entryBytes ≡ base + entryBytes * (i - 1) = omega arith in
     f ∙ ap (wordAt s) k ∙ point-is s base (i - 1) e
 
-mul-at : tie.Need-mul-at
-mul-at c = search needs
-
-add-at : tie.Need-add-at
-add-at c = search needs
-
-word-requires : tie.Need-word-requires
-word-requires c κs = search needs
-
-add-word : tie.Need-add-word
-add-word c = search needs
-
-word-requires-2 : tie.Need-word-requires-2
-word-requires-2 c κs = search needs
-
-is-good-entry-alone-requires : tie.Need-is-good-entry-alone-requires
-is-good-entry-alone-requires c κs = search needs
-
 returns : tie.Need-returns
 returns c =
     let d = c .before .before in
     let w = d .before .before in
     sym (tests _ _ _ _ _ _ (w .before .before .pre .0) (w .word .ensures) (d .before .word2 .ensures) (d .is-good-entry-alone .ensures)
     ∙ simp (c .before .if1 .taken, eq-eqb _ _ (c .if2 .taken)))
-
-sub-word : tie.Need-sub-word
-sub-word c = search needs
-
-word-requires-3 : tie.Need-word-requires-3
-word-requires-3 c κs = search needs
 
 returns-2 : tie.Need-returns-2
 returns-2 c =
@@ -80,14 +56,14 @@ pub is-good-entry-spec : {M : Type 1} → statement M
 is-good-entry-spec =
     tie.close
     (tie.spec
-    mul-at
-    add-at
-    word-requires
-    add-word
-    word-requires-2
-    is-good-entry-alone-requires
+    (λ c. search needs)
+    (λ c. search needs)
+    (λ c κs. search needs)
+    (λ c. search needs)
+    (λ c κs. search needs)
+    (λ c κs. search needs)
     returns
-    sub-word
-    word-requires-3
+    (λ c. search needs)
+    (λ c κs. search needs)
     returns-2
     returns-3)

@@ -6,9 +6,6 @@ use Rattle.image.specs.Profile.{goodEntryAlone}
 use Rattle.image.proofs.is_good_entry_alone.Statement.{statement}
 use Rattle.image.proofs.is_good_entry_alone.Tie as tie
 
-is-scalar-requires : tie.Need-is-scalar-requires
-is-scalar-requires c κs = search needs
-
 returns : tie.Need-returns
 unfolding goodEntryAlone
 returns c = simp (sym (c .before .before .is-scalar .ensures) ∙ c .before .if1 .taken, lt-leb _ _ (c .if2 .taken))
@@ -22,4 +19,4 @@ unfolding goodEntryAlone
 returns-3 c = simp (sym (c .before .is-scalar .ensures) ∙ c .if1 .left)
 
 pub is-good-entry-alone-spec : {M : Type 1} → statement M
-is-good-entry-alone-spec = tie.close (tie.spec is-scalar-requires returns returns-2 returns-3)
+is-good-entry-alone-spec = tie.close (tie.spec (λ c κs. search needs) returns returns-2 returns-3)

@@ -5,24 +5,11 @@ use borrow.Author.Needs.{needs}
 use Rattle.image.proofs.is_good_range.Statement.{statement}
 use Rattle.image.proofs.is_good_range.Tie as tie
 
-range-at-requires : tie.Need-range-at-requires
-range-at-requires c κs = search needs
-
-is-good-alone-requires : tie.Need-is-good-alone-requires
-is-good-alone-requires c κs = search needs
-
 returns : tie.Need-returns
 unfolding goodRange
-returns c = simp (← c .before .before .before .range-at .ensures, ← c .before .before .is-good-alone .ensures, c .before .if1 .taken, eq-eqb _ _ (c .if2 .taken))
-
-sub-range-at : tie.Need-sub-range-at
-sub-range-at c = search needs
-
-range-at-requires-2 : tie.Need-range-at-requires-2
-range-at-requires-2 c κs = search needs
-
-may-follow-requires : tie.Need-may-follow-requires
-may-follow-requires c κs = search needs
+returns c =
+    let b = c .before .before in
+    simp (← b .before .range-at .ensures, ← b .is-good-alone .ensures, c .before .if1 .taken, eq-eqb _ _ (c .if2 .taken))
 
 returns-2 : tie.Need-returns-2
 unfolding goodRange
@@ -45,11 +32,11 @@ pub is-good-range-spec : {M : Type 1} → statement M
 is-good-range-spec =
     tie.close
     (tie.spec
-    range-at-requires
-    is-good-alone-requires
+    (λ c κs. search needs)
+    (λ c κs. search needs)
     returns
-    sub-range-at
-    range-at-requires-2
-    may-follow-requires
+    (λ c. search needs)
+    (λ c κs. search needs)
+    (λ c κs. search needs)
     returns-2
     returns-3)

@@ -5,25 +5,15 @@ use borrow.Author.Needs.{needs}
 use Rattle.image.proofs.is_header_right.Statement.{statement}
 use Rattle.image.proofs.is_header_right.Tie as tie
 
-word-requires : tie.Need-word-requires
-word-requires c κs = search needs
-
 returns : tie.Need-returns
 unfolding headerRight
 returns c = simp (← c .before .word .ensures, ne-eqb _ _ (c .if1 .taken))
 
-word-requires-2 : tie.Need-word-requires-2
-word-requires-2 c κs = search needs
-
 returns-2 : tie.Need-returns-2
 unfolding headerRight
-returns-2 c = simp (← c .before .before .before .word .ensures, ← c .before .word2 .ensures, eq-eqb _ _ (c .before .before .if1 .left), ne-eqb _ _ (c .if2 .taken))
-
-word-requires-3 : tie.Need-word-requires-3
-word-requires-3 c κs = search needs
-
-cast-n : tie.Need-cast-n
-cast-n c = search needs
+returns-2 c =
+    let f = c .before .before in
+    simp (← f .before .word .ensures, ← c .before .word2 .ensures, eq-eqb _ _ (f .if1 .left), ne-eqb _ _ (c .if2 .taken))
 
 returns-3 : tie.Need-returns-3
 unfolding headerRight
@@ -38,12 +28,6 @@ returns-3 c =
       eq-eqb _ _ (z .if2 .left),
       lt-leb _ _ (c .if3 .taken),
     )
-
-word-requires-4 : tie.Need-word-requires-4
-word-requires-4 c κs = search needs
-
-cast-m : tie.Need-cast-m
-cast-m c = search needs
 
 returns-4 : tie.Need-returns-4
 unfolding headerRight
@@ -61,9 +45,6 @@ returns-4 c =
       le-leb _ _ (n .if3 .left),
       lt-leb _ _ (c .if4 .taken),
     )
-
-are-offsets-right-requires : tie.Need-are-offsets-right-requires
-are-offsets-right-requires c κs = search needs
 
 returns-5 : tie.Need-returns-5
 unfolding headerRight
@@ -88,15 +69,15 @@ pub is-header-right-spec : {M : Type 1} → statement M
 is-header-right-spec =
     tie.close
     (tie.spec
-    word-requires
+    (λ c κs. search needs)
     returns
-    word-requires-2
+    (λ c κs. search needs)
     returns-2
-    word-requires-3
-    cast-n
+    (λ c κs. search needs)
+    (λ c. search needs)
     returns-3
-    word-requires-4
-    cast-m
+    (λ c κs. search needs)
+    (λ c. search needs)
     returns-4
-    are-offsets-right-requires
+    (λ c κs. search needs)
     returns-5)

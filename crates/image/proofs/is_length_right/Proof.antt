@@ -13,15 +13,9 @@ returns-2 : tie.Need-returns-2
 unfolding lengthRight
 returns-2 c = simp (le-leb _ _ (c .before .if1 .left), lt-leb _ _ (c .if2 .taken))
 
-word-requires : tie.Need-word-requires
-word-requires c κs = search needs
-
-cast-result : tie.Need-cast-result
-cast-result c = search needs
-
 returns-3 : tie.Need-returns-3
 unfolding lengthRight
 returns-3 c = simp (le-leb _ _ (c .before .before .if1 .left), le-leb _ _ (c .before .if2 .left), ← c .word .ensures)
 
 pub is-length-right-spec : {M : Type 1} → statement M
-is-length-right-spec = tie.close (tie.spec returns returns-2 word-requires cast-result returns-3)
+is-length-right-spec = tie.close (tie.spec returns returns-2 (λ c κs. search needs) (λ c. search needs) returns-3)

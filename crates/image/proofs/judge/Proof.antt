@@ -5,18 +5,12 @@ use borrow.Author.Needs.{needs}
 use Rattle.image.proofs.judge.Statement.{statement}
 use Rattle.image.proofs.judge.Tie as tie
 
-is-length-right-requires : tie.Need-is-length-right-requires
-is-length-right-requires c κs = search needs
-
 is-header-right-requires : tie.Need-is-header-right-requires
 is-header-right-requires c κs = sized _ (sym (c .before .is-length-right .ensures) ∙ c .if1 .taken) .long
 
 judge-records-requires : tie.Need-judge-records-requires
 judge-records-requires c κs =
     (sym (c .before .before .before .is-length-right .ensures) ∙ c .before .before .if1 .taken, sym (c .before .is-header-right .ensures) ∙ c .if2 .taken)
-
-returns : tie.Need-returns
-returns c = search needs
 
 returns-2 : tie.Need-returns-2
 returns-2 c =
@@ -30,9 +24,9 @@ pub judge-spec : {M : Type 1} → statement M
 judge-spec =
     tie.close
     (tie.spec
-    is-length-right-requires
+    (λ c κs. search needs)
     is-header-right-requires
     judge-records-requires
-    returns
+    (λ c. search needs)
     returns-2
     returns-3)

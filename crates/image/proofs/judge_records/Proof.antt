@@ -22,45 +22,35 @@ right s p = headed s (sized s (p .0)) (p .1)
 
 -- n is the number of ranges, i the index of the first bad one
 module _ (s : List ℕ) (h : Headed s) (n i : ℕ) (en : n ≡ rangeCount s) (ei : i ≡ firstBadRange (rangeAt s) n) where
+  first : i ≡ firstBadRange (rangeAt s) (rangeCount s)
+  first = ei ∙ ap (firstBadRange (rangeAt s)) en
+
   range-bad : i < n → refusalOf s ≡ some (refusal.Range i)
-  range-bad l = past-header s h ∙ range-found _ _ _ _ _ none i (ei ∙ ap (firstBadRange (rangeAt s)) en) (omega arith)
+  range-bad l = past-header s h ∙ range-found _ _ _ _ _ none i first (omega arith)
 
   module _ (none-before : n ≤ i) (m j : ℕ) (em : m ≡ entryCount s) (ej : j ≡ firstBadEntry (pointAt s) (roleAt s) m) where
+    first-entry : j ≡ firstBadEntry (pointAt s) (roleAt s) (entryCount s)
+    first-entry = ej ∙ ap (firstBadEntry (pointAt s) (roleAt s)) em
+
     entry-bad : j < m → refusalOf s ≡ some (refusal.Entry j)
-    entry-bad l =
-        past-header s h
-        ∙ entry-found _ _ _ _ _ none i (ei ∙ ap (firstBadRange (rangeAt s)) en) (omega arith) j (ej ∙ ap (firstBadEntry (pointAt s) (roleAt s)) em) (omega arith)
+    entry-bad l = past-header s h ∙ entry-found _ _ _ _ _ none i first (omega arith) j first-entry (omega arith)
 
     none-bad : m ≤ j → refusalOf s ≡ none
-    none-bad l =
-        past-header s h
-        ∙ none-found _ _ _ _ _ none i (ei ∙ ap (firstBadRange (rangeAt s)) en) (omega arith) j (ej ∙ ap (firstBadEntry (pointAt s) (roleAt s)) em) (omega arith)
+    none-bad l = past-header s h ∙ none-found _ _ _ _ _ none i first (omega arith) j first-entry (omega arith)
 
 word-requires : tie.Need-word-requires
 word-requires c κs = let h = right _ (c .before .pre) in omega arith
-
-cast-n : tie.Need-cast-n
-cast-n c = search needs
 
 first-bad-range-requires : tie.Need-first-bad-range-requires
 first-bad-range-requires c κs = let h = right _ (c .before .before .pre) in omega (arith, c .word .ensures)
 
 returns : tie.Need-returns
 returns c =
-    refuses _ _
-    (range-bad _ (right _ (c .before .before .before .before .pre)) _ _ (c .before .before .word .ensures) (c .before .first-bad-range .ensures) (c .if1 .taken))
+    let b = c .before .before in
+    refuses _ _ (range-bad _ (right _ (b .before .before .pre)) _ _ (b .word .ensures) (c .before .first-bad-range .ensures) (c .if1 .taken))
 
 word-requires-2 : tie.Need-word-requires-2
 word-requires-2 c κs = let h = right _ (c .before .before .before .before .pre) in omega arith
-
-cast-m : tie.Need-cast-m
-cast-m c = search needs
-
-mul-first-bad-entry : tie.Need-mul-first-bad-entry
-mul-first-bad-entry c = search needs
-
-add-first-bad-entry : tie.Need-add-first-bad-entry
-add-first-bad-entry c = search needs
 
 first-bad-entry-requires : tie.Need-first-bad-entry-requires
 first-bad-entry-requires c κs =
@@ -95,13 +85,13 @@ judge-records-spec =
     tie.close
     (tie.spec
     word-requires
-    cast-n
+    (λ c. search needs)
     first-bad-range-requires
     returns
     word-requires-2
-    cast-m
-    mul-first-bad-entry
-    add-first-bad-entry
+    (λ c. search needs)
+    (λ c. search needs)
+    (λ c. search needs)
     first-bad-entry-requires
     returns-2
     word-requires-3

@@ -13,12 +13,9 @@ returns-2 : tie.Need-returns-2
 unfolding follows
 returns-2 c = simp (lt-ltb _ _ (c .before .before .before .if1 .left), ne-eqb _ _ (c .if2 .taken))
 
-add-result : tie.Need-add-result
-add-result c = search needs
-
 returns-3 : tie.Need-returns-3
 unfolding follows
 returns-3 c = simp (lt-ltb _ _ (c .before .before .before .before .before .if1 .left), eq-eqb _ _ (c .before .before .if2 .left))
 
 pub may-follow-spec : {M : Type 1} → statement M
-may-follow-spec = tie.close (tie.spec returns returns-2 add-result returns-3)
+may-follow-spec = tie.close (tie.spec returns returns-2 (λ c. search needs) returns-3)

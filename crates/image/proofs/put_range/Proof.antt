@@ -14,21 +14,12 @@ three (a ∷ []) x y z h = absurd (omega arith)
 three (a ∷ b ∷ []) x y z h = absurd (omega arith)
 three (a ∷ b ∷ c ∷ l) x y z h = refl
 
-slice-write-out : tie.Need-slice-write-out
-slice-write-out c = search needs
-
 slice-write-out-2 : tie.Need-slice-write-out-2
 slice-write-out-2 c = simp length-set (omega arith)
-
-slice-write-out-3 : tie.Need-slice-write-out-3
-slice-write-out-3 c = search needs
-
-same-length : tie.Need-same-length
-same-length c = search needs
 
 returns : tie.Need-returns
 returns c = three (c .args .out .now) (c .args .r .first) (c .args .r .last) (c .args .r .class) (c .pre)
 
 pub put-range-spec : {M : Type 1} → statement M
 put-range-spec =
-    tie.close (tie.spec slice-write-out slice-write-out-2 slice-write-out-3 same-length returns)
+    tie.close (tie.spec (λ c. search needs) slice-write-out-2 (λ c. search needs) (λ c. search needs) returns)

@@ -13,21 +13,6 @@ use borrow.Author.Needs.{needs}
 use Rattle.image.proofs.read.Statement.{statement}
 use Rattle.image.proofs.read.Tie as tie
 
-judge-requires : tie.Need-judge-requires
-judge-requires c κs = search needs
-
-enum-known-a : tie.Need-enum-known-a
-enum-known-a c = search needs
-
-refuse-requires : tie.Need-refuse-requires
-refuse-requires c κs = search needs
-
-enum-known-a-2 : tie.Need-enum-known-a-2
-enum-known-a-2 c = search needs
-
-refuse-requires-2 : tie.Need-refuse-requires-2
-refuse-requires-2 c κs = search needs
-
 returns : tie.Need-returns
 returns c =
     let a = c .before .before .before .before .before .before .before .before .args in
@@ -54,15 +39,13 @@ returns-2 c =
     let w = read-by (a .image .now) (a .out .now) _ (image-refuses _ (a .out .now) _ e) in
     (c .refuse .ensures ∙ sym (w .0), sym (w .1))
 
-same-length : tie.Need-same-length
-same-length c = search needs
-
 returns-3 : tie.Need-returns-3
 returns-3 c =
     let b = c .before .before .before .before .before .before .before in
     let a = b .before .before .before .before .before .args in
     let k = accepted-by (a .image .now) _ (b .before .before .judge .ensures) _ _ (b .a2 .given .1) in
-    let w = read-by (a .image .now) (a .out .now) _ (none-refuses _ (a .out .now) (k .0) (rw (k .2) at (c .before .before .before .before .before .if1 .left))) in (
+    let fits = rw (k .2) at (c .before .before .before .before .before .if1 .left) in
+    let w = read-by (a .image .now) (a .out .now) _ (none-refuses _ (a .out .now) (k .0) fits) in (
       c .accept .ensures ∙ sym (w .0),
       c .before .before .before .write-ranges .ensures
           ∙ ap (λ (n : ℕ). laid (a .out .now) 0 (each (λ (i : ℕ). rangeWords (rangeAt (a .image .now) i)) n)) (k .2)
@@ -73,14 +56,14 @@ pub read-spec : {M : Type 1} → statement M
 read-spec =
     tie.close
     (tie.spec
-    judge-requires
-    enum-known-a
-    refuse-requires
-    enum-known-a-2
-    refuse-requires-2
+    (λ c κs. search needs)
+    (λ c. search needs)
+    (λ c κs. search needs)
+    (λ c. search needs)
+    (λ c κs. search needs)
     returns
     write-ranges-requires
     accept-requires
     returns-2
-    same-length
+    (λ c. search needs)
     returns-3)

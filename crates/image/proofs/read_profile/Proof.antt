@@ -25,39 +25,6 @@ abbrev μ-loop : tie.MeasureT-loop
 loop-holds : tie.Need-loop-holds Inv-loop μ-loop
 loop-holds c = (omega arith, column-none maxEntries (pointAt (c .before .args .image .now)), column-none maxEntries (roleAt (c .before .args .image .now)))
 
-mul-at : tie.Need-mul-at Inv-loop μ-loop
-mul-at c = omega arith
-
-add-at : tie.Need-add-at Inv-loop μ-loop
-add-at c = omega arith
-
-word-requires : tie.Need-word-requires Inv-loop μ-loop
-word-requires c κs = omega arith
-
-mul-points : tie.Need-mul-points Inv-loop μ-loop
-mul-points c = omega arith
-
-array-write-points : tie.Need-array-write-points Inv-loop μ-loop
-array-write-points c = omega arith
-
-add-word : tie.Need-add-word Inv-loop μ-loop
-add-word c = omega arith
-
-word-requires-2 : tie.Need-word-requires-2 Inv-loop μ-loop
-word-requires-2 c κs = omega arith
-
-mul-roles : tie.Need-mul-roles Inv-loop μ-loop
-mul-roles c = omega arith
-
-array-write-roles : tie.Need-array-write-roles Inv-loop μ-loop
-array-write-roles c = omega arith
-
-add-i : tie.Need-add-i Inv-loop μ-loop
-add-i c = omega arith
-
-loop-less : tie.Need-loop-less Inv-loop μ-loop
-loop-less c = omega arith
-
 loop-again : tie.Need-loop-again Inv-loop μ-loop
 loop-again c = let a = c .before .before .before .before .before .args in
     let base-is = c .before .before .before .before .before .pre .0 in
@@ -81,16 +48,16 @@ read-profile-spec =
     Inv-loop
     μ-loop
     loop-holds
-    mul-at
-    add-at
-    word-requires
-    mul-points
-    array-write-points
-    add-word
-    word-requires-2
-    mul-roles
-    array-write-roles
-    add-i
-    loop-less
+    (λ c. omega arith)
+    (λ c. omega arith)
+    (λ c κs. omega arith)
+    (λ c. omega arith)
+    (λ c. omega arith)
+    (λ c. omega arith)
+    (λ c κs. omega arith)
+    (λ c. omega arith)
+    (λ c. omega arith)
+    (λ c. omega arith)
+    (λ c. omega arith)
     loop-again
     returns)

@@ -24,32 +24,8 @@ abbrev μ-loop : tie.MeasureT-loop
 loop-holds : tie.Need-loop-holds Inv-loop μ-loop
 loop-holds c = writing-begins
 
-range-at-requires : tie.Need-range-at-requires Inv-loop μ-loop
-range-at-requires c κs = omega arith
-
-mul-at : tie.Need-mul-at Inv-loop μ-loop
-mul-at c = omega arith
-
-mul-put-range : tie.Need-mul-put-range Inv-loop μ-loop
-mul-put-range c = omega arith
-
-sub-put-range : tie.Need-sub-put-range Inv-loop μ-loop
-sub-put-range c = omega arith
-
-part-put-range-start : tie.Need-part-put-range-start Inv-loop μ-loop
-part-put-range-start c = omega arith
-
-part-put-range-end : tie.Need-part-put-range-end Inv-loop μ-loop
-part-put-range-end c = omega arith
-
 put-range-requires : tie.Need-put-range-requires Inv-loop μ-loop
 put-range-requires c κs = simp (length-take, length-drop) (omega arith)
-
-add-i : tie.Need-add-i Inv-loop μ-loop
-add-i c = omega arith
-
-loop-less : tie.Need-loop-less Inv-loop μ-loop
-loop-less c = omega arith
 
 loop-again : tie.Need-loop-again Inv-loop μ-loop
 loop-again c =
@@ -72,15 +48,15 @@ write-ranges-spec =
     Inv-loop
     μ-loop
     loop-holds
-    range-at-requires
-    mul-at
-    mul-put-range
-    sub-put-range
-    part-put-range-start
-    part-put-range-end
+    (λ c κs. omega arith)
+    (λ c. omega arith)
+    (λ c. omega arith)
+    (λ c. omega arith)
+    (λ c. omega arith)
+    (λ c. omega arith)
     put-range-requires
-    add-i
-    loop-less
+    (λ c. omega arith)
+    (λ c. omega arith)
     loop-again
     same-length
     returns)

@@ -44,12 +44,6 @@ returns c =
     entries-differ _ _ _ _ (c .before .before .loop-test .taken) (l .loop .inv .1)
     (entry-words _ (p .0) (p .1) ∙ sym (c .before .entries-differ .ensures) ∙ c .if1 .taken)
 
-add-i : tie.Need-add-i Inv-loop μ-loop
-add-i c = omega arith
-
-loop-less : tie.Need-loop-less Inv-loop μ-loop
-loop-less c = omega arith
-
 loop-again : tie.Need-loop-again Inv-loop μ-loop
 loop-again c =
     let l = c .before .before .before in
@@ -72,7 +66,7 @@ are-entries-same-spec =
     add-entries-differ-2
     entries-differ-requires
     returns
-    add-i
-    loop-less
+    (λ c. omega arith)
+    (λ c. omega arith)
     loop-again
     returns-2)

@@ -5,15 +5,6 @@ use borrow.Author.Needs.{needs}
 use Rattle.pair.proofs.check_pair.Statement.{statement}
 use Rattle.pair.proofs.check_pair.Tie as tie
 
-check-requires : tie.Need-check-requires
-check-requires c κs = search needs
-
-enum-known-answer : tie.Need-enum-known-answer
-enum-known-answer c = search needs
-
-enum-known-answer-2 : tie.Need-enum-known-answer-2
-enum-known-answer-2 c = search needs
-
 judge-newer-requires : tie.Need-judge-newer-requires
 judge-newer-requires c κs = let t = says _ _ (c .before .before .before .check .ensures) _ (c .before .answer2 .given .1) in (t .0, t .2)
 
@@ -21,16 +12,13 @@ returns : tie.Need-returns
 unfolding pairOf
 returns c = let t = says _ _ (c .before .before .before .check .ensures) _ (c .before .answer .given .1) in simp (t .0)
 
-returns-2 : tie.Need-returns-2
-returns-2 c = search needs
-
 pub check-pair-spec : {M : Type 1} → statement M
 check-pair-spec =
     tie.close
     (tie.spec
-    check-requires
-    enum-known-answer
-    enum-known-answer-2
+    (λ c κs. search needs)
+    (λ c. search needs)
+    (λ c. search needs)
     judge-newer-requires
     returns
-    returns-2)
+    (λ c. search needs))

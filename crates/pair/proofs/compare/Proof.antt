@@ -6,15 +6,6 @@ use borrow.Author.Needs.{needs}
 use Rattle.pair.proofs.compare.Statement.{statement}
 use Rattle.pair.proofs.compare.Tie as tie
 
-has-same-profile-requires : tie.Need-has-same-profile-requires
-has-same-profile-requires c κs = search needs
-
-first-forbidden-requires : tie.Need-first-forbidden-requires
-first-forbidden-requires c κs = search needs
-
-cast-t8 : tie.Need-cast-t8
-cast-t8 c = search needs
-
 returns : tie.Need-returns
 unfolding comparedOf
 returns c =
@@ -35,9 +26,9 @@ pub compare-spec : {M : Type 1} → statement M
 compare-spec =
     tie.close
     (tie.spec
-    has-same-profile-requires
-    first-forbidden-requires
-    cast-t8
+    (λ c κs. search needs)
+    (λ c κs. search needs)
+    (λ c. search needs)
     returns
     returns-2
     returns-3)

@@ -23,9 +23,6 @@ loop-holds c =
 walk-step-requires : tie.Need-walk-step-requires Inv-loop μ-loop
 walk-step-requires c κs = (c .before .loop .inv .older-at, (c .before .loop .inv .newer-at, omega arith))
 
-is-permitted-requires : tie.Need-is-permitted-requires Inv-loop μ-loop
-is-permitted-requires c κs = search needs
-
 add-x : tie.Need-add-x Inv-loop μ-loop
 add-x c = let t = c .before .before .before .walk-step .ensures .to in omega arith
 
@@ -37,7 +34,8 @@ loop-again c =
     let w = c .before .before .before in
     let l = w .before .before in
     let p = l .before .before .before .pre in
-    clear-next (p .older-ranges) (p .newer-ranges) (l .loop .inv) (w .walk-step .ensures) (sym (c .before .before .is-permitted .ensures) ∙ c .before .if1 .taken)
+    clear-next (p .older-ranges) (p .newer-ranges) (l .loop .inv) (w .walk-step .ensures)
+    (sym (c .before .before .is-permitted .ensures) ∙ c .before .if1 .taken)
 
 returns : tie.Need-returns Inv-loop μ-loop
 returns c =
@@ -57,7 +55,7 @@ first-forbidden-spec =
     μ-loop
     loop-holds
     walk-step-requires
-    is-permitted-requires
+    (λ c κs. search needs)
     add-x
     loop-less
     loop-again

@@ -6,15 +6,6 @@ use borrow.Author.Needs.{needs}
 use Rattle.pair.proofs.judge_newer.Statement.{statement}
 use Rattle.pair.proofs.judge_newer.Tie as tie
 
-check-requires : tie.Need-check-requires
-check-requires c κs = search needs
-
-enum-known-answer : tie.Need-enum-known-answer
-enum-known-answer c = search needs
-
-enum-known-answer-2 : tie.Need-enum-known-answer-2
-enum-known-answer-2 c = search needs
-
 compare-requires : tie.Need-compare-requires
 compare-requires c κs =
     let b = c .before .before .before in
@@ -38,9 +29,9 @@ pub judge-newer-spec : {M : Type 1} → statement M
 judge-newer-spec =
     tie.close
     (tie.spec
-    check-requires
-    enum-known-answer
-    enum-known-answer-2
+    (λ c κs. search needs)
+    (λ c. search needs)
+    (λ c. search needs)
     compare-requires
     returns
     returns-2)

@@ -11,17 +11,11 @@ returns c = ends-ahead (c .before .before .pre .0) (c .before .before .pre .1) (
 range-at-requires : tie.Need-range-at-requires
 range-at-requires c κs = let w = c .before .before .pre .0 .room in omega arith
 
-sub-t7 : tie.Need-sub-t7
-sub-t7 c = search needs
-
 returns-2 : tie.Need-returns-2
 returns-2 c =
     let b = c .before .before .before in
     let p = b .before .before .before .pre in
     gap-ahead (p .0) (p .1) (b .before .if1 .left) (b .range-at .ensures) (c .before .if2 .taken)
-
-add-t8 : tie.Need-add-t8
-add-t8 c = search needs
 
 returns-3 : tie.Need-returns-3
 returns-3 c =
@@ -30,4 +24,4 @@ returns-3 c =
     range-ahead (p .0) (p .1) (b .before .if1 .left) (b .range-at .ensures) (c .if2 .left)
 
 pub look-ahead-spec : {M : Type 1} → statement M
-look-ahead-spec = tie.close (tie.spec returns range-at-requires sub-t7 returns-2 add-t8 returns-3)
+look-ahead-spec = tie.close (tie.spec returns range-at-requires (λ c. search needs) returns-2 (λ c. search needs) returns-3)

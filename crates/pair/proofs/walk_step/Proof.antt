@@ -6,18 +6,6 @@ use Rattle.pair.proofs.WalkLaws.{both-ahead}
 use Rattle.pair.proofs.walk_step.Statement.{statement}
 use Rattle.pair.proofs.walk_step.Tie as tie
 
-look-ahead-requires : tie.Need-look-ahead-requires
-look-ahead-requires c κs = search needs
-
-look-ahead-requires-2 : tie.Need-look-ahead-requires-2
-look-ahead-requires-2 c κs = search needs
-
-place-after-requires : tie.Need-place-after-requires
-place-after-requires c κs = search needs
-
-place-after-requires-2 : tie.Need-place-after-requires-2
-place-after-requires-2 c κs = search needs
-
 returns : tie.Need-returns
 returns c =
     let f = c .before .before .before .before .before .look-ahead .ensures in
@@ -32,8 +20,8 @@ pub walk-step-spec : {M : Type 1} → statement M
 walk-step-spec =
     tie.close
     (tie.spec
-    look-ahead-requires
-    look-ahead-requires-2
-    place-after-requires
-    place-after-requires-2
+    (λ c κs. search needs)
+    (λ c κs. search needs)
+    (λ c κs. search needs)
+    (λ c κs. search needs)
     returns)

@@ -5,33 +5,9 @@ use borrow.Author.Needs.{needs}
 use Rattle.writer.proofs.is_good_entry.Statement.{statement}
 use Rattle.writer.proofs.is_good_entry.Tie as tie
 
-mul-point : tie.Need-mul-point
-mul-point c = search needs
-
-element-copy-out-point : tie.Need-element-copy-out-point
-element-copy-out-point c = search needs
-
-mul-is-good-entry-alone : tie.Need-mul-is-good-entry-alone
-mul-is-good-entry-alone c = search needs
-
-element-copy-out-is-good-entry-alone : tie.Need-element-copy-out-is-good-entry-alone
-element-copy-out-is-good-entry-alone c = search needs
-
-is-good-entry-alone-requires : tie.Need-is-good-entry-alone-requires
-is-good-entry-alone-requires c κs = search needs
-
 returns : tie.Need-returns
 unfolding goodEntry
 returns c = simp (← c .before .before .is-good-entry-alone .ensures, c .before .if1 .taken, eq-eqb _ _ (c .if2 .taken))
-
-sub-result : tie.Need-sub-result
-sub-result c = search needs
-
-mul-result : tie.Need-mul-result
-mul-result c = search needs
-
-element-copy-out-result : tie.Need-element-copy-out-result
-element-copy-out-result c = search needs
 
 returns-2 : tie.Need-returns-2
 unfolding goodEntry
@@ -45,14 +21,14 @@ pub is-good-entry-spec : {M : Type 1} → statement M
 is-good-entry-spec =
     tie.close
     (tie.spec
-    mul-point
-    element-copy-out-point
-    mul-is-good-entry-alone
-    element-copy-out-is-good-entry-alone
-    is-good-entry-alone-requires
+    (λ c. search needs)
+    (λ c. search needs)
+    (λ c. search needs)
+    (λ c. search needs)
+    (λ c κs. search needs)
     returns
-    sub-result
-    mul-result
-    element-copy-out-result
+    (λ c. search needs)
+    (λ c. search needs)
+    (λ c. search needs)
     returns-2
     returns-3)

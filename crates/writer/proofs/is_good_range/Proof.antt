@@ -5,31 +5,24 @@ use borrow.Author.Needs.{needs}
 use Rattle.writer.proofs.is_good_range.Statement.{statement}
 use Rattle.writer.proofs.is_good_range.Tie as tie
 
-range-in-requires : tie.Need-range-in-requires
-range-in-requires c κs = search needs
-
-is-good-alone-requires : tie.Need-is-good-alone-requires
-is-good-alone-requires c κs = search needs
-
 returns : tie.Need-returns
 unfolding goodRange
-returns c = simp (← c .before .before .before .range-in .ensures, ← c .before .before .is-good-alone .ensures, c .before .if1 .taken, eq-eqb _ _ (c .if2 .taken))
-
-sub-range-in : tie.Need-sub-range-in
-sub-range-in c = search needs
-
-range-in-requires-2 : tie.Need-range-in-requires-2
-range-in-requires-2 c κs = search needs
-
-may-follow-requires : tie.Need-may-follow-requires
-may-follow-requires c κs = search needs
+returns c =
+    let b = c .before .before in
+    simp (← b .before .range-in .ensures, ← b .is-good-alone .ensures, c .before .if1 .taken, eq-eqb _ _ (c .if2 .taken))
 
 returns-2 : tie.Need-returns-2
 unfolding goodRange
 returns-2 c =
-    let r = c .before .before .before .before .before in
-    let a = c .before .before .before .before in
-    simp (c .may-follow .ensures, ← r .range-in .ensures, ← c .before .range-in2 .ensures, ← a .is-good-alone .ensures, c .before .before .before .if1 .taken, ne-eqb _ _ (c .before .before .if2 .left))
+    let b = c .before .before .before in
+    simp (
+      c .may-follow .ensures,
+      ← b .before .before .range-in .ensures,
+      ← c .before .range-in2 .ensures,
+      ← b .before .is-good-alone .ensures,
+      b .if1 .taken,
+      ne-eqb _ _ (c .before .before .if2 .left),
+    )
 
 returns-3 : tie.Need-returns-3
 unfolding goodRange
@@ -39,11 +32,11 @@ pub is-good-range-spec : {M : Type 1} → statement M
 is-good-range-spec =
     tie.close
     (tie.spec
-    range-in-requires
-    is-good-alone-requires
+    (λ c κs. search needs)
+    (λ c κs. search needs)
     returns
-    sub-range-in
-    range-in-requires-2
-    may-follow-requires
+    (λ c. search needs)
+    (λ c κs. search needs)
+    (λ c κs. search needs)
     returns-2
     returns-3)

@@ -18,36 +18,32 @@ returns-3 : tie.Need-returns-3
 unfolding writeOf writeRefusal recordsRefusal
 returns-3 c = simp (eq-eqb _ _ (c .before .before .if1 .left), le-leb _ _ (c .before .if2 .left), lt-leb _ _ (c .if3 .taken))
 
-first-bad-range-requires : tie.Need-first-bad-range-requires
-first-bad-range-requires c κs = search needs
-
 returns-4 : tie.Need-returns-4
 unfolding writeOf writeRefusal recordsRefusal
 returns-4 c =
     let a = c .before .before in
-    simp (eq-eqb _ _ (a .before .before .if1 .left), le-leb _ _ (a .before .if2 .left), le-leb _ _ (a .if3 .left), ← c .before .first-bad-range .ensures, lt-ltb _ _ (c .if4 .taken))
-
-first-bad-entry-requires : tie.Need-first-bad-entry-requires
-first-bad-entry-requires c κs = search needs
+    simp (
+      eq-eqb _ _ (a .before .before .if1 .left),
+      le-leb _ _ (a .before .if2 .left),
+      le-leb _ _ (a .if3 .left),
+      ← c .before .first-bad-range .ensures,
+      lt-ltb _ _ (c .if4 .taken),
+    )
 
 returns-5 : tie.Need-returns-5
 unfolding writeOf writeRefusal recordsRefusal
 returns-5 c =
     let b = c .before .before in
     let a = b .before .before in
-    simp (eq-eqb _ _ (a .before .before .if1 .left), le-leb _ _ (a .before .if2 .left), le-leb _ _ (a .if3 .left), ← b .before .first-bad-range .ensures, le-ltb _ _ (b .if4 .left), ← c .before .first-bad-entry .ensures, lt-ltb _ _ (c .if5 .taken))
-
-mul-len : tie.Need-mul-len
-mul-len c = search needs
-
-add-len : tie.Need-add-len
-add-len c = search needs
-
-mul-len-2 : tie.Need-mul-len-2
-mul-len-2 c = search needs
-
-add-len-2 : tie.Need-add-len-2
-add-len-2 c = search needs
+    simp (
+      eq-eqb _ _ (a .before .before .if1 .left),
+      le-leb _ _ (a .before .if2 .left),
+      le-leb _ _ (a .if3 .left),
+      ← b .before .first-bad-range .ensures,
+      le-ltb _ _ (b .if4 .left),
+      ← c .before .first-bad-entry .ensures,
+      lt-ltb _ _ (c .if5 .taken),
+    )
 
 returns-6 : tie.Need-returns-6
 unfolding writeOf writeRefusal recordsRefusal
@@ -55,7 +51,16 @@ returns-6 c =
     let d = c .before in
     let b = d .before .before in
     let a = b .before .before in
-    simp (eq-eqb _ _ (a .before .before .if1 .left), le-leb _ _ (a .before .if2 .left), le-leb _ _ (a .if3 .left), ← b .before .first-bad-range .ensures, le-ltb _ _ (b .if4 .left), ← d .before .first-bad-entry .ensures, le-ltb _ _ (d .if5 .left), lt-leb _ _ (c .if6 .taken))
+    simp (
+      eq-eqb _ _ (a .before .before .if1 .left),
+      le-leb _ _ (a .before .if2 .left),
+      le-leb _ _ (a .if3 .left),
+      ← b .before .first-bad-range .ensures,
+      le-ltb _ _ (b .if4 .left),
+      ← d .before .first-bad-entry .ensures,
+      le-ltb _ _ (d .if5 .left),
+      lt-leb _ _ (c .if6 .taken),
+    )
 
 returns-7 : tie.Need-returns-7
 unfolding writeOf writeRefusal recordsRefusal
@@ -63,7 +68,16 @@ returns-7 c =
     let d = c .before in
     let b = d .before .before in
     let a = b .before .before in
-    simp (eq-eqb _ _ (a .before .before .if1 .left), le-leb _ _ (a .before .if2 .left), le-leb _ _ (a .if3 .left), ← b .before .first-bad-range .ensures, le-ltb _ _ (b .if4 .left), ← d .before .first-bad-entry .ensures, le-ltb _ _ (d .if5 .left), le-leb _ _ (c .if6 .left))
+    simp (
+      eq-eqb _ _ (a .before .before .if1 .left),
+      le-leb _ _ (a .before .if2 .left),
+      le-leb _ _ (a .if3 .left),
+      ← b .before .first-bad-range .ensures,
+      le-ltb _ _ (b .if4 .left),
+      ← d .before .first-bad-entry .ensures,
+      le-ltb _ _ (d .if5 .left),
+      le-leb _ _ (c .if6 .left),
+    )
 
 pub judge-spec : {M : Type 1} → statement M
 judge-spec =
@@ -72,13 +86,13 @@ judge-spec =
     returns
     returns-2
     returns-3
-    first-bad-range-requires
+    (λ c κs. search needs)
     returns-4
-    first-bad-entry-requires
-    mul-len
-    add-len
-    mul-len-2
-    add-len-2
+    (λ c κs. search needs)
+    (λ c. search needs)
+    (λ c. search needs)
+    (λ c. search needs)
+    (λ c. search needs)
     returns-5
     returns-6
     returns-7)

@@ -6,15 +6,6 @@ use borrow.Author.Needs.{needs}
 use Rattle.writer.proofs.write.Statement.{statement}
 use Rattle.writer.proofs.write.Tie as tie
 
-judge-requires : tie.Need-judge-requires
-judge-requires c κs = search needs
-
-enum-known-answer : tie.Need-enum-known-answer
-enum-known-answer c = search needs
-
-enum-known-answer-2 : tie.Need-enum-known-answer-2
-enum-known-answer-2 c = search needs
-
 put-image-requires : tie.Need-put-image-requires
 put-image-requires c κs =
     let d = c .before .before .before .before .before in
@@ -29,9 +20,6 @@ returns c =
     let e = sym (c .before .before .before .judge .ensures) ∙ c .before .answer .given .1 in
     (sym e, sym (write-kept (a .version) (a .words .now) (a .t3) (a .out .now) _ e))
 
-same-length : tie.Need-same-length
-same-length c = search needs
-
 returns-2 : tie.Need-returns-2
 returns-2 c =
     let d = c .before .before .before .before .before .before .before .before in
@@ -44,10 +32,10 @@ pub write-spec : {M : Type 1} → statement M
 write-spec =
     tie.close
     (tie.spec
-    judge-requires
-    enum-known-answer
-    enum-known-answer-2
+    (λ c κs. search needs)
+    (λ c. search needs)
+    (λ c. search needs)
     put-image-requires
     returns
-    same-length
+    (λ c. search needs)
     returns-2)
