@@ -7,35 +7,7 @@ use Prim.Native.Nat.{ℕ, _+_, _≤_}
 use native.Mathlib.Omega.{arith}
 use lib.ListN.{length}
 use Rattle.grammar.specs.Scan.{Tok, Reading, Rules, grown, opened, stopped, walk, reading}
-use Rattle.grammar.specs.Step.{
-  Local,
-  State,
-  idle,
-  under,
-  held,
-  Move,
-  moves,
-  stops,
-  tok,
-  underWay,
-  after,
-  preceded,
-  tokensLeft,
-  follow,
-  goesFirst,
-  moreBy,
-  rulesBy,
-  begin,
-  complete,
-  continue,
-  resume,
-  step,
-  run,
-  settle,
-  ended,
-  finish,
-  closed,
-}
+use Rattle.grammar.specs.Step.{Local, State, idle, under, held, Move, moves, stops, tok, underWay, after, preceded, tokensLeft, follow, goesFirst, moreBy, rulesBy, begin, complete, continue, resume, step, run, settle, ended, finish, closed}
 use Rattle.grammar.proofs.ScanLaws.{walk-nil, walk-more, walk-stop, walk-open, walk-ends, run-none}
 
 module _ {A K : Type 0} where

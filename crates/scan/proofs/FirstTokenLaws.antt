@@ -5,12 +5,13 @@ use mathlib.Core.List.{List, [], _∷_, _++_}
 use mathlib.Core.Option.{Option, none, some}
 use native.Mathlib.Nat.{zero-add, add-zero}
 use native.Mathlib.Omega.{arith}
-use lib.ListN.{length, drop}
+use lib.ListN.{length, drop, drop-of-length-le}
 use Rattle.lists.proofs.BoolLaws.{impossible}
 use Rattle.utf8.specs.declared.Step.{Step}
 use Rattle.utf8.specs.declared.Step.the-variants as utf8-step
 use Rattle.utf8.specs.Head.{stepOf}
 use Rattle.utf8.specs.Text.{Character, decode, widthOf}
+use Rattle.utf8.proofs.SequenceLaws.{step-empty}
 use Rattle.utf8.proofs.TextLaws.{decode-ill, decode-end}
 use Rattle.grammar.specs.Scan.{Tok, walk}
 use Rattle.grammar.specs.Step.{idle, under, held, Move, moves, stops, tok, underWay, preceded, settle, finish}
@@ -66,11 +67,9 @@ module _ (s text : List ℕ) where
     complete (under k u) i rest e h =
         let w : at ≡ widthOf u = omega (arith, i .1) in
         sym (first-by state mid at _ (phase-of s state 0 mid at (under k u) i)) ∙ ap (Token (kindNumber k)) w ∙ by-front (tok k u) rest e
-    complete (held identifier u d) i rest e h =
+    complete (held k u d) i rest e h =
         let w : mid ≡ widthOf u = omega (arith, i .1) in
-        sym (first-by state mid at _ (phase-of s state 0 mid at (held identifier u d) i)) ∙ ap (Token (kindNumber identifier)) w ∙ by-front (tok identifier u) rest e
-    complete (held syntax u d) i rest e h = absurd i
-    complete (held whitespace u d) i rest e h = absurd i
+        sym (first-by state mid at _ (phase-of s state 0 mid at (held k u d) i)) ∙ (λ j. Token (kindNumber (sym (i .3) j)) (w j)) ∙ by-front (tok k u) rest e
 
 module _ {s text : List ℕ} {state mid at : ℕ} (i : Searching s text state mid at) where
   pub searching-less : state < states
@@ -81,12 +80,8 @@ module _ {s text : List ℕ} {state mid at : ℕ} (i : Searching s text state mi
   first-ill e z = let f : stepOf text ≡ utf8-step.IllFormed = rw z at e in rw f
 
   pub first-nothing : length text ≤ at → at ≡ 0 → Nothing ≡ firstOf s text
-  unfolding firstOf stepOf
-  first-nothing h z = go text (omega arith)
-    where
-      go : (u : List ℕ) → length u ≤ 0 → Nothing ≡ firstBy (tokensOf s text) (stepOf u)
-      go [] l = refl
-      go (b ∷ u) l = absurd (omega arith)
+  unfolding firstOf
+  first-nothing h z = let e : stepOf text ≡ utf8-step.End = ap stepOf (drop-of-length-le text {i = 0} (omega arith)) ∙ step-empty in rw e
 
   -- nothing follows
   pub first-last : NoCharacter text at → (at ≡ 0 → ⊥) → pendingFirst state mid at ≡ firstOf s text

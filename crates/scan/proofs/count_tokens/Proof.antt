@@ -9,22 +9,7 @@ use Rattle.character.specs.Read.{MemoOf}
 use Rattle.scan.specs.declared.Counted.the-variants.{Refused, Tokens}
 use Rattle.scan.specs.Turns.{waiting}
 use Rattle.scan.proofs.ReachLaws.{Here, here, here-small, Look}
-use Rattle.scan.proofs.CountLaws.{
-  Counting,
-  counting-begins,
-  counting-few,
-  counting-less,
-  counts-ill,
-  counting-settles,
-  counts-left,
-  settles-end,
-  pending-few,
-  counts-end,
-  counting-turn,
-  counting-waits,
-  waits-here,
-  counts-stop,
-}
+use Rattle.scan.proofs.CountLaws.{Counting, counting-begins, counting-few, counting-less, counts-ill, counting-settles, counts-left, settles-end, pending-few, counts-end, counting-turn, counting-waits, waits-here, counts-stop}
 use Rattle.scan.proofs.count_tokens.Statement.{statement}
 use Rattle.scan.proofs.count_tokens.Tie as tie
 

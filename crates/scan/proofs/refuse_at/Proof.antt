@@ -8,7 +8,7 @@ use Rattle.lists.proofs.LaidLaws.{rest}
 use Rattle.utf8.specs.declared.Text.{Text}
 use Rattle.utf8.specs.Text.{textOf}
 use Rattle.scan.specs.Counted.{stopRefusal}
-use Rattle.scan.proofs.CountLaws.{ill-within}
+use Rattle.utf8.proofs.TextLaws.{ill-within}
 use Rattle.scan.proofs.refuse_at.Statement.{statement}
 use Rattle.scan.proofs.refuse_at.Tie as tie
 

@@ -9,25 +9,7 @@ use Rattle.character.specs.Read.{MemoOf}
 use Rattle.grammar.specs.Record.{recordSize}
 use Rattle.scan.specs.Turns.{waiting}
 use Rattle.scan.proofs.ReachLaws.{Here, here, here-small, Look, at-ill, at-end}
-use Rattle.scan.proofs.WriteLaws.{
-  Writing,
-  Due,
-  writing-begins,
-  due-bounds,
-  due-fits,
-  due-room,
-  due-part,
-  due-put,
-  writing-less,
-  due-settles,
-  writes-left,
-  last-fits,
-  writes-last,
-  due-turn,
-  writing-waits,
-  waits-here,
-  writes-stop,
-}
+use Rattle.scan.proofs.WriteLaws.{Writing, Due, writing-begins, due-bounds, due-fits, due-room, due-part, due-put, writing-less, due-settles, writes-left, last-fits, writes-last, due-turn, writing-waits, waits-here, writes-stop}
 use Rattle.scan.proofs.write_tokens.Statement.{statement}
 use Rattle.scan.proofs.write_tokens.Tie as tie
 
