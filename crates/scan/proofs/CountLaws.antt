@@ -1,5 +1,5 @@
 -- Counting by turns: the count is that of the tokens that are complete. Assumes nothing.
-use Prim.Native.Nat.{ℕ, zero, suc, _+_, _-_, _≤_, _<_}
+use Prim.Native.Nat.{ℕ, _+_, _-_, _≤_, _<_}
 use mathlib.Core.Path.{_≡_, refl, sym, ap, subst, _∙_}
 use mathlib.Core.List.{List, [], _∷_, _++_}
 use mathlib.Core.Option.{Option, none, some}
@@ -14,7 +14,7 @@ use Rattle.utf8.specs.Head.{stepOf}
 use Rattle.utf8.specs.Text.{Character, textOf}
 use Rattle.utf8.proofs.TextLaws.{shift, ill-here, end-here}
 use Rattle.grammar.specs.Step.{idle, under, held, underWay, preceded, tokensLeft, settle, finish}
-use Rattle.grammar.specs.Grammar.{Kind, identifier, syntax, whitespace}
+use Rattle.grammar.specs.Grammar.{Kind}
 use Rattle.grammar.specs.Kinds.{kindOf}
 use Rattle.grammar.specs.Record.{tokensWidth}
 use Rattle.grammar.specs.Reading.{meaningOf, readingOf, tokensOf, formRefusalBy, judged}
@@ -22,7 +22,7 @@ use Rattle.grammar.proofs.RecordLaws.{tokens-append}
 use Rattle.grammar.proofs.FewLaws.{few-tokens}
 use Rattle.grammar.proofs.StepLaws.{Settles}
 use Rattle.scan.specs.declared.Counted.the-variants.{Refused, Tokens as Counted}
-use Rattle.scan.specs.Turns.{numberBy, waiting, states, kindFor, turnOf, afterOf, pendingOf}
+use Rattle.scan.specs.Turns.{numberBy, waiting, states, kindFor, afterOf, pendingOf}
 use Rattle.scan.specs.Counted.{countedBy, readThrough, countThrough, stopRefusal}
 use Rattle.scan.proofs.TurnLaws.{Tokens, Under, L, Stands, pending-by, phase-of, stands-less, doneBy, left}
 use Rattle.scan.proofs.ReachLaws.{charactersAt, Place, Look, at-end, Reached, reached-begins, After, complete-few, after-settling, left-settled, settles-none, read-end, after-turn, after-waiting, settles-here, left-here}

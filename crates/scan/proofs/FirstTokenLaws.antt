@@ -2,8 +2,7 @@
 use Prim.Native.Nat.{ℕ, zero, suc, _+_, _≤_, _<_}
 use mathlib.Core.Path.{_≡_, refl, sym, ap, subst, _∙_}
 use mathlib.Core.List.{List, [], _∷_, _++_}
-use mathlib.Core.Option.{Option, none, some}
-use native.Mathlib.Nat.{zero-add, add-zero}
+use mathlib.Core.Option.{none}
 use native.Mathlib.Omega.{arith}
 use lib.ListN.{length, drop, drop-of-length-le}
 use Rattle.lists.proofs.BoolLaws.{impossible}
@@ -14,18 +13,17 @@ use Rattle.utf8.specs.Text.{Character, decode, widthOf}
 use Rattle.utf8.proofs.SequenceLaws.{step-empty}
 use Rattle.utf8.proofs.TextLaws.{decode-ill, decode-end}
 use Rattle.grammar.specs.Scan.{Tok, walk}
-use Rattle.grammar.specs.Step.{idle, under, held, Move, moves, stops, tok, underWay, preceded, settle, finish}
-use Rattle.grammar.specs.Grammar.{Kind, identifier, syntax, whitespace}
-use Rattle.grammar.specs.Kinds.{kindNumber, kindOf}
-use Rattle.grammar.specs.Reading.{rulesOf, meaningOf, readingOf, tokensOf}
+use Rattle.grammar.specs.Step.{idle, under, held, tok, underWay, finish}
+use Rattle.grammar.specs.Grammar.{Kind}
+use Rattle.grammar.specs.Kinds.{kindNumber}
+use Rattle.grammar.specs.Reading.{rulesOf, readingOf, tokensOf}
 use Rattle.grammar.proofs.ScanLaws.{walk-nil}
 use Rattle.grammar.proofs.StepLaws.{readFrom, Settles, settles-first, finish-begins}
-use Rattle.scan.specs.declared.First.{First}
-use Rattle.scan.specs.declared.First.the-variants.{Nothing, IllFormed, NoToken, Token}
-use Rattle.scan.specs.Turns.{Phase, phaseNamed, waiting, states, kindFor, turnOf, afterOf}
+use Rattle.scan.specs.declared.First.the-variants.{Nothing, IllFormed, Token}
+use Rattle.scan.specs.Turns.{Phase, phaseNamed, waiting, states, kindFor, afterOf}
 use Rattle.scan.specs.First.{firstIn, firstBy, firstOf, pendingBy, pendingFirst}
 use Rattle.scan.proofs.TurnLaws.{Tokens, Under, L, Stands, kind-less, phase-of, stands-less}
-use Rattle.scan.proofs.ReachLaws.{charactersAt, Look, NoCharacter, Reached, reached-begins, tokens-come, read-end, read-settled, after-turn, after-waiting, settles-here, left-here}
+use Rattle.scan.proofs.ReachLaws.{charactersAt, Look, NoCharacter, Reached, reached-begins, tokens-come, read-end, after-turn, after-waiting, settles-here, left-here}
 
 pub first-by : (n mid at : ℕ) (p : Phase) → phaseNamed n ≡ p → pendingBy p mid at ≡ pendingFirst n mid at
 unfolding pendingFirst

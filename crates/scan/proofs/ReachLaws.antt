@@ -2,8 +2,7 @@
 -- Assumes nothing.
 use Prim.Native.Nat.{ℕ, zero, suc, _+_, _-_, _≤_, _<_}
 use mathlib.Core.Path.{_≡_, refl, sym, ap, subst, _∙_}
-use mathlib.Core.Bool.{false}
-use mathlib.Core.List.{List, [], _∷_, _++_, append-nil}
+use mathlib.Core.List.{List, [], _∷_, _++_}
 use mathlib.Core.Option.{none}
 use native.Mathlib.Omega.{arith}
 use lib.ListN.{length, drop, length-append, drop-of-length-le}
@@ -17,9 +16,7 @@ use Rattle.character.specs.Traits.{traitsOf}
 use Rattle.character.specs.Read.{ReadAs}
 use Rattle.character.proofs.CharacterLaws.{traits-small}
 use Rattle.character.specs.declared.Character.{Character as Read}
-use Rattle.grammar.specs.Scan.{Tok, Reading}
-use Rattle.grammar.specs.Step.{idle, under, held, moves, stops, underWay, preceded, tokensLeft, step, settle, finish}
-use Rattle.grammar.specs.Grammar.{Kind, identifier, syntax, whitespace}
+use Rattle.grammar.specs.Step.{idle, under, held, moves, underWay, preceded, tokensLeft, step, settle, finish}
 use Rattle.grammar.specs.Record.{tokensWidth}
 use Rattle.grammar.specs.Reading.{readingOf, tokensOf}
 use Rattle.grammar.proofs.RecordLaws.{tokens-append}
@@ -27,7 +24,7 @@ use Rattle.grammar.proofs.FewLaws.{few-tokens}
 use Rattle.grammar.proofs.StepLaws.{preceded-append, readFrom, meant, read-step, Settles, read-settles, read-finish}
 use Rattle.scan.specs.Turns.{waiting, kindFor, turnOf, afterOf}
 use Rattle.scan.specs.Words.{startBy}
-use Rattle.scan.proofs.TurnLaws.{Tokens, Under, L, Stands, doneBy, Going, Moved, Turned, turned, Settled, settled, Left, left}
+use Rattle.scan.proofs.TurnLaws.{Tokens, Under, L, Stands, doneBy, Going, Moved, Turned, turned, settled, Left, left}
 
 -- the characters from a place on
 abbrev pub charactersAt : List ℕ → ℕ → List Character

@@ -14,7 +14,7 @@ use Rattle.image.specs.Check.{refusalOf}
 use Rattle.character.specs.Traits.{traitsOf}
 use Rattle.character.proofs.TraitLaws.{traits-class, traits-medial}
 use Rattle.grammar.specs.Scan.{Tok}
-use Rattle.grammar.specs.Step.{Local, State, idle, under, held, Move, moves, stops, underWay, begin, complete, continue, step, settle, ended, finish}
+use Rattle.grammar.specs.Step.{Local, State, idle, under, held, moves, stops, underWay, begin, step, settle}
 use Rattle.grammar.specs.Meaning.{Meaning}
 use Rattle.grammar.specs.Grammar.{Kind, identifier, syntax, whitespace}
 use Rattle.grammar.specs.Kinds.{kindNumber, isContinue, isWhite, kindOfClass, kindOf, goesWith, linksWith, localRules}

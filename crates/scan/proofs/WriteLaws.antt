@@ -3,7 +3,6 @@ use Prim.Native.Nat.{ℕ, zero, suc, _+_, _-_, _*_, _≤_, _<_}
 use mathlib.Core.Path.{_≡_, refl, sym, ap, subst, _∙_}
 use mathlib.Core.List.{List, [], _∷_, _++_, append-assoc, append-nil}
 use mathlib.Core.Option.{Option, none, some}
-use native.Mathlib.Nat.{add-zero, add-assoc}
 use native.Mathlib.Omega.{arith}
 use native.Mathlib.Decide.{decLt}
 use lib.ListN.{length, take, drop, set, length-append, length-take, length-drop}
@@ -11,15 +10,15 @@ use lib.Seq.{take-at, drop-at, drop-drop}
 use borrow.Rule.Slice.PartMut.{putMid}
 use Rattle.lists.specs.Laid.{laid}
 use Rattle.lists.proofs.LaidLaws.{laid-none, laid-step, length-laid, lent}
-use Rattle.utf8.specs.Text.{Character, widthOf}
+use Rattle.utf8.specs.Text.{widthOf}
 use Rattle.grammar.specs.Step.{idle, under, held, underWay, settle, finish}
-use Rattle.grammar.specs.Grammar.{Kind, identifier, syntax, whitespace}
+use Rattle.grammar.specs.Grammar.{Kind}
 use Rattle.grammar.specs.Kinds.{kindNumber, kindOf}
 use Rattle.grammar.specs.Record.{recordSize, tokensWidth, recordsFrom, wordsOf, listedWords}
-use Rattle.grammar.specs.Reading.{meaningOf, readingOf, tokensOf}
+use Rattle.grammar.specs.Reading.{meaningOf, tokensOf}
 use Rattle.grammar.proofs.RecordLaws.{length-records, length-words, length-listed, listed-append}
 use Rattle.grammar.proofs.StepLaws.{Settles, readFrom, first-comes}
-use Rattle.scan.specs.Turns.{numberBy, waiting, states, kindFor, turnOf, afterOf}
+use Rattle.scan.specs.Turns.{numberBy, waiting, states, kindFor, afterOf}
 use Rattle.scan.specs.Words.{tokenWords, waitingBy, waitingWords, startBy}
 use Rattle.scan.proofs.TurnLaws.{Tokens, Under, L, Stands, kind-less, stands-less, doneBy, Going}
 use Rattle.scan.proofs.ReachLaws.{charactersAt, Look, NoCharacter, Reached, reached-begins, After, tokens-come, after-settling, all-settled, read-end, after-turn, after-waiting, settles-here, left-here}

@@ -1,9 +1,8 @@
 -- `scan::refuse_at` meets its contract. Assumes nothing.
-use Prim.Native.Nat.{ℕ}
 use mathlib.Core.Path.{_≡_, sym, ap, _∙_}
 use native.Mathlib.Omega.{arith}
 use borrow.Author.Needs.{needs}
-use lib.ListN.{length, drop, length-drop}
+use lib.ListN.{drop, length-drop}
 use Rattle.lists.proofs.LaidLaws.{rest}
 use Rattle.utf8.specs.declared.Text.{Text}
 use Rattle.utf8.specs.Text.{textOf}

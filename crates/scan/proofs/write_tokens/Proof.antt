@@ -1,7 +1,7 @@
 -- `scan::write_tokens` meets its contract. The loop's invariant: the buffer holds the words of the tokens that are complete and, after
 -- them, those of the one under way. Assumes nothing.
-use Prim.Native.Nat.{ℕ, _+_, _-_, _*_, _/_}
-use mathlib.Core.Path.{_≡_, refl}
+use Prim.Native.Nat.{_+_, _-_, _*_, _/_}
+use mathlib.Core.Path.{refl}
 use native.Mathlib.Omega.{arith}
 use borrow.Author.Needs.{needs}
 use lib.ListN.{length}
