@@ -1,20 +1,14 @@
 -- The bytes of tokens and the number of words in their list. Assumes nothing.
-use Prim.Native.Nat.{ℕ, _+_, _*_, _≤_}
+use Prim.Native.Nat.{ℕ, _+_, _*_}
 use mathlib.Core.Path.{_≡_, refl, sym, ap, _∙_}
 use mathlib.Core.List.{List, [], _∷_, _++_}
-use mathlib.Core.Option.{none}
 use native.Mathlib.Nat.{add-assoc, add-zero, zero-add}
 use native.Mathlib.Omega.{arith}
-use lib.ListN.{length, drop, length-drop}
-use Rattle.utf8.specs.declared.Step.the-variants.{Scalar}
-use Rattle.utf8.specs.Head.{stepOf}
-use Rattle.utf8.specs.Text.{Character, decode, widthOf}
-use Rattle.utf8.proofs.TextLaws.{by-steps, decode-scalar, decode-ill, decode-end, turn}
+use lib.ListN.{length}
+use Rattle.utf8.specs.Text.{Character, widthOf}
 use Rattle.grammar.specs.Scan.{Tok, unitsOf}
 use Rattle.grammar.specs.Grammar.{Kind}
 use Rattle.grammar.specs.Record.{Record, recordSize, tokenWidth, tokensWidth, recordsFrom, wordsOf, listedWords}
-use Rattle.grammar.specs.Reading.{rulesOf, readingOf, tokensOf}
-use Rattle.grammar.proofs.ScanLaws.{few-tokens}
 
 pub width-append : (u v : List Character) → widthOf (u ++ v) ≡ widthOf u + widthOf v
 width-append [] v = sym (zero-add (widthOf v))
@@ -53,18 +47,3 @@ pub listed-append : (ts us : List (Tok Character Kind)) → listedWords (ts ++ u
 listed-append ts us =
     ap wordsOf (records-append 0 ts us ∙ ap (λ (n : ℕ). recordsFrom 0 ts ++ recordsFrom n us) (zero-add (tokensWidth ts)))
     ∙ words-append (recordsFrom 0 ts) (recordsFrom (tokensWidth ts) us)
-
--- a text has no more characters than bytes, and no more tokens
-pub characters-few : (s : List ℕ) → length (decode s .characters) ≤ length s
-characters-few =
-    by-steps (λ (s : List ℕ). length (decode s .characters) ≤ length s) more (λ s e. rw (decode-ill s e) (omega arith)) (λ s e. rw (decode-end s e) (omega arith))
-  where
-    more : (s : List ℕ) (x n : ℕ) → stepOf s ≡ Scalar x n → length (decode (drop n s) .characters) ≤ length (drop n s) → length (decode s .characters) ≤ length s
-    more s x n e ih =
-        let t = turn s 0 x n (omega arith) e in
-        let l = length-drop n s in
-        rw (decode-scalar s x n e) (omega (arith, t .some-bytes, t .within))
-
-pub tokens-few : (s text : List ℕ) → length (tokensOf s text) ≤ length text
-unfolding readingOf
-tokens-few s text = let h = characters-few text in omega (arith, few-tokens (rulesOf s) none (decode text .characters))

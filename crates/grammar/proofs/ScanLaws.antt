@@ -3,8 +3,6 @@ use mathlib.Core.Path.{_≡_, refl, sym, _∙_, ap}
 use mathlib.Core.Bool.{Bool, true, false}
 use mathlib.Core.List.{List, [], _∷_, _++_, append-assoc}
 use mathlib.Core.Option.{Option, none, some}
-use Prim.Native.Nat.{_≤_}
-use native.Mathlib.Omega.{arith}
 use lib.ListN.{length, drop}
 use Rattle.grammar.specs.Scan.{Rules, unitsOf, grown, opened, stopped, goes, walk, reading}
 
@@ -80,14 +78,3 @@ module _ {A K : Type 0} (R : Rules A K) where
 
   pub reading-covers : (s : List A) → s ≡ unitsOf (reading R s .tokens) ++ reading R s .left
   reading-covers s = covers none s ∙ ap (λ x. x ++ (unitsOf (reading R s .tokens) ++ reading R s .left)) (run-none s)
-
-  -- there are no more tokens than units
-  pub few-tokens : (k : Option K) (s : List A) → length (walk R k s .tokens) ≤ length s
-  few-tokens k [] = rw (walk-nil k) (omega arith)
-  few-tokens k (c ∷ r) = go (few-tokens k r) (λ j. few-tokens (some j) r) (goes R k (c ∷ r)) refl (R .kindOf c) refl
-    where
-      go : length (walk R k r .tokens) ≤ length r → ((j : K) → length (walk R (some j) r .tokens) ≤ length r) → (b : Bool) → goes R k (c ∷ r) ≡ b → (o : Option K) → R .kindOf c ≡ o →
-          length (walk R k (c ∷ r) .tokens) ≤ length (c ∷ r)
-      go here there true e o f = rw (walk-more k c r e) (omega arith)
-      go here there false e none f = rw (walk-stop k c r e f) (omega arith)
-      go here there false e (some j) f = let h = there j in rw (walk-open k c r j e f) (omega arith)

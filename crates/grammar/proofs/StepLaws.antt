@@ -1,41 +1,13 @@
 -- Stepping through a text gives the one-pass reading, whatever the cutting. Assumes nothing.
 use mathlib.Core.Path.{_≡_, refl, sym, ap, _∙_}
-use mathlib.Core.Bool.{Bool, true, false, _&&_, _||_, cond}
+use mathlib.Core.Bool.{Bool, true, false, cond}
 use mathlib.Core.List.{List, [], _∷_, _++_, append-assoc, append-nil}
 use mathlib.Core.Option.{Option, none, some}
-use Prim.Native.Nat.{ℕ, _+_, _≤_}
+use Prim.Native.Nat.{_+_, _≤_}
 use native.Mathlib.Omega.{arith}
 use lib.ListN.{length}
-use Rattle.grammar.specs.Scan.{Tok, Reading, Rules, grown, opened, stopped, walk, reading}
-use Rattle.grammar.specs.Step.{
-  Local,
-  State,
-  idle,
-  under,
-  held,
-  Move,
-  moves,
-  stops,
-  tok,
-  underWay,
-  after,
-  preceded,
-  tokensLeft,
-  follow,
-  goesFirst,
-  moreBy,
-  rulesBy,
-  begin,
-  complete,
-  continue,
-  resume,
-  step,
-  run,
-  settle,
-  ended,
-  finish,
-  closed,
-}
+use Rattle.grammar.specs.Scan.{Tok, Reading, Rules, stopped, walk, reading}
+use Rattle.grammar.specs.Step.{Local, State, idle, under, held, Move, moves, stops, tok, underWay, after, preceded, tokensLeft, follow, goesFirst, moreBy, rulesBy, begin, complete, continue, resume, step, run, settle, ended, finish, closed}
 use Rattle.grammar.proofs.ScanLaws.{walk-nil, walk-more, walk-stop, walk-open, walk-ends, run-none}
 
 module _ {A K : Type 0} where

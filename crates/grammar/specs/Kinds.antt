@@ -2,11 +2,10 @@
 -- `proofs/GrammarLaws.antt` joins the rules to the tokens of `Grammar.antt`.
 use Prim.Native.Nat.{ℕ}
 use mathlib.Core.Bool.{Bool, true, false}
-use mathlib.Core.List.{List}
 use mathlib.Core.Option.{Option, none, some}
 use Rattle.image.specs.Class.{Class, Unassigned, Start, Nonstart, Syntax, White, Other}
 use Rattle.grammar.specs.Scan.{Rules}
-use Rattle.grammar.specs.Step.{Local, goesFirst, moreBy, rulesBy}
+use Rattle.grammar.specs.Step.{Local, rulesBy}
 use Rattle.grammar.specs.Meaning.{Meaning}
 use Rattle.grammar.specs.Grammar.{Kind, identifier, syntax, whitespace}
 
@@ -63,13 +62,6 @@ module _ {A : Type 0} (m : Meaning A) where
 
   abbrev pub localRules : Local A Kind
   localRules = record { kindOf = kindOf; goes = goesWith; links = linksWith }
-
-  -- whether the units begin with a Continue, and whether a token of a kind goes on with them
-  abbrev pub continuesFirst : List A → Bool
-  continuesFirst r = goesFirst localRules identifier r
-
-  abbrev pub more : Kind → List A → Bool
-  more k s = moreBy localRules k s
 
   abbrev pub rules : Rules A Kind
   rules = rulesBy localRules

@@ -1,7 +1,7 @@
 -- One step of a reader of tokens, over any units and kinds: a small state, and what the next unit makes certain
 -- (docs/RULES.md, "Tokens"). Nothing looks ahead: a medial that may link a token to the unit after it waits in the state.
 -- `proofs/StepLaws.antt` joins the steps to the one-pass reading.
-use mathlib.Core.Bool.{Bool, true, false, _&&_, _||_, cond}
+use mathlib.Core.Bool.{Bool, false, _&&_, _||_, cond}
 use mathlib.Core.List.{List, [], _∷_, _++_}
 use mathlib.Core.Option.{Option, none, some}
 use Rattle.grammar.specs.Scan.{Tok, Reading, Rules}

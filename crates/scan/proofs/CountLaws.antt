@@ -1,5 +1,5 @@
 -- Counting by turns: the count is that of the tokens that are complete. Assumes nothing.
-use Prim.Native.Nat.{ℕ, zero, suc, _+_, _-_, _≤_, _<_}
+use Prim.Native.Nat.{ℕ, _+_, _-_, _≤_, _<_}
 use mathlib.Core.Path.{_≡_, refl, sym, ap, subst, _∙_}
 use mathlib.Core.List.{List, [], _∷_, _++_}
 use mathlib.Core.Option.{Option, none, some}
@@ -11,37 +11,21 @@ use Rattle.utf8.specs.declared.Text.{Text}
 use Rattle.utf8.specs.declared.Text.the-variants as form
 use Rattle.utf8.specs.declared.Step.the-variants as utf8-step
 use Rattle.utf8.specs.Head.{stepOf}
-use Rattle.utf8.specs.Text.{Character, decode, widthOf, textBy, textOf}
-use Rattle.utf8.proofs.TextLaws.{shift, ill-here, end-here, covers}
+use Rattle.utf8.specs.Text.{Character, textOf}
+use Rattle.utf8.proofs.TextLaws.{shift, ill-here, end-here}
 use Rattle.grammar.specs.Step.{idle, under, held, underWay, preceded, tokensLeft, settle, finish}
-use Rattle.grammar.specs.Grammar.{Kind, identifier, syntax, whitespace}
+use Rattle.grammar.specs.Grammar.{Kind}
 use Rattle.grammar.specs.Kinds.{kindOf}
 use Rattle.grammar.specs.Record.{tokensWidth}
 use Rattle.grammar.specs.Reading.{meaningOf, readingOf, tokensOf, formRefusalBy, judged}
-use Rattle.grammar.proofs.RecordLaws.{tokens-append, tokens-few}
+use Rattle.grammar.proofs.RecordLaws.{tokens-append}
+use Rattle.grammar.proofs.FewLaws.{few-tokens}
 use Rattle.grammar.proofs.StepLaws.{Settles}
 use Rattle.scan.specs.declared.Counted.the-variants.{Refused, Tokens as Counted}
-use Rattle.scan.specs.Turns.{numberBy, waiting, states, kindFor, turnOf, afterOf, pendingOf}
+use Rattle.scan.specs.Turns.{numberBy, waiting, states, kindFor, afterOf, pendingOf}
 use Rattle.scan.specs.Counted.{countedBy, readThrough, countThrough, stopRefusal}
 use Rattle.scan.proofs.TurnLaws.{Tokens, Under, L, Stands, pending-by, phase-of, stands-less, doneBy, left}
-use Rattle.scan.proofs.ReachLaws.{
-  charactersAt,
-  Place,
-  Look,
-  at-end,
-  Reached,
-  reached-begins,
-  After,
-  complete-few,
-  after-settling,
-  left-settled,
-  settles-none,
-  read-end,
-  after-turn,
-  after-waiting,
-  settles-here,
-  left-here,
-}
+use Rattle.scan.proofs.ReachLaws.{charactersAt, Place, Look, at-end, Reached, reached-begins, After, complete-few, after-settling, left-settled, settles-none, read-end, after-turn, after-waiting, settles-here, left-here}
 
 -- `count` tokens are complete before what is under way at the place `at`
 pub record Counting (s text : List ℕ) (state count mid at : ℕ) : Type 0 where
@@ -92,7 +76,7 @@ module _ {s text : List ℕ} {state count mid at : ℕ} (i : Counting s text sta
 
     pub counts-left : state ≡ waiting → Refused (stopRefusal mid (textOf (drop mid text))) ≡ countThrough s text
     counts-left n =
-        let x = left s state (tokensWidth (i .tokens)) mid at (i .under-way) (i .reached .stands) n in
+        let x = left s state (tokensWidth (i .tokens)) mid at (i .under-way) (i .reached .stands) (omega arith) n in
         stops-at s text mid (i .tokens) (underWay (i .under-way)) (x .medial) (charactersAt text at) (i .reached .medial) (x .place)
         (left-settled (i .reached) h x)
 
@@ -111,13 +95,11 @@ module _ {s text : List ℕ} {state count mid at : ℕ} (i : Counting s text sta
       unfolding finish settle
       ended idle e = record { none-left = refl; pending = pending-by state _ (phase-of s state (tokensWidth (i .tokens)) mid at idle e) }
       ended (under k u) e = record { none-left = refl; pending = pending-by state _ (phase-of s state (tokensWidth (i .tokens)) mid at (under k u) e) }
-      ended (held syntax u d) e = absurd e
-      ended (held whitespace u d) e = absurd e
-      ended (held identifier u d) e = go (kindOf (meaningOf s) d) refl
+      ended (held k u d) e = go (kindOf (meaningOf s) d) refl
         where
-          go : (o : Option Kind) → kindOf (meaningOf s) d ≡ o → Ended (held identifier u d)
+          go : (o : Option Kind) → kindOf (meaningOf s) d ≡ o → Ended (held k u d)
           go none g = absurd (n (e .0 ∙ ap (λ (o : Option Kind). waiting + numberBy o) g))
-          go (some k) g = record { none-left = rw g; pending = rw g (pending-by state _ (phase-of s state (tokensWidth (i .tokens)) mid at (held identifier u d) e)) }
+          go (some j) g = record { none-left = rw g; pending = rw g (pending-by state _ (phase-of s state (tokensWidth (i .tokens)) mid at (held k u d) e)) }
 
       pub all-read : Ended (i .under-way)
       all-read = ended (i .under-way) (i .reached .stands)
@@ -129,7 +111,7 @@ module _ {s text : List ℕ} {state count mid at : ℕ} (i : Counting s text sta
       all-count = omega (arith, ap length all-tokens, length-append (i .tokens) (finish (L s) (i .under-way) .tokens), all-read .pending, i .counted)
 
       pub pending-few : count + pendingOf state ≤ length text
-      pending-few = omega (arith, all-count, tokens-few s text)
+      pending-few = omega (arith, all-count, few-tokens s text)
 
       pub counts-end : Counted (count + pendingOf state) ≡ countThrough s text
       unfolding countThrough readThrough
@@ -154,12 +136,3 @@ module _ {s text : List ℕ} {state count mid at : ℕ} (i : Counting s text sta
     counts-stop h =
         let x = left-here (i .reached) k h in
         stops-at s text at (i .tokens) (underWay (i .under-way)) _ _ (i .reached .place) (x .0) (x .1)
-
--- an ill-formed place lies within the text
-ill-by : (p q : ℕ) (r : List ℕ) → textBy p r ≡ form.IllFormed q → q ≡ p
-ill-by p q [] e = cc
-ill-by p q (b ∷ r) e = cc
-
-pub ill-within : (u : List ℕ) (p : ℕ) → textOf u ≡ form.IllFormed p → p ≤ length u
-unfolding textOf
-ill-within u p e = let q = ill-by (widthOf (decode u .characters)) p (decode u .rest) e in omega (arith, covers u .within)

@@ -2,29 +2,28 @@
 use Prim.Native.Nat.{ℕ, zero, suc, _+_, _≤_, _<_}
 use mathlib.Core.Path.{_≡_, refl, sym, ap, subst, _∙_}
 use mathlib.Core.List.{List, [], _∷_, _++_}
-use mathlib.Core.Option.{Option, none, some}
-use native.Mathlib.Nat.{zero-add, add-zero}
+use mathlib.Core.Option.{none}
 use native.Mathlib.Omega.{arith}
-use lib.ListN.{length, drop}
+use lib.ListN.{length, drop, drop-of-length-le}
 use Rattle.lists.proofs.BoolLaws.{impossible}
 use Rattle.utf8.specs.declared.Step.{Step}
 use Rattle.utf8.specs.declared.Step.the-variants as utf8-step
 use Rattle.utf8.specs.Head.{stepOf}
 use Rattle.utf8.specs.Text.{Character, decode, widthOf}
+use Rattle.utf8.proofs.SequenceLaws.{step-empty}
 use Rattle.utf8.proofs.TextLaws.{decode-ill, decode-end}
 use Rattle.grammar.specs.Scan.{Tok, walk}
-use Rattle.grammar.specs.Step.{idle, under, held, Move, moves, stops, tok, underWay, preceded, settle, finish}
-use Rattle.grammar.specs.Grammar.{Kind, identifier, syntax, whitespace}
-use Rattle.grammar.specs.Kinds.{kindNumber, kindOf}
-use Rattle.grammar.specs.Reading.{rulesOf, meaningOf, readingOf, tokensOf}
+use Rattle.grammar.specs.Step.{idle, under, held, tok, underWay, finish}
+use Rattle.grammar.specs.Grammar.{Kind}
+use Rattle.grammar.specs.Kinds.{kindNumber}
+use Rattle.grammar.specs.Reading.{rulesOf, readingOf, tokensOf}
 use Rattle.grammar.proofs.ScanLaws.{walk-nil}
 use Rattle.grammar.proofs.StepLaws.{readFrom, Settles, settles-first, finish-begins}
-use Rattle.scan.specs.declared.First.{First}
-use Rattle.scan.specs.declared.First.the-variants.{Nothing, IllFormed, NoToken, Token}
-use Rattle.scan.specs.Turns.{Phase, phaseNamed, waiting, states, kindFor, turnOf, afterOf}
+use Rattle.scan.specs.declared.First.the-variants.{Nothing, IllFormed, Token}
+use Rattle.scan.specs.Turns.{Phase, phaseNamed, waiting, states, kindFor, afterOf}
 use Rattle.scan.specs.First.{firstIn, firstBy, firstOf, pendingBy, pendingFirst}
 use Rattle.scan.proofs.TurnLaws.{Tokens, Under, L, Stands, kind-less, phase-of, stands-less}
-use Rattle.scan.proofs.ReachLaws.{charactersAt, Look, NoCharacter, Reached, reached-begins, tokens-come, read-end, read-settled, after-turn, after-waiting, settles-here, left-here}
+use Rattle.scan.proofs.ReachLaws.{charactersAt, Look, NoCharacter, Reached, reached-begins, tokens-come, read-end, after-turn, after-waiting, settles-here, left-here}
 
 pub first-by : (n mid at : ℕ) (p : Phase) → phaseNamed n ≡ p → pendingBy p mid at ≡ pendingFirst n mid at
 unfolding pendingFirst
@@ -66,11 +65,9 @@ module _ (s text : List ℕ) where
     complete (under k u) i rest e h =
         let w : at ≡ widthOf u = omega (arith, i .1) in
         sym (first-by state mid at _ (phase-of s state 0 mid at (under k u) i)) ∙ ap (Token (kindNumber k)) w ∙ by-front (tok k u) rest e
-    complete (held identifier u d) i rest e h =
+    complete (held k u d) i rest e h =
         let w : mid ≡ widthOf u = omega (arith, i .1) in
-        sym (first-by state mid at _ (phase-of s state 0 mid at (held identifier u d) i)) ∙ ap (Token (kindNumber identifier)) w ∙ by-front (tok identifier u) rest e
-    complete (held syntax u d) i rest e h = absurd i
-    complete (held whitespace u d) i rest e h = absurd i
+        sym (first-by state mid at _ (phase-of s state 0 mid at (held k u d) i)) ∙ (λ j. Token (kindNumber (sym (i .3) j)) (w j)) ∙ by-front (tok k u) rest e
 
 module _ {s text : List ℕ} {state mid at : ℕ} (i : Searching s text state mid at) where
   pub searching-less : state < states
@@ -81,12 +78,8 @@ module _ {s text : List ℕ} {state mid at : ℕ} (i : Searching s text state mi
   first-ill e z = let f : stepOf text ≡ utf8-step.IllFormed = rw z at e in rw f
 
   pub first-nothing : length text ≤ at → at ≡ 0 → Nothing ≡ firstOf s text
-  unfolding firstOf stepOf
-  first-nothing h z = go text (omega arith)
-    where
-      go : (u : List ℕ) → length u ≤ 0 → Nothing ≡ firstBy (tokensOf s text) (stepOf u)
-      go [] l = refl
-      go (b ∷ u) l = absurd (omega arith)
+  unfolding firstOf
+  first-nothing h z = let e : stepOf text ≡ utf8-step.End = ap stepOf (drop-of-length-le text {i = 0} (omega arith)) ∙ step-empty in rw e
 
   -- nothing follows
   pub first-last : NoCharacter text at → (at ≡ 0 → ⊥) → pendingFirst state mid at ≡ firstOf s text

@@ -2,31 +2,29 @@
 -- Assumes nothing.
 use Prim.Native.Nat.{ℕ, zero, suc, _+_, _-_, _≤_, _<_}
 use mathlib.Core.Path.{_≡_, refl, sym, ap, subst, _∙_}
-use mathlib.Core.Bool.{false}
-use mathlib.Core.List.{List, [], _∷_, _++_, append-nil}
+use mathlib.Core.List.{List, [], _∷_, _++_}
 use mathlib.Core.Option.{none}
 use native.Mathlib.Omega.{arith}
-use lib.ListN.{length, drop, length-append, length-drop}
+use lib.ListN.{length, drop, length-append, drop-of-length-le}
 use lib.Seq.{drop-drop}
 use Rattle.utf8.specs.declared.Step.the-variants as utf8-step
 use Rattle.utf8.specs.Head.{stepOf}
 use Rattle.utf8.specs.Text.{Character, decode, textOf}
-use Rattle.utf8.proofs.TextLaws.{decode-scalar, decode-ill, shift, shift-zero, turn}
+use Rattle.utf8.proofs.TextLaws.{decode-scalar, decode-ill, decode-empty, shift, shift-zero, turn}
 use Rattle.image.specs.Check.{refusalOf}
 use Rattle.character.specs.Traits.{traitsOf}
 use Rattle.character.specs.Read.{ReadAs}
 use Rattle.character.proofs.CharacterLaws.{traits-small}
 use Rattle.character.specs.declared.Character.{Character as Read}
-use Rattle.grammar.specs.Scan.{Tok, Reading}
-use Rattle.grammar.specs.Step.{idle, under, held, moves, stops, underWay, preceded, tokensLeft, step, settle, finish}
-use Rattle.grammar.specs.Grammar.{Kind, identifier, syntax, whitespace}
+use Rattle.grammar.specs.Step.{idle, under, held, moves, underWay, preceded, tokensLeft, step, settle, finish}
 use Rattle.grammar.specs.Record.{tokensWidth}
 use Rattle.grammar.specs.Reading.{readingOf, tokensOf}
-use Rattle.grammar.proofs.RecordLaws.{tokens-append, characters-few, tokens-few}
+use Rattle.grammar.proofs.RecordLaws.{tokens-append}
+use Rattle.grammar.proofs.FewLaws.{few-tokens}
 use Rattle.grammar.proofs.StepLaws.{preceded-append, readFrom, meant, read-step, Settles, read-settles, read-finish}
 use Rattle.scan.specs.Turns.{waiting, kindFor, turnOf, afterOf}
 use Rattle.scan.specs.Words.{startBy}
-use Rattle.scan.proofs.TurnLaws.{Tokens, Under, L, Stands, doneBy, Going, Moved, Turned, turned, Settled, settled, Left, left}
+use Rattle.scan.proofs.TurnLaws.{Tokens, Under, L, Stands, doneBy, Going, Moved, Turned, turned, settled, Left, left}
 
 -- the characters from a place on
 abbrev pub charactersAt : List ℕ → ℕ → List Character
@@ -78,11 +76,7 @@ pub at-ill : (text : List ℕ) (at : ℕ) → stepOf (drop at text) ≡ utf8-ste
 at-ill text at e = record { none = ap (λ d. d .characters) (decode-ill (drop at text) e) }
 
 pub at-end : (text : List ℕ) (at : ℕ) → length text ≤ at → NoCharacter text at
-at-end text at h = record { none = go (charactersAt text at) (let l = length-drop at text in omega (arith, characters-few (drop at text))) }
-  where
-    go : (cs : List Character) → length cs ≤ 0 → cs ≡ []
-    go [] l = refl
-    go (c ∷ cs) l = absurd (omega arith)
+at-end text at h = record { none = ap (λ (u : List ℕ). decode u .characters) (drop-of-length-le text h) ∙ ap (λ d. d .characters) decode-empty }
 
 -- the tokens ts are complete before what is under way at the place `at`, and q is what the code's numbers stand for
 pub record Reached (s text : List ℕ) (state mid at : ℕ) (ts : Tokens) (q : Under) : Type 0 where
@@ -111,7 +105,7 @@ module _ {s text : List ℕ} {state mid at : ℕ} {ts : Tokens} {q : Under} (i :
   tokens-come = sym (ap (λ w. w .tokens) (i .same))
 
   pub complete-few : length ts ≤ length text
-  complete-few = omega (arith, ap length tokens-come, length-append ts (readFrom (L s) q (charactersAt text at) .tokens), tokens-few s text)
+  complete-few = omega (arith, ap length tokens-come, length-append ts (readFrom (L s) q (charactersAt text at) .tokens), few-tokens s text)
 
   -- after a move, the tokens us more are complete
   reached-by : (us : Tokens) (next : Under) (state′ mid′ at′ : ℕ) → preceded ts (meant (L s) (moves us next) (charactersAt text at′)) ≡ readingOf s text →
@@ -147,7 +141,7 @@ module _ {s text : List ℕ} {state mid at : ℕ} {ts : Tokens} {q : Under} (i :
     left-settled x = ap (λ m. preceded ts (meant (L s) m (charactersAt text at))) (sym (x .same)) ∙ read-settled
 
     pub all-settled : state ≡ waiting → tokensOf s text ≡ ts ++ underWay q
-    all-settled n = sym (ap (λ w. w .tokens) (left-settled (left s state (tokensWidth ts) mid at q (i .stands) n)))
+    all-settled n = sym (ap (λ w. w .tokens) (left-settled (left s state (tokensWidth ts) mid at q (i .stands) (omega arith) n)))
 
   -- no character stands here
   pub settles-none : NoCharacter text at → Settles (L s) q (charactersAt text at)

@@ -14,7 +14,7 @@ use Rattle.image.specs.Check.{refusalOf}
 use Rattle.character.specs.Traits.{traitsOf}
 use Rattle.character.proofs.TraitLaws.{traits-class, traits-medial}
 use Rattle.grammar.specs.Scan.{Tok}
-use Rattle.grammar.specs.Step.{Local, State, idle, under, held, Move, moves, stops, underWay, begin, complete, continue, step, settle, ended, finish}
+use Rattle.grammar.specs.Step.{Local, State, idle, under, held, moves, stops, underWay, begin, step, settle}
 use Rattle.grammar.specs.Meaning.{Meaning}
 use Rattle.grammar.specs.Grammar.{Kind, identifier, syntax, whitespace}
 use Rattle.grammar.specs.Kinds.{kindNumber, isContinue, isWhite, kindOfClass, kindOf, goesWith, linksWith, localRules}
@@ -40,9 +40,7 @@ L s = localRules (meaningOf s)
 abbrev pub Stands : List ℕ → Under → ℕ → ℕ → ℕ → ℕ → Type 0
 Stands s idle state start mid at = (state ≡ 0) × (at ≡ start)
 Stands s (under k u) state start mid at = (state ≡ kindNumber k) × (at ≡ start + widthOf u)
-Stands s (held identifier u d) state start mid at = (state ≡ waiting + numberBy (kindOf (meaningOf s) d)) × (mid ≡ start + widthOf u) × (at ≡ mid + d .width)
-Stands s (held syntax u d) state start mid at = ⊥
-Stands s (held whitespace u d) state start mid at = ⊥
+Stands s (held k u d) state start mid at = (state ≡ waiting + numberBy (kindOf (meaningOf s) d)) × (mid ≡ start + widthOf u) × (at ≡ mid + d .width) × (k ≡ identifier)
 
 pub kind-less : (k : Kind) → (0 < kindNumber k) × (kindNumber k < waiting)
 kind-less identifier = (omega arith, omega arith)
@@ -85,16 +83,12 @@ module _ (s : List ℕ) (state start mid at : ℕ) where
   pub phase-of : (q : Under) → Stands s q state start mid at → phaseNamed state ≡ phaseIn q
   phase-of idle i = ap phaseNamed (i .0)
   phase-of (under k u) i = ap phaseNamed (i .0) ∙ phase-kind k
-  phase-of (held identifier u d) i = phase-waits state (omega (arith, i .0))
-  phase-of (held syntax u d) i = absurd i
-  phase-of (held whitespace u d) i = absurd i
+  phase-of (held k u d) i = phase-waits state (omega (arith, i .0))
 
   pub stands-less : (q : Under) → Stands s q state start mid at → state < states
   stands-less idle i = omega (arith, i .0)
   stands-less (under k u) i = omega (arith, i .0, kind-less k)
-  stands-less (held identifier u d) i = omega (arith, i .0, number-less (kindOf (meaningOf s) d))
-  stands-less (held syntax u d) i = absurd i
-  stands-less (held whitespace u d) i = absurd i
+  stands-less (held k u d) i = omega (arith, i .0, number-less (kindOf (meaningOf s) d))
 
 -- the state after a character by its class: the kind of the token that it is in
 abbrev afterClass : Class → ℕ
@@ -202,7 +196,7 @@ module _ (s : List ℕ) (accepted : refusalOf s ≡ none) (c : Character) (t : �
 
     waits-by : (k : Kind) (u : List Character) → goesWith M k c ≡ false → linksWith M k c ≡ true → at ≡ start + widthOf u → Turned s c t (under k u) state start mid at 2
     unfolding step
-    waits-by identifier u f l p = record { next = held identifier u c; same = rw (f, l); kept = refl; stands = (ap (λ (n : ℕ). waiting + n) kind-of, p, refl) }
+    waits-by identifier u f l p = record { next = held identifier u c; same = rw (f, l); kept = refl; stands = (ap (λ (n : ℕ). waiting + n) kind-of, p, refl, refl) }
     waits-by syntax u f l p = impossible (cc)
     waits-by whitespace u f l p = impossible (cc)
 
@@ -216,21 +210,19 @@ module _ (s : List ℕ) (accepted : refusalOf s ≡ none) (c : Character) (t : �
         go true b f l = record { next = under k (u ++ c ∷ []); same = rw f; going = tt; size = refl; began = omega arith; stands = (after-goes k f, omega (arith, width-append u (c ∷ []), i .1)) }
         go false true f l = waits-by k u f l (i .1)
         go false false f l = ends-by k u (kindOf M c) refl f l (i .1)
-    by-state (held identifier u d) i = go (goesWith M identifier c) refl
+    by-state (held k u d) i = subst (λ j. Turned s c t (held k u d) state start mid at (cond (goesWith M j c) 0 3)) (i .3) (go (goesWith M k c) refl)
       where
-        go : (b : Bool) → goesWith M identifier c ≡ b → Turned s c t (held identifier u d) state start mid at (cond b 0 3)
+        go : (b : Bool) → goesWith M k c ≡ b → Turned s c t (held k u d) state start mid at (cond b 0 3)
         go true f =
             record {
-              next = under identifier (u ++ d ∷ c ∷ []);
+              next = under k (u ++ d ∷ c ∷ []);
               same = rw f;
               going = tt;
               size = refl;
               began = omega arith;
-              stands = (after-goes identifier f, omega (arith, width-append u (d ∷ c ∷ []), i .1, i .2));
+              stands = (after-goes k f, omega (arith, width-append u (d ∷ c ∷ []), i .1, i .2));
             }
         go false f = (omega (arith, i .0), λ r. f)
-    by-state (held syntax u d) i = absurd i
-    by-state (held whitespace u d) i = absurd i
 
     pub turned : (q : Under) → Stands s q state start mid at → Turned s c t q state start mid at (turnOf state t)
     unfolding turnOf
@@ -258,34 +250,29 @@ module _ (s : List ℕ) (state start mid at : ℕ) where
   SettledBy none q = Left q
   SettledBy (some k) q = Settled q
 
-  settled-by : (u : List Character) (d : Character) (o : Option Kind) → kindOf (meaningOf s) d ≡ o → Stands s (held identifier u d) state start mid at → SettledBy o (held identifier u d)
+  settled-by : (q : Under) → Stands s q state start mid at → waiting ≤ state → (o : Option Kind) × (state ≡ waiting + numberBy o) × SettledBy o q
   unfolding settle
-  settled-by u d none g i = record { medial = d; same = rw g; place = omega (arith, i .1) }
-  settled-by u d (some k) g i =
-      let n = i .0 ∙ ap (λ (o : Option Kind). waiting + numberBy o) g in
-      record { next = under k (d ∷ []); same = rw g; going = tt; size = refl; began = omega (arith, i .1); stands = (omega arith, omega (arith, i .1, i .2)) }
-
-  abbrev Held : Type 0
-  Held = (u : List Character) × (d : Character) × Stands s (held identifier u d) state start mid at
-
-  pub settled : (q : Under) → Stands s q state start mid at → waiting ≤ state → (state ≡ waiting → ⊥) → Settled q
-  settled idle i h n = absurd (omega (arith, i .0))
-  settled (under k u) i h n = absurd (omega (arith, i .0, kind-less k))
-  settled (held syntax u d) i h n = absurd i
-  settled (held whitespace u d) i h n = absurd i
-  settled (held identifier u d) i h n = go (kindOf (meaningOf s) d) refl
+  settled-by idle i h = absurd (omega (arith, i .0))
+  settled-by (under k u) i h = absurd (omega (arith, i .0, kind-less k))
+  settled-by (held k u d) i h = (kindOf (meaningOf s) d, i .0, go (kindOf (meaningOf s) d) refl)
     where
-      go : (o : Option Kind) → kindOf (meaningOf s) d ≡ o → Settled (held identifier u d)
-      go none g = absurd (n (i .0 ∙ ap (λ (o : Option Kind). waiting + numberBy o) g))
-      go (some k) g = settled-by u d (some k) g i
+      go : (o : Option Kind) → kindOf (meaningOf s) d ≡ o → SettledBy o (held k u d)
+      go none g = record { medial = d; same = rw g; place = omega (arith, i .1) }
+      go (some j) g =
+          let n = i .0 ∙ ap (λ (o : Option Kind). waiting + numberBy o) g in
+          record { next = under j (d ∷ []); same = rw g; going = tt; size = refl; began = omega (arith, i .1); stands = (omega arith, omega (arith, i .1, i .2)) }
 
-  pub left : (q : Under) → Stands s q state start mid at → state ≡ waiting → Left q
-  left idle i n = absurd (omega (arith, i .0))
-  left (under k u) i n = absurd (omega (arith, i .0, kind-less k))
-  left (held syntax u d) i n = absurd i
-  left (held whitespace u d) i n = absurd i
-  left (held identifier u d) i n = go (kindOf (meaningOf s) d) refl
-    where
-      go : (o : Option Kind) → kindOf (meaningOf s) d ≡ o → Left (held identifier u d)
-      go none g = settled-by u d none g i
-      go (some k) g = absurd (omega (arith, i .0 ∙ ap (λ (o : Option Kind). waiting + numberBy o) g, kind-less k))
+  module _ (q : Under) (i : Stands s q state start mid at) (h : waiting ≤ state) where
+    pub settled : (state ≡ waiting → ⊥) → Settled q
+    settled n = let x = settled-by q i h in go (x .0) (x .1) (x .2)
+      where
+        go : (o : Option Kind) → state ≡ waiting + numberBy o → SettledBy o q → Settled q
+        go none e x = absurd (n e)
+        go (some k) e x = x
+
+    pub left : state ≡ waiting → Left q
+    left n = let x = settled-by q i h in go (x .0) (x .1) (x .2)
+      where
+        go : (o : Option Kind) → state ≡ waiting + numberBy o → SettledBy o q → Left q
+        go none e x = x
+        go (some k) e x = absurd (omega (arith, kind-less k))

@@ -3,7 +3,6 @@ use Prim.Native.Nat.{ℕ, zero, suc, _+_, _-_, _*_, _≤_, _<_}
 use mathlib.Core.Path.{_≡_, refl, sym, ap, subst, _∙_}
 use mathlib.Core.List.{List, [], _∷_, _++_, append-assoc, append-nil}
 use mathlib.Core.Option.{Option, none, some}
-use native.Mathlib.Nat.{add-zero, add-assoc}
 use native.Mathlib.Omega.{arith}
 use native.Mathlib.Decide.{decLt}
 use lib.ListN.{length, take, drop, set, length-append, length-take, length-drop}
@@ -11,33 +10,18 @@ use lib.Seq.{take-at, drop-at, drop-drop}
 use borrow.Rule.Slice.PartMut.{putMid}
 use Rattle.lists.specs.Laid.{laid}
 use Rattle.lists.proofs.LaidLaws.{laid-none, laid-step, length-laid, lent}
-use Rattle.utf8.specs.Text.{Character, widthOf}
+use Rattle.utf8.specs.Text.{widthOf}
 use Rattle.grammar.specs.Step.{idle, under, held, underWay, settle, finish}
-use Rattle.grammar.specs.Grammar.{Kind, identifier, syntax, whitespace}
+use Rattle.grammar.specs.Grammar.{Kind}
 use Rattle.grammar.specs.Kinds.{kindNumber, kindOf}
 use Rattle.grammar.specs.Record.{recordSize, tokensWidth, recordsFrom, wordsOf, listedWords}
-use Rattle.grammar.specs.Reading.{meaningOf, readingOf, tokensOf}
+use Rattle.grammar.specs.Reading.{meaningOf, tokensOf}
 use Rattle.grammar.proofs.RecordLaws.{length-records, length-words, length-listed, listed-append}
 use Rattle.grammar.proofs.StepLaws.{Settles, readFrom, first-comes}
-use Rattle.scan.specs.Turns.{numberBy, waiting, states, kindFor, turnOf, afterOf}
+use Rattle.scan.specs.Turns.{numberBy, waiting, states, kindFor, afterOf}
 use Rattle.scan.specs.Words.{tokenWords, waitingBy, waitingWords, startBy}
 use Rattle.scan.proofs.TurnLaws.{Tokens, Under, L, Stands, kind-less, stands-less, doneBy, Going}
-use Rattle.scan.proofs.ReachLaws.{
-  charactersAt,
-  Look,
-  NoCharacter,
-  Reached,
-  reached-begins,
-  After,
-  tokens-come,
-  after-settling,
-  all-settled,
-  read-end,
-  after-turn,
-  after-waiting,
-  settles-here,
-  left-here,
-}
+use Rattle.scan.proofs.ReachLaws.{charactersAt, Look, NoCharacter, Reached, reached-begins, After, tokens-come, after-settling, all-settled, read-end, after-turn, after-waiting, settles-here, left-here}
 
 -- a record's words at a buffer's front
 pub three-words : (out : List ℕ) (k a b : ℕ) → recordSize ≤ length out → set (set (set out 0 k) 1 a) 2 b ≡ laid out 0 (tokenWords k a b)
@@ -124,26 +108,22 @@ module _ (s : List ℕ) (state start mid at : ℕ) where
   pub began-before : (q : Under) → Stands s q state start mid at → start ≤ at
   began-before idle i = omega (arith, i .1)
   began-before (under k u) i = omega (arith, i .1)
-  began-before (held identifier u d) i = omega (arith, i .1, i .2)
-  began-before (held syntax u d) i = absurd i
-  began-before (held whitespace u d) i = absurd i
+  began-before (held k u d) i = omega (arith, i .1, i .2)
 
   -- where nothing follows, the last tokens are the one under way and a medial that waits
   pub finish-words : (q : Under) → Stands s q state start mid at → wordsOf (recordsFrom start (finish (L s) q .tokens)) ≡ wordsOf (recordsFrom start (underWay q)) ++ waitingWords state mid at
   unfolding finish settle
   finish-words idle i = none-waits state mid at (omega (arith, i .0))
   finish-words (under k u) i = ap (λ ws. wordsOf (recordsFrom start (underWay (under k u))) ++ ws) (none-waits state mid at (omega (arith, i .0, kind-less k)))
-  finish-words (held syntax u d) i = absurd i
-  finish-words (held whitespace u d) i = absurd i
-  finish-words (held identifier u d) i = go (kindOf (meaningOf s) d) refl
+  finish-words (held k u d) i = go (kindOf (meaningOf s) d) refl
     where
-      go : (o : Option Kind) → kindOf (meaningOf s) d ≡ o → wordsOf (recordsFrom start (finish (L s) (held identifier u d) .tokens)) ≡ wordsOf (recordsFrom start (underWay (held identifier u d))) ++ waitingWords state mid at
-      go none g = rw g (ap (λ ws. wordsOf (recordsFrom start (underWay (held identifier u d))) ++ ws) (none-waits state mid at (omega (arith, i .0 ∙ ap (λ (o : Option Kind). waiting + numberBy o) g))))
-      go (some k) g =
+      go : (o : Option Kind) → kindOf (meaningOf s) d ≡ o → wordsOf (recordsFrom start (finish (L s) (held k u d) .tokens)) ≡ wordsOf (recordsFrom start (underWay (held k u d))) ++ waitingWords state mid at
+      go none g = rw g (ap (λ ws. wordsOf (recordsFrom start (underWay (held k u d))) ++ ws) (none-waits state mid at (omega (arith, i .0 ∙ ap (λ (o : Option Kind). waiting + numberBy o) g))))
+      go (some j) g =
           let n = i .0 ∙ ap (λ (o : Option Kind). waiting + numberBy o) g in
           let m : start + widthOf u ≡ mid = sym (i .1) in
           let e : start + widthOf u + (d .width + 0) ≡ at = omega (arith, i .1, i .2) in
-          rw g (ap (λ ws. wordsOf (recordsFrom start (underWay (held identifier u d))) ++ ws) ((λ j. tokenWords (kindNumber k) (m j) (e j)) ∙ some-waits k n))
+          rw g (ap (λ ws. wordsOf (recordsFrom start (underWay (held k u d))) ++ ws) ((λ x. tokenWords (kindNumber j) (m x) (e x)) ∙ some-waits j n))
 
 module _ (s text out₀ : List ℕ) where
   -- the tokens that are complete, and the one under way up to the place `at`, are in the buffer; w is the word after the complete ones

@@ -1,10 +1,10 @@
 -- The reader's state and turns on numbers (docs/RULES.md, "Tokens"). `proofs/TurnLaws.antt` joins them to the steps of `grammar`.
-use Prim.Native.Nat.{ℕ, zero, suc, _+_, _%_}
-use mathlib.Core.Bool.{Bool, cond}
+use Prim.Native.Nat.{ℕ, zero, suc, _%_}
+use mathlib.Core.Bool.{cond}
 use mathlib.Core.List.{List, [], _∷_}
 use mathlib.Core.Option.{Option, none, some}
 use lib.Dec.{leb}
-use Rattle.image.specs.Class.{Class, classNamed}
+use Rattle.image.specs.Class.{classNamed}
 use Rattle.grammar.specs.Meaning.{Meaning}
 use Rattle.grammar.specs.Grammar.{Kind, identifier, syntax, whitespace}
 use Rattle.grammar.specs.Kinds.{kindNumber, kindOf, goesWith, linksWith}

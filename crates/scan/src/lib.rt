@@ -20,15 +20,17 @@ use utf8::Text;
 // The words of a token's record.
 pub const RECORD_WORDS: usize = 3;
 
-// The state of a reader: nothing yet (0), a token of this kind (1 to 3), or an identifier with a medial after it that waits for the
-// next character: WAITING, and the kind of token that the medial itself begins.
+// The state of a reader: nothing yet; a token of this kind, 1 to 3; an identifier with a medial after it that waits for the next character:
+// WAITING, and the kind of token that the medial itself begins.
+const NOTHING: u32 = 0;
+
 const IDENTIFIER: u32 = 1;
 
 const WAITING: u32 = 4;
 
-// The turn by state and traits. No token is complete: the one under way goes on, or the first begins (GOES_ON); the one under way is
-// complete, and another begins (BEGINS); a medial waits (WAITS); the one that waits is settled, and the character comes again
-// (SETTLES); no token begins.
+// What a character does, by the state and its traits. No token is complete, since the one under way goes on or the first begins: GOES_ON.
+// The one under way is complete, and another begins: BEGINS. A medial waits: WAITS. The one that waits is settled, and the character comes
+// again: SETTLES. No token begins: any other.
 const TURNS: [u8; 128] = [
     4,
     0,
@@ -160,6 +162,8 @@ const TURNS: [u8; 128] = [
     3,
 ];
 
+const GOES_ON: usize = 0;
+
 const BEGINS: usize = 1;
 
 const WAITS: usize = 2;
@@ -227,7 +231,7 @@ fn state_after(after: &[u32; 16], traits: u32) -> u32
 fn count_pending(state: u32) -> usize
     ensures { λ r. ⌜ r ≡ pendingOf state ⌝ }
 {
-    if state == 0 {
+    if state == NOTHING {
         return 0;
     }
     if state < WAITING {
@@ -257,7 +261,7 @@ pub fn count_tokens<'a>(image: &'a [u8], table: &'a [u8; 128], text: &'a [u8]) -
     let turns = TURNS;
     let after = AFTER;
     let mut memo = character::no_memo();
-    let mut state: u32 = 0;
+    let mut state = NOTHING;
     let mut count: usize = 0;
     let mut mid = 0;
     let mut at = 0;
@@ -325,7 +329,7 @@ fn put_waiting(out: &mut [u32], w: usize, state: u32, mid: usize, at: usize)
 fn pick_start(turn: usize, start: usize, at: usize) -> usize
     ensures { λ r. ⌜ r ≡ startBy turn start at ⌝ }
 {
-    if turn == 0 {
+    if turn == GOES_ON {
         return start;
     }
     at
@@ -344,7 +348,7 @@ pub fn write_tokens<'a>(image: &'a [u8], table: &'a [u8; 128], text: &'a [u8], o
     let turns = TURNS;
     let after = AFTER;
     let mut memo = character::no_memo();
-    let mut state: u32 = 0;
+    let mut state = NOTHING;
     let mut start = 0;
     let mut mid = 0;
     let mut at = 0;
@@ -392,7 +396,7 @@ pub fn write_tokens<'a>(image: &'a [u8], table: &'a [u8; 128], text: &'a [u8], o
 fn end_first(state: u32, mid: usize, at: usize) -> First
     ensures { λ r. ⌜ r ≡ pendingFirst state mid at ⌝ }
 {
-    if state == 0 {
+    if state == NOTHING {
         return First::NoToken;
     }
     if state < WAITING {
@@ -416,7 +420,7 @@ pub fn first_token<'a>(image: &'a [u8], table: &'a [u8; 128], text: &'a [u8]) ->
     let turns = TURNS;
     let after = AFTER;
     let mut memo = character::no_memo();
-    let mut state: u32 = 0;
+    let mut state = NOTHING;
     let mut mid = 0;
     let mut at = 0;
     while at < text.len() {
@@ -431,7 +435,7 @@ pub fn first_token<'a>(image: &'a [u8], table: &'a [u8; 128], text: &'a [u8]) ->
         memo = c.memo;
         let next = at + len;
         let turn = find_turn(&turns, state, c.traits);
-        if turn == 0 {
+        if turn == GOES_ON {
             state = state_after(&after, c.traits);
             at = next;
             continue;

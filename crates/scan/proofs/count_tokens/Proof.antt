@@ -1,7 +1,7 @@
 -- `scan::count_tokens` meets its contract. The loop's invariant: the count is that of the tokens that are complete.
 -- Assumes nothing.
 use Prim.Native.Nat.{ℕ, _+_, _-_, _*_, _/_}
-use mathlib.Core.Path.{_≡_, refl, ap, _∙_}
+use mathlib.Core.Path.{refl, ap, _∙_}
 use native.Mathlib.Omega.{arith}
 use borrow.Author.Needs.{needs}
 use lib.ListN.{length}
@@ -9,22 +9,7 @@ use Rattle.character.specs.Read.{MemoOf}
 use Rattle.scan.specs.declared.Counted.the-variants.{Refused, Tokens}
 use Rattle.scan.specs.Turns.{waiting}
 use Rattle.scan.proofs.ReachLaws.{Here, here, here-small, Look}
-use Rattle.scan.proofs.CountLaws.{
-  Counting,
-  counting-begins,
-  counting-few,
-  counting-less,
-  counts-ill,
-  counting-settles,
-  counts-left,
-  settles-end,
-  pending-few,
-  counts-end,
-  counting-turn,
-  counting-waits,
-  waits-here,
-  counts-stop,
-}
+use Rattle.scan.proofs.CountLaws.{Counting, counting-begins, counting-few, counting-less, counts-ill, counting-settles, counts-left, settles-end, pending-few, counts-end, counting-turn, counting-waits, waits-here, counts-stop}
 use Rattle.scan.proofs.count_tokens.Statement.{statement}
 use Rattle.scan.proofs.count_tokens.Tie as tie
 

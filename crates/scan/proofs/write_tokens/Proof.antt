@@ -1,7 +1,7 @@
 -- `scan::write_tokens` meets its contract. The loop's invariant: the buffer holds the words of the tokens that are complete and, after
 -- them, those of the one under way. Assumes nothing.
-use Prim.Native.Nat.{ℕ, _+_, _-_, _*_, _/_}
-use mathlib.Core.Path.{_≡_, refl}
+use Prim.Native.Nat.{_+_, _-_, _*_, _/_}
+use mathlib.Core.Path.{refl}
 use native.Mathlib.Omega.{arith}
 use borrow.Author.Needs.{needs}
 use lib.ListN.{length}
@@ -9,25 +9,7 @@ use Rattle.character.specs.Read.{MemoOf}
 use Rattle.grammar.specs.Record.{recordSize}
 use Rattle.scan.specs.Turns.{waiting}
 use Rattle.scan.proofs.ReachLaws.{Here, here, here-small, Look, at-ill, at-end}
-use Rattle.scan.proofs.WriteLaws.{
-  Writing,
-  Due,
-  writing-begins,
-  due-bounds,
-  due-fits,
-  due-room,
-  due-part,
-  due-put,
-  writing-less,
-  due-settles,
-  writes-left,
-  last-fits,
-  writes-last,
-  due-turn,
-  writing-waits,
-  waits-here,
-  writes-stop,
-}
+use Rattle.scan.proofs.WriteLaws.{Writing, Due, writing-begins, due-bounds, due-fits, due-room, due-part, due-put, writing-less, due-settles, writes-left, last-fits, writes-last, due-turn, writing-waits, waits-here, writes-stop}
 use Rattle.scan.proofs.write_tokens.Statement.{statement}
 use Rattle.scan.proofs.write_tokens.Tie as tie
 
