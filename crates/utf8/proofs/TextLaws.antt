@@ -164,9 +164,6 @@ characters-few s = encoded-few (decode-means s)
 pub decode-covers : (s : List ℕ) → Covers s (widthOf (decode s .characters)) (decode s .rest)
 decode-covers s = encoded-covers (decode-means s)
 
-pub covers : (s : List ℕ) → Covers s (widthOf (decode s .characters)) (decode s .rest)
-covers = decode-covers
-
 -- the text up to its first ill-formed place is well-formed, with the same characters
 pub decode-before-ill : (s : List ℕ) → decode (take (widthOf (decode s .characters)) s) ≡ record { characters = decode s .characters; rest = [] }
 decode-before-ill s = means-decode (encoded-before (decode-means s))
