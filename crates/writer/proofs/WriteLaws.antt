@@ -1,6 +1,6 @@
 -- What the writer's answers say of the words, the profile and the buffer, exactly when. Assumes nothing.
 use Prim.Native.Nat.{ℕ, _%_, _≤_}
-use mathlib.Core.Path.{_≡_, refl, ap, _∙_}
+use mathlib.Core.Path.{_≡_, refl, sym, ap, _∙_}
 use mathlib.Core.List.{List}
 use mathlib.Core.Bool.{Bool, true, false, cond}
 use mathlib.Core.Option.{Option, none, some}
@@ -33,12 +33,12 @@ use Rattle.writer.specs.Writable.{
 }
 use Rattle.writer.specs.Write.{rangesIn, bytesNeeded, writeRefusal, writtenBy, writeOf, bytesBy, bytesAfter}
 
-module _ (version : ℕ) (words : List ℕ) (p : Profile) (out : List ℕ) where
+module _ (words : List ℕ) (p : Profile) (room : ℕ) where
   -- what is left to refuse after the records, each count and the shape
-  abbrev afterRecords : Option Refusal
-  afterRecords = cond (leb (bytesNeeded words p) (length out)) none (some (refusal.Buffer (bytesNeeded words p)))
+  abbrev pub afterRecords : Option Refusal
+  afterRecords = cond (leb (bytesNeeded words p) room) none (some (refusal.Buffer (bytesNeeded words p)))
 
-  abbrev afterCounts : Option Refusal
+  abbrev pub afterCounts : Option Refusal
   afterCounts = recordsRefusal (rangeIn words) (rangesIn words) (pointIn p) (roleIn p) (p .used) afterRecords
 
   abbrev afterFirst : Option Refusal
@@ -47,79 +47,89 @@ module _ (version : ℕ) (words : List ℕ) (p : Profile) (out : List ℕ) where
   abbrev afterShape : Option Refusal
   afterShape = cond (leb (rangesIn words) maxRanges) afterFirst (some refusal.Header)
 
-  -- what the answer and the buffer say, where it is known what refuses
-  abbrev By : Option Refusal → Type 0
-  By o = WriteMeans version words p out (writtenBy words p o) (bytesBy version words p out o)
-
-  by-room : Writable words p → (b : Bool) → leb (bytesNeeded words p) (length out) ≡ b → By (cond b none (some (refusal.Buffer (bytesNeeded words p))))
-  by-room w true e = is-written w (leb-true _ _ e)
-  by-room w false e = lacks-room w (leb-false _ _ e)
-
-  by-records : Counted words p → By afterCounts
-  by-records h =
-      records-mean (rangeIn words) (rangesIn words) (pointIn p) (roleIn p) (p .used) afterRecords By (λ i f. bad-range h f) (λ g i f. bad-entry h g f)
-      (λ g k. by-room (record { counted = h; ranges = g; entries = k }) _ refl)
-
-  by-used : Shaped words → rangesIn words ≤ maxRanges → (b : Bool) → leb (p .used) maxEntries ≡ b → By (cond b afterCounts (some refusal.Header))
-  by-used t n true e = by-records (record { shaped = t; few-ranges = n; few-entries = leb-true _ _ e })
-  by-used t n false e = many-entries t (leb-false _ _ e)
-
-  by-count : Shaped words → (b : Bool) → leb (rangesIn words) maxRanges ≡ b → By (cond b afterFirst (some refusal.Header))
-  by-count t true e = by-used t (leb-true _ _ e) _ refl
-  by-count t false e = many-ranges t (leb-false _ _ e)
-
-  by-shape : (b : Bool) → eqb (length words % wordsPerRange) 0 ≡ b → By (cond b afterShape (some refusal.Shape))
-  by-shape true e = by-count (eqb-true _ _ e) _ refl
-  by-shape false e = bad-shape (eqb-false _ _ e)
-
-  -- what the answer and the buffer say
-  pub write-means : (a : Written) (b : List ℕ) → writeOf words p (length out) ≡ a → bytesAfter version words p out ≡ b → WriteMeans version words p out a b
-  unfolding writeOf bytesAfter writeRefusal
-  write-means a b e f = rw (← e, ← f) (by-shape _ refl)
-
-  write-by :
-      (o : Option Refusal) → writeRefusal words p (length out) ≡ o
-      → (writeOf words p (length out) ≡ writtenBy words p o) × (bytesAfter version words p out ≡ bytesBy version words p out o)
-  unfolding writeOf bytesAfter
-  write-by o e = (ap (writtenBy words p) e, ap (bytesBy version words p out) e)
-
-  past-shape : Shaped words → writeRefusal words p (length out) ≡ afterShape
+  past-shape : Shaped words → writeRefusal words p room ≡ afterShape
   unfolding writeRefusal
   past-shape t = simp (eq-eqb (length words % wordsPerRange) 0 t)
 
-  past-counts : Counted words p → writeRefusal words p (length out) ≡ afterCounts
+  pub past-counts : Counted words p → writeRefusal words p room ≡ afterCounts
   past-counts h = past-shape (h .shaped) ∙ simp (le-leb _ _ (h .few-ranges), le-leb _ _ (h .few-entries))
 
-  past-records : Writable words p → writeRefusal words p (length out) ≡ afterRecords
+  past-records : Writable words p → writeRefusal words p room ≡ afterRecords
   past-records w = past-counts (w .counted) ∙ none-refused _ _ _ _ _ afterRecords (w .ranges) (w .entries)
 
   few-or-many : (b : Bool) → afterFirst ≡ some refusal.Header → cond b afterFirst (some refusal.Header) ≡ some refusal.Header
   few-or-many true e = e
   few-or-many false e = refl
 
+  -- the answer, where it is known what refuses
+  pub answer-by : (o : Option Refusal) → writeRefusal words p room ≡ o → writtenBy words p o ≡ writeOf words p room
+  unfolding writeOf
+  answer-by o e = ap (writtenBy words p) (sym e)
+
+module _ (version : ℕ) (words : List ℕ) (p : Profile) (out : List ℕ) where
+  abbrev room : ℕ
+  room = length out
+
+  -- what the answer and the buffer say, where it is known what refuses
+  abbrev By : Option Refusal → Type 0
+  By o = WriteMeans version words p out (writtenBy words p o) (bytesBy version words p out o)
+
+  by-room : Writable words p → (b : Bool) → leb (bytesNeeded words p) room ≡ b → By (cond b none (some (refusal.Buffer (bytesNeeded words p))))
+  by-room w true e = is-written w (leb-true _ _ e)
+  by-room w false e = lacks-room w (leb-false _ _ e)
+
+  by-records : Counted words p → By (afterCounts words p room)
+  by-records h =
+      records-mean (rangeIn words) (rangesIn words) (pointIn p) (roleIn p) (p .used) (afterRecords words p room) By (λ i f. bad-range h f) (λ g i f. bad-entry h g f)
+      (λ g k. by-room (record { counted = h; ranges = g; entries = k }) _ refl)
+
+  by-used : Shaped words → rangesIn words ≤ maxRanges → (b : Bool) → leb (p .used) maxEntries ≡ b → By (cond b (afterCounts words p room) (some refusal.Header))
+  by-used t n true e = by-records (record { shaped = t; few-ranges = n; few-entries = leb-true _ _ e })
+  by-used t n false e = many-entries t (leb-false _ _ e)
+
+  by-count : Shaped words → (b : Bool) → leb (rangesIn words) maxRanges ≡ b → By (cond b (afterFirst words p room) (some refusal.Header))
+  by-count t true e = by-used t (leb-true _ _ e) _ refl
+  by-count t false e = many-ranges t (leb-false _ _ e)
+
+  by-shape : (b : Bool) → eqb (length words % wordsPerRange) 0 ≡ b → By (cond b (afterShape words p room) (some refusal.Shape))
+  by-shape true e = by-count (eqb-true _ _ e) _ refl
+  by-shape false e = bad-shape (eqb-false _ _ e)
+
+  -- what the answer and the buffer say
+  pub write-means : (a : Written) (b : List ℕ) → writeOf words p room ≡ a → bytesAfter version words p out ≡ b → WriteMeans version words p out a b
+  unfolding writeOf bytesAfter writeRefusal
+  write-means a b e f = rw (← e, ← f) (by-shape _ refl)
+
+  write-by :
+      (o : Option Refusal) → writeRefusal words p room ≡ o
+      → (writeOf words p room ≡ writtenBy words p o) × (bytesAfter version words p out ≡ bytesBy version words p out o)
+  unfolding writeOf bytesAfter
+  write-by o e = (ap (writtenBy words p) e, ap (bytesBy version words p out) e)
+
   -- and back: where it is so, those are they
   pub means-write :
-      (a : Written) (b : List ℕ) → WriteMeans version words p out a b → (writeOf words p (length out) ≡ a) × (bytesAfter version words p out ≡ b)
+      (a : Written) (b : List ℕ) → WriteMeans version words p out a b → (writeOf words p room ≡ a) × (bytesAfter version words p out ≡ b)
   unfolding writeRefusal
   means-write _ _ (bad-shape n) = write-by (some refusal.Shape) (simp (ne-eqb (length words % wordsPerRange) 0 n))
-  means-write _ _ (many-ranges t l) = write-by (some refusal.Header) (past-shape t ∙ simp (lt-leb _ _ l))
-  means-write _ _ (many-entries t l) = write-by (some refusal.Header) (past-shape t ∙ few-or-many (leb (rangesIn words) maxRanges) (simp (lt-leb _ _ l)))
-  means-write _ _ (bad-range {i} h f) = write-by _ (past-counts h ∙ range-refused _ _ _ _ _ afterRecords i f)
-  means-write _ _ (bad-entry {i} h g f) = write-by _ (past-counts h ∙ entry-refused _ _ _ _ _ afterRecords g i f)
-  means-write _ _ (lacks-room w l) = write-by (some (refusal.Buffer (bytesNeeded words p))) (past-records w ∙ simp (lt-leb _ _ l))
-  means-write _ _ (is-written w l) = write-by none (past-records w ∙ simp (le-leb _ _ l))
+  means-write _ _ (many-ranges t l) = write-by (some refusal.Header) (past-shape words p room t ∙ simp (lt-leb _ _ l))
+  means-write _ _ (many-entries t l) =
+      write-by (some refusal.Header) (past-shape words p room t ∙ few-or-many words p room (leb (rangesIn words) maxRanges) (simp (lt-leb _ _ l)))
+  means-write _ _ (bad-range {i} h f) = write-by _ (past-counts words p room h ∙ range-refused _ _ _ _ _ _ i f)
+  means-write _ _ (bad-entry {i} h g f) = write-by _ (past-counts words p room h ∙ entry-refused _ _ _ _ _ _ g i f)
+  means-write _ _ (lacks-room w l) = write-by (some (refusal.Buffer (bytesNeeded words p))) (past-records words p room w ∙ simp (lt-leb _ _ l))
+  means-write _ _ (is-written w l) = write-by none (past-records words p room w ∙ simp (le-leb _ _ l))
 
   -- a refused call leaves the buffer as it was
-  pub write-kept : (r : Refusal) → writeOf words p (length out) ≡ written.Refused r → bytesAfter version words p out ≡ out
+  pub write-kept : (r : Refusal) → writeOf words p room ≡ written.Refused r → bytesAfter version words p out ≡ out
   write-kept r e = go _ refl
     where
-      go : (o : Option Refusal) → writeRefusal words p (length out) ≡ o → bytesAfter version words p out ≡ out
+      go : (o : Option Refusal) → writeRefusal words p room ≡ o → bytesAfter version words p out ≡ out
       go none f = let g = write-by none f .0 in impossible (cc)
       go (some q) f = write-by (some q) f .1
 
   -- an answer with a length: what was written
   pub written-means :
-      (len : ℕ) → writeOf words p (length out) ≡ written.Image len
+      (len : ℕ) → writeOf words p room ≡ written.Image len
       → Writable words p × (len ≡ bytesNeeded words p) × (len ≤ length out) × (bytesAfter version words p out ≡ bytesBy version words p out none)
   written-means len e = go len _ (write-means (written.Image len) _ e refl)
     where
