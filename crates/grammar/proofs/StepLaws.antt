@@ -77,7 +77,8 @@ module _ {A K : Type 0} (L : Local A K) where
   meant-after t (moves us q) r = refl
   meant-after t (stops us d l) r = refl
 
-  grows : (k : K) (u : List A) (c : A) (r : List A) → moreBy L k (c ∷ r) ≡ true → resumed k u (walk R (some k) (c ∷ r)) ≡ resumed k (u ++ c ∷ []) (walk R (some k) r)
+  grows : (k : K) (u : List A) (c : A) (r : List A) → moreBy L k (c ∷ r) ≡ true →
+      resumed k u (walk R (some k) (c ∷ r)) ≡ resumed k (u ++ c ∷ []) (walk R (some k) r)
   grows k u c r e =
       let w = walk R (some k) r in
       ap (resumed k u) (walk-more R (some k) c r e) ∙ ap (λ x. tokensLeft (tok k x ∷ w .tokens) (w .left)) (sym (append-assoc u (c ∷ []) (w .run)))
@@ -86,7 +87,8 @@ module _ {A K : Type 0} (L : Local A K) where
   ends-before : (k : K) (u : List A) (w : Reading A K) → w .run ≡ [] → resumed k u w ≡ preceded (tok k u ∷ []) w
   ends-before k u w e = (λ i. record { run = sym e i; tokens = tok k ((ap (λ x. u ++ x) e ∙ append-nil u) i) ∷ w .tokens; left = w .left })
 
-  ends : (k : K) (u : List A) (c : A) (r : List A) → moreBy L k (c ∷ r) ≡ false → resumed k u (walk R (some k) (c ∷ r)) ≡ preceded (tok k u ∷ []) (reading R (c ∷ r))
+  ends : (k : K) (u : List A) (c : A) (r : List A) → moreBy L k (c ∷ r) ≡ false →
+      resumed k u (walk R (some k) (c ∷ r)) ≡ preceded (tok k u ∷ []) (reading R (c ∷ r))
   ends k u c r e = ap (resumed k u) (walk-ends R (some k) c r e) ∙ ends-before k u (reading R (c ∷ r)) (run-none R (c ∷ r))
 
   begins : (c : A) (r : List A) → reading R (c ∷ r) ≡ meant (begin L (L .kindOf c) c) r
@@ -128,7 +130,8 @@ module _ {A K : Type 0} (L : Local A K) where
   read-step (under k u) c r = continues k u c r
   read-step (held k u d) c r = go (L .goes k c) refl
     where
-      go : (b : Bool) → L .goes k c ≡ b → heldBy b k u d (c ∷ r) ≡ meant (cond b (moves [] (under k (u ++ d ∷ c ∷ []))) (after (tok k u ∷ []) (resume L (L .kindOf d) d c))) r
+      go : (b : Bool) → L .goes k c ≡ b →
+          heldBy b k u d (c ∷ r) ≡ meant (cond b (moves [] (under k (u ++ d ∷ c ∷ []))) (after (tok k u ∷ []) (resume L (L .kindOf d) d c))) r
       go true e = grows k (u ++ d ∷ []) c r (rw e) ∙ ap (λ x. resumed k x (walk R (some k) r)) (append-assoc u (d ∷ []) (c ∷ []))
       go false e = ap (preceded (tok k u ∷ [])) (resumes d c r) ∙ meant-after (tok k u) (resume L (L .kindOf d) d c) r
 
@@ -144,7 +147,8 @@ module _ {A K : Type 0} (L : Local A K) where
   read-settles (under k u) s e = refl
   read-settles (held k u d) s e = ap (λ b. heldBy b k u d s) e ∙ completes k u d s
 
-  pub settles-first : (k : K) (u : List A) (d : A) (s : List A) → goesFirst L k s ≡ false → readFrom (held k u d) s ≡ preceded (tok k u ∷ []) (readFrom idle (d ∷ s))
+  pub settles-first : (k : K) (u : List A) (d : A) (s : List A) → goesFirst L k s ≡ false →
+      readFrom (held k u d) s ≡ preceded (tok k u ∷ []) (readFrom idle (d ∷ s))
   unfolding readFrom
   settles-first k u d s e = ap (λ b. heldBy b k u d s) e
 

@@ -22,7 +22,7 @@ use Rattle.grammar.proofs.RecordLaws.{tokens-append}
 use Rattle.grammar.proofs.FewLaws.{few-tokens}
 use Rattle.grammar.proofs.StepLaws.{Settles}
 use Rattle.scan.specs.declared.Counted.the-variants.{Refused, Tokens as Counted}
-use Rattle.scan.specs.Turns.{numberBy, waiting, states, kindFor, afterOf, pendingOf}
+use Rattle.scan.specs.Turns.{numberBy, waiting, states, waitingOf, afterOf, pendingOf}
 use Rattle.scan.specs.Counted.{countedBy, readThrough, countThrough, stopRefusal}
 use Rattle.scan.proofs.TurnLaws.{Tokens, Under, L, Stands, pending-by, phase-of, stands-less, doneBy, left}
 use Rattle.scan.proofs.ReachLaws.{charactersAt, Place, Look, at-end, Reached, reached-begins, After, complete-few, after-settling, left-settled, settles-none, read-end, after-turn, after-waiting, settles-here, left-here}
@@ -35,7 +35,8 @@ pub record Counting (s text : List ℕ) (state count mid at : ℕ) : Type 0 wher
   pub counted : count ≡ length tokens
 
 -- no token begins at a place: 6 if the text from there on has an ill-formed place, else 7
-stop-by : (p : ℕ) (f : Text) (ts : Tokens) (c : Character) (l : List Character) → tokensWidth ts ≡ p → unless (formRefusalBy (shift p f)) (judged ts (c ∷ l)) ≡ refused (stopRefusal p f)
+stop-by : (p : ℕ) (f : Text) (ts : Tokens) (c : Character) (l : List Character) → tokensWidth ts ≡ p →
+    unless (formRefusalBy (shift p f)) (judged ts (c ∷ l)) ≡ refused (stopRefusal p f)
 stop-by p form.WellFormed ts c l w = rw w
 stop-by p (form.IllFormed n) ts c l w = refl
 
@@ -60,7 +61,8 @@ module _ {s text : List ℕ} {state count mid at : ℕ} (i : Counting s text sta
   unfolding countThrough readThrough
   counts-ill e = rw (← i .reached .place .form, ill-here text at e)
 
-  pub counting-after : {r state′ start′ mid′ at′ : ℕ} → After s text (i .tokens) (i .under-way) r state′ start′ mid′ at′ → Counting s text state′ (count + r) mid′ at′
+  pub counting-after : {r state′ start′ mid′ at′ : ℕ} → After s text (i .tokens) (i .under-way) r state′ start′ mid′ at′ →
+      Counting s text state′ (count + r) mid′ at′
   counting-after {r} a =
       record {
         tokens = i .tokens ++ doneBy r (i .under-way);
@@ -124,10 +126,10 @@ module _ {s text : List ℕ} {state count mid at : ℕ} (i : Counting s text sta
     pub counting-turn : turn ≤ 1 → (n : ℕ) → n ≡ afterOf traits → Counting s text n (count + turn) mid (at + len)
     counting-turn h n e = subst (λ (n : ℕ). Counting s text n (count + turn) mid (at + len)) (sym e) (counting-after (after-turn (i .reached) k turn refl h))
 
-    pub counting-waits : turn ≡ 2 → (n : ℕ) → n ≡ kindFor traits → Counting s text (waiting + n) count at (at + len)
+    pub counting-waits : turn ≡ 2 → (n : ℕ) → n ≡ waitingOf traits → Counting s text n count at (at + len)
     counting-waits h n e =
         let x = after-waiting (i .reached) k h in
-        subst (λ (n : ℕ). Counting s text (waiting + n) count at (at + len)) (sym e) (record { tokens = i .tokens; under-way = x .0; reached = x .2; counted = i .counted })
+        subst (λ (n : ℕ). Counting s text n count at (at + len)) (sym e) (record { tokens = i .tokens; under-way = x .0; reached = x .2; counted = i .counted })
 
     pub waits-here : turn ≡ 3 → (waiting ≤ state) × Settles (L s) (i .under-way) (charactersAt text at)
     waits-here h = settles-here (i .reached) k h

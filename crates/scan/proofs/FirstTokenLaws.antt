@@ -20,7 +20,7 @@ use Rattle.grammar.specs.Reading.{rulesOf, readingOf, tokensOf}
 use Rattle.grammar.proofs.ScanLaws.{walk-nil}
 use Rattle.grammar.proofs.StepLaws.{readFrom, Settles, settles-first, finish-begins}
 use Rattle.scan.specs.declared.First.the-variants.{Nothing, IllFormed, Token}
-use Rattle.scan.specs.Turns.{Phase, phaseNamed, waiting, states, kindFor, afterOf}
+use Rattle.scan.specs.Turns.{Phase, phaseNamed, waiting, states, waitingOf, afterOf}
 use Rattle.scan.specs.First.{firstIn, firstBy, firstOf, pendingBy, pendingFirst}
 use Rattle.scan.proofs.TurnLaws.{Tokens, Under, L, Stands, kind-less, phase-of, stands-less}
 use Rattle.scan.proofs.ReachLaws.{charactersAt, Look, NoCharacter, Reached, reached-begins, tokens-come, read-end, after-turn, after-waiting, settles-here, left-here}
@@ -60,7 +60,8 @@ module _ (s text : List ℕ) where
     some-under (held k u d) i z = omega arith
 
     -- the token under way is the first
-    complete : (q : Under) → Stands s q state 0 mid at → (rest : Tokens) → tokensOf s text ≡ underWay q ++ rest → 0 < length (underWay q) → pendingFirst state mid at ≡ firstOf s text
+    complete : (q : Under) → Stands s q state 0 mid at → (rest : Tokens) → tokensOf s text ≡ underWay q ++ rest → 0 < length (underWay q) →
+        pendingFirst state mid at ≡ firstOf s text
     complete idle i rest e h = absurd (omega arith)
     complete (under k u) i rest e h =
         let w : at ≡ widthOf u = omega (arith, i .1) in
@@ -95,10 +96,10 @@ module _ {s text : List ℕ} {state mid at : ℕ} (i : Searching s text state mi
         let a = after-turn (i .reached) k 0 h (omega arith) in
         subst (λ (n : ℕ). Searching s text n mid (at + len)) (sym e) (record { under-way = a .next; reached = a .reached })
 
-    pub searching-waits : turn ≡ 2 → (n : ℕ) → n ≡ kindFor traits → Searching s text (waiting + n) at (at + len)
+    pub searching-waits : turn ≡ 2 → (n : ℕ) → n ≡ waitingOf traits → Searching s text n at (at + len)
     searching-waits h n e =
         let a = after-waiting (i .reached) k h in
-        subst (λ (n : ℕ). Searching s text (waiting + n) at (at + len)) (sym e) (record { under-way = a .0; reached = a .2 })
+        subst (λ (n : ℕ). Searching s text n at (at + len)) (sym e) (record { under-way = a .0; reached = a .2 })
 
     none-begins : Stands s idle state 0 mid at → tokensOf s text ≡ [] → pendingFirst state mid at ≡ firstOf s text
     unfolding firstOf
@@ -116,7 +117,8 @@ module _ {s text : List ℕ} {state mid at : ℕ} (i : Searching s text state mi
     first-settles : turn ≡ 3 → pendingFirst state mid at ≡ firstOf s text
     first-settles h = let x = settles-here (i .reached) k h in go (i .under-way) (i .reached .stands) (x .0) (x .1) (tokens-come (i .reached))
       where
-        go : (q : Under) → Stands s q state 0 mid at → waiting ≤ state → Settles (L s) q (charactersAt text at) → tokensOf s text ≡ readFrom (L s) q (charactersAt text at) .tokens →
+        go : (q : Under) → Stands s q state 0 mid at → waiting ≤ state → Settles (L s) q (charactersAt text at) →
+            tokensOf s text ≡ readFrom (L s) q (charactersAt text at) .tokens →
             pendingFirst state mid at ≡ firstOf s text
         go idle h w f g = absurd (omega (arith, h .0))
         go (under k u) h w f g = absurd (omega (arith, h .0, kind-less k))

@@ -22,7 +22,7 @@ use Rattle.grammar.specs.Reading.{readingOf, tokensOf}
 use Rattle.grammar.proofs.RecordLaws.{tokens-append}
 use Rattle.grammar.proofs.FewLaws.{few-tokens}
 use Rattle.grammar.proofs.StepLaws.{preceded-append, readFrom, meant, read-step, Settles, read-settles, read-finish}
-use Rattle.scan.specs.Turns.{waiting, kindFor, turnOf, afterOf}
+use Rattle.scan.specs.Turns.{waiting, waitingOf, turnOf, afterOf}
 use Rattle.scan.specs.Words.{startBy}
 use Rattle.scan.proofs.TurnLaws.{Tokens, Under, L, Stands, doneBy, Going, Moved, Turned, turned, settled, Left, left}
 
@@ -54,7 +54,8 @@ here s text at r h a p =
       stands = e;
       some-bytes = p;
       within = t .within;
-      decoded = ap (λ d. d .characters) (decode-scalar (drop at text) (r .code) (r .len) e) ∙ ap (λ (u : List ℕ). record { code = r .code; width = r .len } ∷ decode u .characters) (drop-drop (r .len) at text);
+      decoded = ap (λ d. d .characters) (decode-scalar (drop at text) (r .code) (r .len) e)
+          ∙ ap (λ (u : List ℕ). record { code = r .code; width = r .len } ∷ decode u .characters) (drop-drop (r .len) at text);
       known = a .some p .1;
       same = t .same;
     }
@@ -137,7 +138,8 @@ module _ {s text : List ℕ} {state mid at : ℕ} {ts : Tokens} {q : Under} (i :
         }
 
     -- or it begins no token
-    pub left-settled : (x : Left s state (tokensWidth ts) mid at q) → preceded ts (tokensLeft (underWay q) (x .medial ∷ charactersAt text at)) ≡ readingOf s text
+    pub left-settled : (x : Left s state (tokensWidth ts) mid at q) →
+        preceded ts (tokensLeft (underWay q) (x .medial ∷ charactersAt text at)) ≡ readingOf s text
     left-settled x = ap (λ m. preceded ts (meant (L s) m (charactersAt text at))) (sym (x .same)) ∙ read-settled
 
     pub all-settled : state ≡ waiting → tokensOf s text ≡ ts ++ underWay q
@@ -182,7 +184,8 @@ module _ {s text : List ℕ} {state mid at : ℕ} {ts : Tokens} {q : Under} (i :
     moves-on : (us : Tokens) (p : Under) → step (L s) q unit ≡ moves us p → preceded ts (meant (L s) (moves us p) next) ≡ readingOf s text
     moves-on us p e = ap (λ m. preceded ts (meant (L s) m next)) (sym e) ∙ read-on
 
-    after-moving : (r : ℕ) → Moved s unit traits q state (tokensWidth ts) mid at r → After s text ts q r (afterOf traits) (startBy r (tokensWidth ts) at) mid (at + len)
+    after-moving : (r : ℕ) → Moved s unit traits q state (tokensWidth ts) mid at r →
+        After s text ts q r (afterOf traits) (startBy r (tokensWidth ts) at) mid (at + len)
     after-moving r x =
         record {
           next = x .next;
@@ -199,7 +202,7 @@ module _ {s text : List ℕ} {state mid at : ℕ} {ts : Tokens} {q : Under} (i :
     after-turn (suc (suc r)) e h = absurd (omega arith)
 
     -- a medial waits
-    pub after-waiting : turn ≡ 2 → (p : Under) × (underWay p ≡ underWay q) × Reached s text (waiting + kindFor traits) at (at + len) ts p
+    pub after-waiting : turn ≡ 2 → (p : Under) × (underWay p ≡ underWay q) × Reached s text (waitingOf traits) at (at + len) ts p
     after-waiting e =
         let x = turn-is 2 e in
         (x .next, x .kept, record { place = place-next; medial = i .place; stands = x .stands; same = moves-on [] (x .next) (x .same) })
@@ -212,7 +215,8 @@ module _ {s text : List ℕ} {state mid at : ℕ} {ts : Tokens} {q : Under} (i :
     pub left-here : 4 ≤ turn → (at ≡ tokensWidth ts + tokensWidth (underWay q)) × (preceded ts (tokensLeft (underWay q) (unit ∷ next)) ≡ readingOf s text)
     left-here h = go turn refl h
       where
-        go : (r : ℕ) → turn ≡ r → 4 ≤ r → (at ≡ tokensWidth ts + tokensWidth (underWay q)) × (preceded ts (tokensLeft (underWay q) (unit ∷ next)) ≡ readingOf s text)
+        go : (r : ℕ) → turn ≡ r → 4 ≤ r →
+            (at ≡ tokensWidth ts + tokensWidth (underWay q)) × (preceded ts (tokensLeft (underWay q) (unit ∷ next)) ≡ readingOf s text)
         go (suc (suc (suc (suc n)))) e l = let x = turn-is (suc (suc (suc (suc n)))) e in (x .1, ap (λ m. preceded ts (meant (L s) m next)) (sym (x .0)) ∙ read-on)
         go zero e l = absurd (omega arith)
         go (suc zero) e l = absurd (omega arith)

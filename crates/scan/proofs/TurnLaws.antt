@@ -24,7 +24,7 @@ use Rattle.grammar.proofs.GrammarLaws.{white-means}
 use Rattle.grammar.proofs.RecordLaws.{width-append}
 use Rattle.grammar.proofs.StepLaws.{Settles}
 use Rattle.scan.specs.Words.{startBy}
-use Rattle.scan.specs.Turns.{numberBy, traitMeaning, kindFor, Phase, nothing, within, waits, waiting, states, phaseNamed, begunBy, turnBy, turnOf, afterOf, pendingBy, pendingOf}
+use Rattle.scan.specs.Turns.{numberBy, traitMeaning, waitingOf, Phase, nothing, within, waits, waiting, states, phaseNamed, begunBy, turnBy, turnOf, afterOf, pendingBy, pendingOf}
 
 abbrev pub Tokens : Type 0
 Tokens = List (Tok Character Kind)
@@ -128,7 +128,7 @@ module _ (s : List ℕ) (c : Character) (t : ℕ) (q : Under) (state start mid a
     pub next : Under
     pub same : step (L s) q c ≡ moves [] next
     pub kept : underWay next ≡ underWay q
-    pub stands : Stands s next (waiting + kindFor t) start at (at + c .width)
+    pub stands : Stands s next (waitingOf t) start at (at + c .width)
 
   -- what each turn says of the step
   abbrev pub Turned : ℕ → Type 0
@@ -151,12 +151,12 @@ module _ (s : List ℕ) (accepted : refusalOf s ≡ none) (c : Character) (t : �
   unfolding meaningOf
   medial-of = ap (leb 8) e ∙ traits-medial s (c .code) accepted
 
-  kind-of : kindFor t ≡ numberBy (kindOf M c)
-  unfolding kindFor
-  kind-of = ap (λ a. numberBy (kindOfClass a)) class-of
+  waiting-of : waitingOf t ≡ waiting + numberBy (kindOf M c)
+  unfolding waitingOf
+  waiting-of = ap (λ a. waiting + numberBy (kindOfClass a)) class-of
 
   after-of : afterOf t ≡ afterClass (M .class c)
-  unfolding afterOf kindFor
+  unfolding afterOf
   after-of = ap afterClass class-of
 
   goes-of : (k : Kind) → goesWith traitMeaning k t ≡ goesWith M k c
@@ -194,9 +194,10 @@ module _ (s : List ℕ) (accepted : refusalOf s ≡ none) (c : Character) (t : �
     ends-by k u none g f l p = (rw (f, l, g), omega arith)
     ends-by k u (some j) g f l p = record { next = under j (c ∷ []); same = rw (f, l, g); going = tt; size = refl; began = omega arith; stands = (after-begins j g, omega arith) }
 
-    waits-by : (k : Kind) (u : List Character) → goesWith M k c ≡ false → linksWith M k c ≡ true → at ≡ start + widthOf u → Turned s c t (under k u) state start mid at 2
+    waits-by : (k : Kind) (u : List Character) → goesWith M k c ≡ false → linksWith M k c ≡ true → at ≡ start + widthOf u →
+        Turned s c t (under k u) state start mid at 2
     unfolding step
-    waits-by identifier u f l p = record { next = held identifier u c; same = rw (f, l); kept = refl; stands = (ap (λ (n : ℕ). waiting + n) kind-of, p, refl, refl) }
+    waits-by identifier u f l p = record { next = held identifier u c; same = rw (f, l); kept = refl; stands = (waiting-of, p, refl, refl) }
     waits-by syntax u f l p = impossible (cc)
     waits-by whitespace u f l p = impossible (cc)
 
@@ -206,7 +207,8 @@ module _ (s : List ℕ) (accepted : refusalOf s ≡ none) (c : Character) (t : �
     by-state idle i = begins-by (kindOf M c) refl (i .1)
     by-state (under k u) i = go (goesWith M k c) (linksWith M k c) refl refl
       where
-        go : (a b : Bool) → goesWith M k c ≡ a → linksWith M k c ≡ b → Turned s c t (under k u) state start mid at (cond a 0 (cond b 2 (begunBy 1 (kindOf M c))))
+        go : (a b : Bool) → goesWith M k c ≡ a → linksWith M k c ≡ b →
+            Turned s c t (under k u) state start mid at (cond a 0 (cond b 2 (begunBy 1 (kindOf M c))))
         go true b f l = record { next = under k (u ++ c ∷ []); same = rw f; going = tt; size = refl; began = omega arith; stands = (after-goes k f, omega (arith, width-append u (c ∷ []), i .1)) }
         go false true f l = waits-by k u f l (i .1)
         go false false f l = ends-by k u (kindOf M c) refl f l (i .1)

@@ -18,7 +18,7 @@ use Rattle.grammar.specs.Record.{recordSize, tokensWidth, recordsFrom, wordsOf,
 use Rattle.grammar.specs.Reading.{meaningOf, tokensOf}
 use Rattle.grammar.proofs.RecordLaws.{length-records, length-words, length-listed, listed-append}
 use Rattle.grammar.proofs.StepLaws.{Settles, readFrom, first-comes}
-use Rattle.scan.specs.Turns.{numberBy, waiting, states, kindFor, afterOf}
+use Rattle.scan.specs.Turns.{numberBy, waiting, states, waitingOf, afterOf}
 use Rattle.scan.specs.Words.{tokenWords, waitingBy, waitingWords, startBy}
 use Rattle.scan.proofs.TurnLaws.{Tokens, Under, L, Stands, kind-less, stands-less, doneBy, Going}
 use Rattle.scan.proofs.ReachLaws.{charactersAt, Look, NoCharacter, Reached, reached-begins, After, tokens-come, after-settling, all-settled, read-end, after-turn, after-waiting, settles-here, left-here}
@@ -41,16 +41,19 @@ laid-again out xs ys at fits few =
     let m : n + (at + length xs) ≡ at + length ys = omega arith in
     let k : at + length xs + n ≡ at + length ys = omega arith in
     let u : drop (at + length ys) x ≡ drop (at + length ys) out =
-    ap (λ (j : ℕ). drop j x) (sym k) ∙ sym (drop-drop n (at + length xs) x) ∙ ap (drop n) (drop-at (take at out ++ xs) d (at + length xs) l) ∙ drop-drop n (at + length xs) out ∙ ap (λ (j : ℕ). drop j out) k in
+    ap (λ (j : ℕ). drop j x) (sym k) ∙ sym (drop-drop n (at + length xs) x) ∙ ap (drop n) (drop-at (take at out ++ xs) d (at + length xs) l)
+        ∙ drop-drop n (at + length xs) out ∙ ap (λ (j : ℕ). drop j out) k in
     (λ i. (t i ++ ys) ++ u i)
 
 -- after values xs, others in place of ys
-laid-over : (out xs ys zs : List ℕ) → length xs + length zs ≤ length out → length ys ≤ length zs → laid (laid out 0 (xs ++ ys)) (length xs) zs ≡ laid out 0 (xs ++ zs)
+laid-over : (out xs ys zs : List ℕ) → length xs + length zs ≤ length out → length ys ≤ length zs →
+    laid (laid out 0 (xs ++ ys)) (length xs) zs ≡ laid out 0 (xs ++ zs)
 laid-over out xs ys zs fits few =
     let o : List ℕ = laid out 0 xs in
     let l : length o ≡ length out = length-laid out xs 0 (omega arith) in
     let z : 0 + length xs ≡ length xs = omega arith in
-    ap (λ (b : List ℕ). laid b (length xs) zs) (laid-step out xs 0 (omega arith) ys ∙ ap (λ (n : ℕ). laid o n ys) z) ∙ laid-again o ys zs (length xs) (omega arith) few
+    ap (λ (b : List ℕ). laid b (length xs) zs) (laid-step out xs 0 (omega arith) ys ∙ ap (λ (n : ℕ). laid o n ys) z)
+        ∙ laid-again o ys zs (length xs) (omega arith) few
     ∙ ap (λ (n : ℕ). laid o n zs) (sym z) ∙ sym (laid-step out xs 0 (omega arith) zs)
 
 length-from : (p : ℕ) (ts : Tokens) → length (wordsOf (recordsFrom p ts)) ≡ recordSize * length ts
@@ -83,7 +86,8 @@ module _ (out : List ℕ) (v state mid at : ℕ) where
   pub none-put : state ≤ waiting → out ≡ laid out v (waitingWords state mid at)
   none-put h = sym (ap (laid out v) (sym (none-waits state mid at h)) ∙ laid-none out v)
 
-  pub some-put : waiting < state → v + recordSize ≤ length out → (ys : List ℕ) → ys ≡ laid (take (length out - v) (drop v out)) 0 (tokenWords (state - waiting) mid at) →
+  pub some-put : waiting < state → v + recordSize ≤ length out → (ys : List ℕ) →
+      ys ≡ laid (take (length out - v) (drop v out)) 0 (tokenWords (state - waiting) mid at) →
       putMid v (length out - v) out ys ≡ laid out v (waitingWords state mid at)
   some-put h l ys e = lent out (tokenWords (state - waiting) mid at) v l ys e ∙ ap (laid out v) (sym (waits-some state mid at h))
 
@@ -98,7 +102,8 @@ module _ (s : List ℕ) (state start mid at : ℕ) where
   going-words (held k u d) g i = absurd g
 
   some-waits : (k : Kind) → state ≡ waiting + kindNumber k → tokenWords (kindNumber k) mid at ≡ waitingWords state mid at
-  some-waits k e = let z : kindNumber k ≡ state - waiting = omega arith in ap (λ (n : ℕ). tokenWords n mid at) z ∙ sym (waits-some state mid at (omega (arith, kind-less k)))
+  some-waits k e = let z : kindNumber k ≡ state - waiting = omega arith in ap (λ (n : ℕ). tokenWords n mid at) z
+      ∙ sym (waits-some state mid at (omega (arith, kind-less k)))
 
   pub held-one : (q : Under) → Stands s q state start mid at → waiting < state → length (underWay q) ≡ 1
   held-one idle i h = absurd (omega (arith, i .0))
@@ -111,13 +116,15 @@ module _ (s : List ℕ) (state start mid at : ℕ) where
   began-before (held k u d) i = omega (arith, i .1, i .2)
 
   -- where nothing follows, the last tokens are the one under way and a medial that waits
-  pub finish-words : (q : Under) → Stands s q state start mid at → wordsOf (recordsFrom start (finish (L s) q .tokens)) ≡ wordsOf (recordsFrom start (underWay q)) ++ waitingWords state mid at
+  pub finish-words : (q : Under) → Stands s q state start mid at →
+      wordsOf (recordsFrom start (finish (L s) q .tokens)) ≡ wordsOf (recordsFrom start (underWay q)) ++ waitingWords state mid at
   unfolding finish settle
   finish-words idle i = none-waits state mid at (omega (arith, i .0))
   finish-words (under k u) i = ap (λ ws. wordsOf (recordsFrom start (underWay (under k u))) ++ ws) (none-waits state mid at (omega (arith, i .0, kind-less k)))
   finish-words (held k u d) i = go (kindOf (meaningOf s) d) refl
     where
-      go : (o : Option Kind) → kindOf (meaningOf s) d ≡ o → wordsOf (recordsFrom start (finish (L s) (held k u d) .tokens)) ≡ wordsOf (recordsFrom start (underWay (held k u d))) ++ waitingWords state mid at
+      go : (o : Option Kind) → kindOf (meaningOf s) d ≡ o →
+          wordsOf (recordsFrom start (finish (L s) (held k u d) .tokens)) ≡ wordsOf (recordsFrom start (underWay (held k u d))) ++ waitingWords state mid at
       go none g = rw g (ap (λ ws. wordsOf (recordsFrom start (underWay (held k u d))) ++ ws) (none-waits state mid at (omega (arith, i .0 ∙ ap (λ (o : Option Kind). waiting + numberBy o) g))))
       go (some j) g =
           let n = i .0 ∙ ap (λ (o : Option Kind). waiting + numberBy o) g in
@@ -153,7 +160,8 @@ pub writing-begins : (s text out : List ℕ) → Writing s text out out 0 0 0 0 
 writing-begins s text out = record { tokens = []; under-way = idle; reached = reached-begins s text; began = refl; placed = refl; long = refl; same = sym (laid-none out 0) }
 
 -- the tokens that are complete and the one under way have room
-shown-fits : {s text : List ℕ} {state mid at : ℕ} {ts : Tokens} {q : Under} (n : ℕ) → recordSize * length (tokensOf s text) ≤ n → Reached s text state mid at ts q →
+shown-fits : {s text : List ℕ} {state mid at : ℕ} {ts : Tokens} {q : Under} (n : ℕ) → recordSize * length (tokensOf s text) ≤ n →
+    Reached s text state mid at ts q →
     recordSize * (length ts + length (underWay q)) ≤ n
 shown-fits {s} {text} {at = at} {ts} {q} n room i =
     let f = first-comes (L s) q (charactersAt text at) in
@@ -175,13 +183,15 @@ module _ {s text out₀ out : List ℕ} {state start mid at w : ℕ} (i : Due s 
   due-part = part-long out w due-room
 
   -- a call that was lent the buffer from there on wrote them
-  pub due-put : (ys : List ℕ) → ys ≡ laid (take (length out - w) (drop w out)) 0 (tokenWords state start at) → Writing s text out₀ (putMid w (length out - w) out ys) state start mid at w
+  pub due-put : (ys : List ℕ) → ys ≡ laid (take (length out - w) (drop w out)) 0 (tokenWords state start at) →
+      Writing s text out₀ (putMid w (length out - w) out ys) state start mid at w
   due-put ys e =
       let xs = listedWords (i .tokens) in
       let zs = tokenWords state start at in
       let l = length-listed (i .tokens) in
       let n : w ≡ length xs = i .placed ∙ sym l in
-      let g = going-words s state (tokensWidth (i .tokens)) mid at (i .under-way) (i .going) (i .reached .stands) ∙ ap (λ (p : ℕ). tokenWords state p at) (sym (i .began)) in
+      let g = going-words s state (tokensWidth (i .tokens)) mid at (i .under-way) (i .going) (i .reached .stands)
+          ∙ ap (λ (p : ℕ). tokenWords state p at) (sym (i .began)) in
       let ws = listedWords (i .tokens ++ underWay (i .under-way)) in
       let m : putMid w (length out - w) out ys ≡ laid out₀ 0 ws =
       lent out zs w due-room ys e ∙ (λ j. laid (i .same j) (n j) zs) ∙ laid-over out₀ xs (i .old) zs (omega (arith, due-fits, n)) (i .few)
@@ -210,7 +220,8 @@ module _ {s text out₀ out : List ℕ} {state start mid at w : ℕ} (i : Writin
   old-words zero = (shown, shown-few, listed-append (i .tokens) (underWay (i .under-way)) ∙ ap (λ (ts : Tokens). listedWords ts ++ shown) (sym (append-nil (i .tokens))))
   old-words (suc r) = ([], omega arith, sym (append-nil (listedWords (i .tokens ++ underWay (i .under-way)))))
 
-  pub due-after : {r state′ start′ mid′ at′ : ℕ} → After s text (i .tokens) (i .under-way) r state′ start′ mid′ at′ → (w′ : ℕ) → w′ ≡ w + recordSize * r → Due s text out₀ out state′ start′ mid′ at′ w′
+  pub due-after : {r state′ start′ mid′ at′ : ℕ} → After s text (i .tokens) (i .under-way) r state′ start′ mid′ at′ → (w′ : ℕ) → w′ ≡ w + recordSize * r →
+      Due s text out₀ out state′ start′ mid′ at′ w′
   due-after {r} a w′ e =
       let o = old-words r in
       record {
@@ -273,7 +284,8 @@ module _ {s text out₀ out : List ℕ} {state start mid at w : ℕ} (i : Writin
         go : Dec (waiting < state) → laid out (w + recordSize) ws ≡ laid out₀ 0 (xs ++ ws)
         go (no n) =
             let z : ws ≡ [] = sym (none-waits state mid at (omega arith)) in
-            ap (laid out (w + recordSize)) z ∙ laid-none out (w + recordSize) ∙ i .same ∙ ap (laid out₀ 0) (sym (append-nil xs)) ∙ ap (λ (ys : List ℕ). laid out₀ 0 (xs ++ ys)) (sym z)
+            ap (laid out (w + recordSize)) z ∙ laid-none out (w + recordSize) ∙ i .same ∙ ap (laid out₀ 0) (sym (append-nil xs))
+                ∙ ap (λ (ys : List ℕ). laid out₀ 0 (xs ++ ys)) (sym z)
         go (yes h) =
             let n = waits-one h in
             let l : w + recordSize ≡ 0 + length xs = omega (arith, i .placed, length-listed (i .tokens ++ underWay (i .under-way)), length-append (i .tokens) (underWay (i .under-way)), n .0) in
@@ -281,16 +293,17 @@ module _ {s text out₀ out : List ℕ} {state start mid at w : ℕ} (i : Writin
 
   -- a character stands here
   module _ {len traits turn : ℕ} (k : Look s text state at len traits turn) where
-    pub due-turn : turn ≤ 1 → (n : ℕ) → n ≡ afterOf traits → (p : ℕ) → p ≡ startBy turn start at → Due s text out₀ out n p mid (at + len) (w + recordSize * turn)
+    pub due-turn : turn ≤ 1 → (n : ℕ) → n ≡ afterOf traits → (p : ℕ) → p ≡ startBy turn start at →
+        Due s text out₀ out n p mid (at + len) (w + recordSize * turn)
     due-turn h n e p f =
         subst (λ (n : ℕ). Due s text out₀ out n p mid (at + len) (w + recordSize * turn)) (sym e)
         (subst (λ (p : ℕ). Due s text out₀ out (afterOf traits) p mid (at + len) (w + recordSize * turn)) (sym (f ∙ ap (λ (p : ℕ). startBy turn p at) (i .began)))
         (due-after (after-turn (i .reached) k turn refl h) (w + recordSize * turn) refl))
 
-    pub writing-waits : turn ≡ 2 → (n : ℕ) → n ≡ kindFor traits → Writing s text out₀ out (waiting + n) start at (at + len) w
+    pub writing-waits : turn ≡ 2 → (n : ℕ) → n ≡ waitingOf traits → Writing s text out₀ out n start at (at + len) w
     writing-waits h n e =
         let x = after-waiting (i .reached) k h in
-        subst (λ (n : ℕ). Writing s text out₀ out (waiting + n) start at (at + len) w) (sym e)
+        subst (λ (n : ℕ). Writing s text out₀ out n start at (at + len) w) (sym e)
         (record {
           tokens = i .tokens;
           under-way = x .0;

@@ -10,7 +10,7 @@ ghost use Rattle.image.specs.Check.{refusalOf};
 ghost use Rattle.character.specs.Read.{TableOf};
 ghost use Rattle.grammar.specs.Record.{recordSize, listedWords};
 ghost use Rattle.grammar.specs.Reading.{maxText, readingOf};
-ghost use Rattle.scan.specs.Turns.{states, waiting, kindFor, turnOf, afterOf, pendingOf, turnTable, afterTable};
+ghost use Rattle.scan.specs.Turns.{states, waiting, waitingOf, turnOf, afterOf, pendingOf, turnTable, afterTable};
 ghost use Rattle.scan.specs.Counted.{stopRefusal, countThrough};
 ghost use Rattle.scan.specs.Words.{tokenWords, waitingWords, startBy};
 ghost use Rattle.scan.specs.First.{firstOf, pendingFirst};
@@ -173,8 +173,8 @@ const SETTLES: usize = 3;
 // The state after a character, by its traits, where a token goes on or begins.
 const AFTER: [u32; 16] = [0, 1, 1, 2, 3, 0, 0, 0, 0, 1, 1, 2, 3, 0, 0, 0];
 
-// The kind of token that a character begins, by its traits, or 0.
-const KINDS: [u32; 16] = [0, 1, 0, 2, 3, 0, 0, 0, 0, 1, 0, 2, 3, 0, 0, 0];
+// The state after a medial that waits, by its traits.
+const WAITING_AFTER: [u32; 16] = [4, 5, 4, 6, 7, 4, 4, 4, 4, 5, 4, 6, 7, 4, 4, 4];
 
 // How many tokens, or why not.
 pub enum Counted {
@@ -200,15 +200,6 @@ fn widen(x: u8) -> usize
     x as usize
 }
 
-// The kind of token that a character begins, or 0.
-fn kind_begun(traits: u32) -> u32
-    requires { ⌜ traits < 16 ⌝ }
-    ensures { λ r. ⌜ r ≡ kindFor traits ⌝ }
-{
-    let kinds = KINDS;
-    kinds[traits as usize]
-}
-
 // What a character of these traits does in a state.
 fn find_turn(turns: &[u8; 128], state: u32, traits: u32) -> usize
     requires { ⌜ now turns ≡ turnTable ⌝ }
@@ -224,6 +215,15 @@ fn state_after(after: &[u32; 16], traits: u32) -> u32
     requires { ⌜ traits < 16 ⌝ }
     ensures { λ r. ⌜ r ≡ afterOf traits ⌝ }
 {
+    after[traits as usize]
+}
+
+// The state after a medial that waits.
+fn waiting_after(traits: u32) -> u32
+    requires { ⌜ traits < 16 ⌝ }
+    ensures { λ r. ⌜ r ≡ waitingOf traits ⌝ }
+{
+    let after = WAITING_AFTER;
     after[traits as usize]
 }
 
@@ -281,7 +281,7 @@ pub fn count_tokens<'a>(image: &'a [u8], table: &'a [u8; 128], text: &'a [u8]) -
             continue;
         }
         if turn == WAITS {
-            state = WAITING + kind_begun(c.traits);
+            state = waiting_after(c.traits);
             mid = at;
             at = next;
             continue;
@@ -299,7 +299,8 @@ pub fn count_tokens<'a>(image: &'a [u8], table: &'a [u8; 128], text: &'a [u8]) -
     if state == WAITING {
         return Counted::Refused(refuse_at(text, mid));
     }
-    Counted::Tokens(count + count_pending(state))
+    let all = count + count_pending(state);
+    Counted::Tokens(all)
 }
 
 // The words of a token at the front of a part of the buffer.
@@ -372,7 +373,7 @@ pub fn write_tokens<'a>(image: &'a [u8], table: &'a [u8; 128], text: &'a [u8], o
             continue;
         }
         if turn == WAITS {
-            state = WAITING + kind_begun(c.traits);
+            state = waiting_after(c.traits);
             mid = at;
             at = next;
             continue;
@@ -441,7 +442,7 @@ pub fn first_token<'a>(image: &'a [u8], table: &'a [u8; 128], text: &'a [u8]) ->
             continue;
         }
         if turn == WAITS {
-            state = WAITING + kind_begun(c.traits);
+            state = waiting_after(c.traits);
             mid = at;
             at = next;
             continue;

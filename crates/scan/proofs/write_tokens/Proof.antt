@@ -9,41 +9,85 @@ use Rattle.character.specs.Read.{MemoOf}
 use Rattle.grammar.specs.Record.{recordSize}
 use Rattle.scan.specs.Turns.{waiting}
 use Rattle.scan.proofs.ReachLaws.{Here, here, here-small, Look, at-ill, at-end}
-use Rattle.scan.proofs.WriteLaws.{Writing, Due, writing-begins, due-bounds, due-fits, due-room, due-part, due-put, writing-less, due-settles, writes-left, last-fits, writes-last, due-turn, writing-waits, waits-here, writes-stop}
+use Rattle.scan.proofs.WriteLaws.{
+  Writing,
+  Due,
+  writing-begins,
+  due-fits,
+  due-bounds,
+  due-room,
+  due-part,
+  due-put,
+  writing-less,
+  due-settles,
+  writes-left,
+  last-fits,
+  writes-last,
+  due-turn,
+  writing-waits,
+  waits-here,
+  writes-stop,
+}
 use Rattle.scan.proofs.write_tokens.Statement.{statement}
 use Rattle.scan.proofs.write_tokens.Tie as tie
 
 abbrev Inv-loop : tie.InvT-loop
-Inv-loop image table text out₀ turns after memo₀ state₀ start₀ mid₀ at₀ w₀ out memo state start mid at w = Writing image text out₀ out state start mid at w × MemoOf image memo
+Inv-loop image table text out₀ turns after memo₀ state₀ start₀ mid₀ at₀ w₀ out memo state start mid at w =
+    Writing image text out₀ out state start mid at w × MemoOf image memo
 
 -- a medial that is settled reads no byte
 abbrev μ-loop : tie.MeasureT-loop
 μ-loop image table text out₀ turns after memo₀ state₀ start₀ mid₀ at₀ w₀ out memo state start mid at w = 2 * (length text - at) + state / waiting
 
 -- the character that was read stands at the place
-stands : (c : tie.After-memo Inv-loop μ-loop) → Here (c .before .before .before .before .before .before .before .before .before .args .image .now) (c .before .before .before .before .before .before .before .before .before .args .text .now) (c .before .before .before .before .loop .at) (c .before .before .read .result .len) (c .before .before .read .result .traits)
+stands :
+    (c : tie.After-memo Inv-loop μ-loop)
+    → let a = c .before .before .before .before .before .before .before .before .before .args in
+    let r = c .before .before .read .result in
+    Here (a .image .now) (a .text .now) (c .before .before .before .before .loop .at) (r .len) (r .traits)
 stands c = here _ _ _ _ (c .before .before .before .loop-test .taken) (c .before .before .read .ensures) (omega arith)
 
 looked :
     (c : tie.After-find-turn Inv-loop μ-loop)
-    → Look (c .before .before .before .before .before .before .before .before .before .before .before .args .image .now) (c .before .before .before .before .before .before .before .before .before .before .before .args .text .now) (c .before .before .before .before .before .before .loop .state) (c .before .before .before .before .before .before .loop .at) (c .before .before .before .before .read .result .len) (c .before .before .before .before .read .result .traits) (c .find-turn .result)
-looked c = record { accepted = c .before .before .before .before .before .before .before .before .before .before .before .pre .0; here = stands (c .before .before); known = c .find-turn .ensures }
+    → let a = c .before .before .before .before .before .before .before .before .before .before .before .args in
+    let l = c .before .before .before .before .before .before .loop in
+    let r = c .before .before .before .before .read .result in
+    Look (a .image .now) (a .text .now) (l .state) (l .at) (r .len) (r .traits) (c .find-turn .result)
+looked c =
+    let k = c .before .before .before .before .before .before .before .before .before .before .before in
+    record { accepted = k .pre .0; here = stands (c .before .before); known = c .find-turn .ensures }
 
 -- what is to be written after each turn
 turned :
     (c : tie.After-pick-start Inv-loop μ-loop)
-    → Due (c .before .before .before .before .before .before .before .before .before .before .before .before .before .before .before .args .image .now) (c .before .before .before .before .before .before .before .before .before .before .before .before .before .before .before .args .text .now) (c .before .before .before .before .before .before .before .before .before .before .before .before .before .before .before .args .out .now) (c .before .before .before .before .before .before .before .before .before .before .loop .out) (c .before .state-after .result) (c .pick-start .result) (c .before .before .before .before .before .before .before .before .before .before .loop .mid) (c .before .before .before .before .before .before .before .before .before .before .loop .at + c .before .before .before .before .before .before .before .before .read .result .len) (c .before .before .before .before .before .before .before .before .before .before .loop .w + recordSize * c .before .before .before .before .find-turn .result)
-turned c = due-turn (c .before .before .before .before .before .before .before .before .before .before .loop .inv .0) (looked (c .before .before .before .before)) (c .before .before .before .if2 .taken) _ (c .before .state-after .ensures) _ (c .pick-start .ensures)
+    → let a = c .before .before .before .before .before .before .before .before .before .before .before .before .before .before .before .args in
+    let l = c .before .before .before .before .before .before .before .before .before .before .loop in
+    let r = c .before .before .before .before .before .before .before .before .read .result in
+    let w = l .w + recordSize * c .before .before .before .before .find-turn .result in
+    Due (a .image .now) (a .text .now) (a .out .now) (l .out) (c .before .state-after .result) (c .pick-start .result) (l .mid) (l .at + r .len) w
+turned c =
+    let i = c .before .before .before .before .before .before .before .before .before .before .loop .inv .0 in
+    due-turn i (looked (c .before .before .before .before)) (c .before .before .before .if2 .taken) _ (c .before .state-after .ensures) _ (c .pick-start .ensures)
 
 waited :
-    (c : tie.After-kind-begun Inv-loop μ-loop)
-    → Writing (c .before .before .before .before .before .before .before .before .before .before .before .before .before .before .args .image .now) (c .before .before .before .before .before .before .before .before .before .before .before .before .before .before .args .text .now) (c .before .before .before .before .before .before .before .before .before .before .before .before .before .before .args .out .now) (c .before .before .before .before .before .before .before .before .before .loop .out) (waiting + c .kind-begun .result) (c .before .before .before .before .before .before .before .before .before .loop .start) (c .before .before .before .before .before .before .before .before .before .loop .at) (c .before .before .before .before .before .before .before .before .before .loop .at + c .before .before .before .before .before .before .before .read .result .len) (c .before .before .before .before .before .before .before .before .before .loop .w)
-waited c = writing-waits (c .before .before .before .before .before .before .before .before .before .loop .inv .0) (looked (c .before .before .before)) (c .before .if3 .taken) _ (c .kind-begun .ensures)
+    (c : tie.After-waiting-after Inv-loop μ-loop)
+    → let a = c .before .before .before .before .before .before .before .before .before .before .before .before .before .before .args in
+    let l = c .before .before .before .before .before .before .before .before .before .loop in
+    let r = c .before .before .before .before .before .before .before .read .result in
+    Writing (a .image .now) (a .text .now) (a .out .now) (l .out) (c .waiting-after .result) (l .start) (l .at) (l .at + r .len) (l .w)
+waited c =
+    let i = c .before .before .before .before .before .before .before .before .before .loop .inv .0 in
+    writing-waits i (looked (c .before .before .before)) (c .before .if3 .taken) _ (c .waiting-after .ensures)
 
 settled :
     (c : tie.Else5 Inv-loop μ-loop)
-    → Due (c .before .before .before .before .before .before .before .before .before .before .before .before .before .before .before .args .image .now) (c .before .before .before .before .before .before .before .before .before .before .before .before .before .before .before .args .text .now) (c .before .before .before .before .before .before .before .before .before .before .before .before .before .before .before .args .out .now) (c .before .before .before .before .before .before .before .before .before .before .loop .out) (c .before .before .before .before .before .before .before .before .before .before .loop .state - waiting) (c .before .before .before .before .before .before .before .before .before .before .loop .mid) (c .before .before .before .before .before .before .before .before .before .before .loop .mid) (c .before .before .before .before .before .before .before .before .before .before .loop .at) (c .before .before .before .before .before .before .before .before .before .before .loop .w + recordSize)
-settled c = let s = waits-here (c .before .before .before .before .before .before .before .before .before .before .loop .inv .0) (looked (c .before .before .before .before)) (c .before .if4 .taken) in due-settles (c .before .before .before .before .before .before .before .before .before .before .loop .inv .0) (s .1) (s .0) (c .if5 .left) _ refl
+    → let a = c .before .before .before .before .before .before .before .before .before .before .before .before .before .before .before .args in
+    let l = c .before .before .before .before .before .before .before .before .before .before .loop in
+    Due (a .image .now) (a .text .now) (a .out .now) (l .out) (l .state - waiting) (l .mid) (l .mid) (l .at) (l .w + recordSize)
+settled c =
+    let i = c .before .before .before .before .before .before .before .before .before .before .loop .inv .0 in
+    let s = waits-here i (looked (c .before .before .before .before)) (c .before .if4 .taken) in
+    due-settles i (s .1) (s .0) (c .if5 .left) _ refl
 
 no-memo-requires : tie.Need-no-memo-requires Inv-loop μ-loop
 no-memo-requires c κs = search needs
@@ -52,27 +96,41 @@ loop-holds : tie.Need-loop-holds Inv-loop μ-loop
 loop-holds c = (writing-begins _ _ _, c .no-memo .ensures _)
 
 read-requires : tie.Need-read-requires Inv-loop μ-loop
-read-requires c κs = (c .before .before .before .before .before .before .pre .0, (c .before .before .before .before .before .before .pre .1 .0, (c .before .loop .inv .1, c .loop-test .taken)))
+read-requires c κs =
+    let p = c .before .before .before .before .before .before .pre in
+    (p .0, (p .1 .0, (c .before .loop .inv .1, c .loop-test .taken)))
 
 put-waiting-requires : tie.Need-put-waiting-requires Inv-loop μ-loop
 put-waiting-requires c κs =
     let i = c .before .before .before .before .loop .inv .0 in
-    ((omega (arith, i .reached .medial .within, c .before .before .before .before .before .before .before .before .before .pre), omega (arith, i .reached .place .within, c .before .before .before .before .before .before .before .before .before .pre)), last-fits i (c .before .before .before .before .before .before .before .before .before .pre .1 .1 .1) (at-ill _ _ (c .before .before .read .ensures .none (c .before .if1 .taken))))
+    let p = c .before .before .before .before .before .before .before .before .before .pre .1 .1 in
+    ((omega (arith, i .reached .medial .within, p .0), omega (arith, i .reached .place .within, p .0)),
+     last-fits i (p .1) (at-ill _ _ (c .before .before .read .ensures .none (c .before .if1 .taken))))
 
 same-length : tie.Need-same-length Inv-loop μ-loop
 same-length c = search needs
 
 returns : tie.Need-returns Inv-loop μ-loop
-returns c = writes-last (c .before .before .before .before .before .before .before .loop .inv .0) (c .before .before .before .before .before .before .before .before .before .before .before .before .pre .1 .1 .1) (at-ill _ _ (c .before .before .before .before .before .read .ensures .none (c .before .before .before .before .if1 .taken))) _ (c .before .before .put-waiting .ensures)
+returns c =
+    let k = c .before .before .before .before .before in
+    let j = k .before .before .before .before .before .before .before in
+    let e = at-ill _ _ (k .read .ensures .none (c .before .before .before .before .if1 .taken)) in
+    writes-last (k .before .before .loop .inv .0) (j .pre .1 .1 .1) e _ (c .before .before .put-waiting .ensures)
 
 add-next : tie.Need-add-next Inv-loop μ-loop
-add-next c = let t = stands c in omega (arith, t .within, c .before .before .before .before .before .before .before .before .before)
+add-next c =
+    let t = stands c in
+    omega (arith, t .within, c .before .before .before .before .before .before .before .before .before)
 
 find-turn-requires : tie.Need-find-turn-requires Inv-loop μ-loop
-find-turn-requires c κs = (refl, (writing-less (c .before .before .before .before .before .loop .inv .0), here-small (c .before .before .before .before .before .before .before .before .before .before .pre .0) (stands (c .before))))
+find-turn-requires c κs =
+    let k = c .before .before .before .before .before in
+    (refl, (writing-less (k .loop .inv .0), here-small (k .before .before .before .before .before .pre .0) (stands (c .before))))
 
 state-after-requires : tie.Need-state-after-requires Inv-loop μ-loop
-state-after-requires c κs = (refl, here-small (c .before .before .before .before .before .before .before .before .before .before .before .before .before .pre .0) (stands (c .before .before .before .before)))
+state-after-requires c κs =
+    let k = c .before .before .before .before .before .before .before .before .before .before .before .before .before in
+    (refl, here-small (k .pre .0) (stands (c .before .before .before .before)))
 
 pick-start-requires : tie.Need-pick-start-requires Inv-loop μ-loop
 pick-start-requires c κs = search needs
@@ -81,42 +139,59 @@ mul-w : tie.Need-mul-w Inv-loop μ-loop
 mul-w c = omega (arith, c .before .before .before .if2 .taken)
 
 add-w : tie.Need-add-w Inv-loop μ-loop
-add-w c = omega (arith, due-fits (turned c) (c .before .before .before .before .before .before .before .before .before .before .before .before .before .before .before .pre .1 .1 .1), c .before .before .before .before .before .before .before .before .before .before .before .before .before .before .before)
+add-w c =
+    let k = c .before .before .before .before .before .before .before .before .before .before .before .before .before .before .before in
+    omega (arith, due-fits (turned c) (k .pre .1 .1 .1), k)
 
 mul-put-token : tie.Need-mul-put-token Inv-loop μ-loop
-mul-put-token c = omega (arith, due-fits (turned c) (c .before .before .before .before .before .before .before .before .before .before .before .before .before .before .before .pre .1 .1 .1), c .before .before .before .before .before .before .before .before .before .before .before .before .before .before .before)
+mul-put-token c =
+    let k = c .before .before .before .before .before .before .before .before .before .before .before .before .before .before .before in
+    omega (arith, due-fits (turned c) (k .pre .1 .1 .1), k)
 
 sub-put-token : tie.Need-sub-put-token Inv-loop μ-loop
-sub-put-token c = omega (arith, due-room (turned c) (c .before .before .before .before .before .before .before .before .before .before .before .before .before .before .before .pre .1 .1 .1))
+sub-put-token c =
+    let k = c .before .before .before .before .before .before .before .before .before .before .before .before .before .before .before in
+    omega (arith, due-room (turned c) (k .pre .1 .1 .1))
 
 part-put-token-start : tie.Need-part-put-token-start Inv-loop μ-loop
-part-put-token-start c = omega (arith, due-room (turned c) (c .before .before .before .before .before .before .before .before .before .before .before .before .before .before .before .pre .1 .1 .1))
+part-put-token-start c =
+    let k = c .before .before .before .before .before .before .before .before .before .before .before .before .before .before .before in
+    omega (arith, due-room (turned c) (k .pre .1 .1 .1))
 
 part-put-token-end : tie.Need-part-put-token-end Inv-loop μ-loop
 part-put-token-end c = search needs
 
 put-token-requires : tie.Need-put-token-requires Inv-loop μ-loop
 put-token-requires c κs =
-    let i = turned (c .before) in
-    let b = due-bounds i (c .before .before .before .before .before .before .before .before .before .before .before .before .before .before .before .before .pre .1 .1 .1) in
-    ((omega (arith, b .0, c .before .before .before .before .before .before .before .before .before .before .before .before .before .before .before .before .pre), omega (arith, b .1, c .before .before .before .before .before .before .before .before .before .before .before .before .before .before .before .before .pre)), due-part i (c .before .before .before .before .before .before .before .before .before .before .before .before .before .before .before .before .pre .1 .1 .1))
+    let k = c .before .before .before .before .before .before .before .before .before .before .before .before .before .before .before .before in
+    let p = k .pre .1 .1 in
+    let b = due-bounds (turned (c .before)) (p .1) in
+    ((omega (arith, b .0, p .0), omega (arith, b .1, p .0)), due-part (turned (c .before)) (p .1))
 
 loop-less : tie.Need-loop-less Inv-loop μ-loop
 loop-less c =
-    let t = stands (c .before .before .before .before .before .before .before .before .before .before) in
-    omega (arith, t .some-bytes, t .within, writing-less (due-put (turned (c .before .before .before .before)) (c .before .before .before .before .before .before .before .before .before .before .before .before .before .before .before .before .before .before .before .pre .1 .1 .1) _ (c .before .before .put-token .ensures)))
+    let k = c .before .before .before .before .before .before .before .before .before .before in
+    let j = k .before .before .before .before .before .before .before .before .before in
+    let t = stands (k) in
+    let i = due-put (turned (c .before .before .before .before)) (j .pre .1 .1 .1) _ (c .before .before .put-token .ensures) in
+    omega (arith, t .some-bytes, t .within, writing-less i)
 
 loop-again : tie.Need-loop-again Inv-loop μ-loop
-loop-again c = (due-put (turned (c .before .before .before .before)) (c .before .before .before .before .before .before .before .before .before .before .before .before .before .before .before .before .before .before .before .pre .1 .1 .1) _ (c .before .before .put-token .ensures), c .before .before .before .before .before .before .before .before .before .before .before .before .read .ensures .memo)
+loop-again c =
+    let k = c .before .before .before .before .before .before .before .before .before .before .before .before in
+    let j = k .before .before .before .before .before .before .before in
+    (due-put (turned (c .before .before .before .before)) (j .pre .1 .1 .1) _ (c .before .before .put-token .ensures),
+     k .read .ensures .memo)
 
-kind-begun-requires : tie.Need-kind-begun-requires Inv-loop μ-loop
-kind-begun-requires c κs = here-small (c .before .before .before .before .before .before .before .before .before .before .before .before .before .pre .0) (stands (c .before .before .before .before))
-
-add-state : tie.Need-add-state Inv-loop μ-loop
-add-state c = omega (arith, writing-less (waited c))
+waiting-after-requires : tie.Need-waiting-after-requires Inv-loop μ-loop
+waiting-after-requires c κs =
+    let k = c .before .before .before .before .before .before .before .before .before .before .before .before .before in
+    here-small (k .pre .0) (stands (c .before .before .before .before))
 
 loop-less-2 : tie.Need-loop-less-2 Inv-loop μ-loop
-loop-less-2 c = let t = stands (c .before .before .before .before .before) in omega (arith, t .some-bytes, t .within, writing-less (waited c))
+loop-less-2 c =
+    let t = stands (c .before .before .before .before .before) in
+    omega (arith, t .some-bytes, t .within, writing-less (waited c))
 
 loop-again-2 : tie.Need-loop-again-2 Inv-loop μ-loop
 loop-again-2 c = (waited c, c .before .before .before .before .before .before .before .read .ensures .memo)
@@ -125,54 +200,81 @@ same-length-2 : tie.Need-same-length-2 Inv-loop μ-loop
 same-length-2 c = search needs
 
 returns-2 : tie.Need-returns-2 Inv-loop μ-loop
-returns-2 c = writes-left (c .before .before .before .before .before .before .before .before .before .before .loop .inv .0) (waits-here (c .before .before .before .before .before .before .before .before .before .before .loop .inv .0) (looked (c .before .before .before .before)) (c .before .if4 .taken) .1) (c .if5 .taken)
+returns-2 c =
+    let i = c .before .before .before .before .before .before .before .before .before .before .loop .inv .0 in
+    writes-left i (waits-here i (looked (c .before .before .before .before)) (c .before .if4 .taken) .1) (c .if5 .taken)
 
 sub-state : tie.Need-sub-state Inv-loop μ-loop
-sub-state c = waits-here (c .before .before .before .before .before .before .before .before .before .before .loop .inv .0) (looked (c .before .before .before .before)) (c .before .if4 .taken) .0
+sub-state c =
+    let k = c .before .before .before .before .before .before .before .before .before .before in
+    waits-here (k .loop .inv .0) (looked (c .before .before .before .before)) (c .before .if4 .taken) .0
 
 add-w-2 : tie.Need-add-w-2 Inv-loop μ-loop
-add-w-2 c = omega (arith, due-fits (settled c) (c .before .before .before .before .before .before .before .before .before .before .before .before .before .before .before .pre .1 .1 .1), c .before .before .before .before .before .before .before .before .before .before .before .before .before .before .before)
+add-w-2 c =
+    let k = c .before .before .before .before .before .before .before .before .before .before .before .before .before .before .before in
+    omega (arith, due-fits (settled c) (k .pre .1 .1 .1), k)
 
 mul-put-token-2 : tie.Need-mul-put-token-2 Inv-loop μ-loop
-mul-put-token-2 c = omega (arith, due-fits (settled c) (c .before .before .before .before .before .before .before .before .before .before .before .before .before .before .before .pre .1 .1 .1), c .before .before .before .before .before .before .before .before .before .before .before .before .before .before .before)
+mul-put-token-2 c =
+    let k = c .before .before .before .before .before .before .before .before .before .before .before .before .before .before .before in
+    omega (arith, due-fits (settled c) (k .pre .1 .1 .1), k)
 
 sub-put-token-2 : tie.Need-sub-put-token-2 Inv-loop μ-loop
-sub-put-token-2 c = omega (arith, due-room (settled c) (c .before .before .before .before .before .before .before .before .before .before .before .before .before .before .before .pre .1 .1 .1))
+sub-put-token-2 c =
+    let k = c .before .before .before .before .before .before .before .before .before .before .before .before .before .before .before in
+    omega (arith, due-room (settled c) (k .pre .1 .1 .1))
 
 part-put-token-start-2 : tie.Need-part-put-token-start-2 Inv-loop μ-loop
-part-put-token-start-2 c = omega (arith, due-room (settled c) (c .before .before .before .before .before .before .before .before .before .before .before .before .before .before .before .pre .1 .1 .1))
+part-put-token-start-2 c =
+    let k = c .before .before .before .before .before .before .before .before .before .before .before .before .before .before .before in
+    omega (arith, due-room (settled c) (k .pre .1 .1 .1))
 
 part-put-token-end-2 : tie.Need-part-put-token-end-2 Inv-loop μ-loop
 part-put-token-end-2 c = search needs
 
 put-token-requires-2 : tie.Need-put-token-requires-2 Inv-loop μ-loop
 put-token-requires-2 c κs =
-    let i = settled (c .before) in
-    let b = due-bounds i (c .before .before .before .before .before .before .before .before .before .before .before .before .before .before .before .before .pre .1 .1 .1) in
-    ((omega (arith, b .0, c .before .before .before .before .before .before .before .before .before .before .before .before .before .before .before .before .pre), omega (arith, b .1, c .before .before .before .before .before .before .before .before .before .before .before .before .before .before .before .before .pre)), due-part i (c .before .before .before .before .before .before .before .before .before .before .before .before .before .before .before .before .pre .1 .1 .1))
+    let k = c .before .before .before .before .before .before .before .before .before .before .before .before .before .before .before .before in
+    let p = k .pre .1 .1 in
+    let b = due-bounds (settled (c .before)) (p .1) in
+    ((omega (arith, b .0, p .0), omega (arith, b .1, p .0)), due-part (settled (c .before)) (p .1))
 
 loop-less-3 : tie.Need-loop-less-3 Inv-loop μ-loop
-loop-less-3 c = omega (arith, waits-here (c .before .before .before .before .before .before .before .before .before .before .before .before .before .before .loop .inv .0) (looked (c .before .before .before .before .before .before .before .before)) (c .before .before .before .before .before .if4 .taken) .0, writing-less (c .before .before .before .before .before .before .before .before .before .before .before .before .before .before .loop .inv .0))
+loop-less-3 c =
+    let k = c .before .before .before .before .before in
+    let i = k .before .before .before .before .before .before .before .before .before .loop .inv .0 in
+    omega (arith, waits-here i (looked (k .before .before .before)) (k .if4 .taken) .0, writing-less i)
 
 loop-again-3 : tie.Need-loop-again-3 Inv-loop μ-loop
-loop-again-3 c = (due-put (settled (c .before .before .before .before)) (c .before .before .before .before .before .before .before .before .before .before .before .before .before .before .before .before .before .before .before .pre .1 .1 .1) _ (c .before .before .put-token2 .ensures), c .before .before .before .before .before .before .before .before .before .before .before .before .read .ensures .memo)
+loop-again-3 c =
+    let k = c .before .before .before .before .before .before .before .before .before .before .before .before in
+    let j = k .before .before .before .before .before .before .before in
+    (due-put (settled (c .before .before .before .before)) (j .pre .1 .1 .1) _ (c .before .before .put-token2 .ensures),
+     k .read .ensures .memo)
 
 same-length-3 : tie.Need-same-length-3 Inv-loop μ-loop
 same-length-3 c = search needs
 
 returns-3 : tie.Need-returns-3 Inv-loop μ-loop
-returns-3 c = writes-stop (c .before .before .before .before .before .before .before .before .before .loop .inv .0) (looked (c .before .before .before)) (omega (arith, c .before .before .if2 .left, c .before .if3 .left, c .if4 .left))
+returns-3 c =
+    let k = c .before .before .before .before .before .before .before .before .before in
+    writes-stop (k .loop .inv .0) (looked (c .before .before .before)) (omega (arith, c .before .before .if2 .left, c .before .if3 .left, c .if4 .left))
 
 put-waiting-requires-2 : tie.Need-put-waiting-requires-2 Inv-loop μ-loop
 put-waiting-requires-2 c κs =
     let i = c .before .before .loop .inv .0 in
-    ((omega (arith, i .reached .medial .within, c .before .before .before .before .before .before .before .pre), omega (arith, i .reached .place .within, c .before .before .before .before .before .before .before .pre)), last-fits i (c .before .before .before .before .before .before .before .pre .1 .1 .1) (at-end _ _ (c .before .loop-test .left)))
+    let p = c .before .before .before .before .before .before .before .pre .1 .1 in
+    ((omega (arith, i .reached .medial .within, p .0), omega (arith, i .reached .place .within, p .0)),
+     last-fits i (p .1) (at-end _ _ (c .before .loop-test .left)))
 
 same-length-4 : tie.Need-same-length-4 Inv-loop μ-loop
 same-length-4 c = search needs
 
 returns-4 : tie.Need-returns-4 Inv-loop μ-loop
-returns-4 c = writes-last (c .before .before .before .before .before .loop .inv .0) (c .before .before .before .before .before .before .before .before .before .before .pre .1 .1 .1) (at-end _ _ (c .before .before .before .before .loop-test .left)) _ (c .before .before .put-waiting2 .ensures)
+returns-4 c =
+    let k = c .before .before .before .before .before in
+    let e = at-end _ _ (c .before .before .before .before .loop-test .left) in
+    writes-last (k .loop .inv .0) (k .before .before .before .before .before .pre .1 .1 .1) e _ (c .before .before .put-waiting2 .ensures)
 
 pub write-tokens-spec : {M : Type 1} → statement M
 write-tokens-spec =
@@ -199,8 +301,7 @@ write-tokens-spec =
     put-token-requires
     loop-less
     loop-again
-    kind-begun-requires
-    add-state
+    waiting-after-requires
     loop-less-2
     loop-again-2
     same-length-2
