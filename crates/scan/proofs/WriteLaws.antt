@@ -42,7 +42,7 @@ laid-again out xs ys at fits few =
     let k : at + length xs + n ≡ at + length ys = omega arith in
     let u : drop (at + length ys) x ≡ drop (at + length ys) out =
     ap (λ (j : ℕ). drop j x) (sym k) ∙ sym (drop-drop n (at + length xs) x) ∙ ap (drop n) (drop-at (take at out ++ xs) d (at + length xs) l)
-        ∙ drop-drop n (at + length xs) out ∙ ap (λ (j : ℕ). drop j out) k in
+    ∙ drop-drop n (at + length xs) out ∙ ap (λ (j : ℕ). drop j out) k in
     (λ i. (t i ++ ys) ++ u i)
 
 -- after values xs, others in place of ys
@@ -53,7 +53,7 @@ laid-over out xs ys zs fits few =
     let l : length o ≡ length out = length-laid out xs 0 (omega arith) in
     let z : 0 + length xs ≡ length xs = omega arith in
     ap (λ (b : List ℕ). laid b (length xs) zs) (laid-step out xs 0 (omega arith) ys ∙ ap (λ (n : ℕ). laid o n ys) z)
-        ∙ laid-again o ys zs (length xs) (omega arith) few
+    ∙ laid-again o ys zs (length xs) (omega arith) few
     ∙ ap (λ (n : ℕ). laid o n zs) (sym z) ∙ sym (laid-step out xs 0 (omega arith) zs)
 
 length-from : (p : ℕ) (ts : Tokens) → length (wordsOf (recordsFrom p ts)) ≡ recordSize * length ts
@@ -191,7 +191,7 @@ module _ {s text out₀ out : List ℕ} {state start mid at w : ℕ} (i : Due s 
       let l = length-listed (i .tokens) in
       let n : w ≡ length xs = i .placed ∙ sym l in
       let g = going-words s state (tokensWidth (i .tokens)) mid at (i .under-way) (i .going) (i .reached .stands)
-          ∙ ap (λ (p : ℕ). tokenWords state p at) (sym (i .began)) in
+      ∙ ap (λ (p : ℕ). tokenWords state p at) (sym (i .began)) in
       let ws = listedWords (i .tokens ++ underWay (i .under-way)) in
       let m : putMid w (length out - w) out ys ≡ laid out₀ 0 ws =
       lent out zs w due-room ys e ∙ (λ j. laid (i .same j) (n j) zs) ∙ laid-over out₀ xs (i .old) zs (omega (arith, due-fits, n)) (i .few)
@@ -285,7 +285,7 @@ module _ {s text out₀ out : List ℕ} {state start mid at w : ℕ} (i : Writin
         go (no n) =
             let z : ws ≡ [] = sym (none-waits state mid at (omega arith)) in
             ap (laid out (w + recordSize)) z ∙ laid-none out (w + recordSize) ∙ i .same ∙ ap (laid out₀ 0) (sym (append-nil xs))
-                ∙ ap (λ (ys : List ℕ). laid out₀ 0 (xs ++ ys)) (sym z)
+            ∙ ap (λ (ys : List ℕ). laid out₀ 0 (xs ++ ys)) (sym z)
         go (yes h) =
             let n = waits-one h in
             let l : w + recordSize ≡ 0 + length xs = omega (arith, i .placed, length-listed (i .tokens ++ underWay (i .under-way)), length-append (i .tokens) (underWay (i .under-way)), n .0) in

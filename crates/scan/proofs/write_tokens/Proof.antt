@@ -103,9 +103,10 @@ read-requires c κs =
 put-waiting-requires : tie.Need-put-waiting-requires Inv-loop μ-loop
 put-waiting-requires c κs =
     let i = c .before .before .before .before .loop .inv .0 in
-    let p = c .before .before .before .before .before .before .before .before .before .pre .1 .1 in
-    ((omega (arith, i .reached .medial .within, p .0), omega (arith, i .reached .place .within, p .0)),
-     last-fits i (p .1) (at-ill _ _ (c .before .before .read .ensures .none (c .before .if1 .taken))))
+    let p = c .before .before .before .before .before .before .before .before .before .pre .1 .1 in (
+      (omega (arith, i .reached .medial .within, p .0), omega (arith, i .reached .place .within, p .0)),
+      last-fits i (p .1) (at-ill _ _ (c .before .before .read .ensures .none (c .before .if1 .taken))),
+    )
 
 same-length : tie.Need-same-length Inv-loop μ-loop
 same-length c = search needs
@@ -179,9 +180,10 @@ loop-less c =
 loop-again : tie.Need-loop-again Inv-loop μ-loop
 loop-again c =
     let k = c .before .before .before .before .before .before .before .before .before .before .before .before in
-    let j = k .before .before .before .before .before .before .before in
-    (due-put (turned (c .before .before .before .before)) (j .pre .1 .1 .1) _ (c .before .before .put-token .ensures),
-     k .read .ensures .memo)
+    let j = k .before .before .before .before .before .before .before in (
+      due-put (turned (c .before .before .before .before)) (j .pre .1 .1 .1) _ (c .before .before .put-token .ensures),
+      k .read .ensures .memo,
+    )
 
 waiting-after-requires : tie.Need-waiting-after-requires Inv-loop μ-loop
 waiting-after-requires c κs =
@@ -248,9 +250,10 @@ loop-less-3 c =
 loop-again-3 : tie.Need-loop-again-3 Inv-loop μ-loop
 loop-again-3 c =
     let k = c .before .before .before .before .before .before .before .before .before .before .before .before in
-    let j = k .before .before .before .before .before .before .before in
-    (due-put (settled (c .before .before .before .before)) (j .pre .1 .1 .1) _ (c .before .before .put-token2 .ensures),
-     k .read .ensures .memo)
+    let j = k .before .before .before .before .before .before .before in (
+      due-put (settled (c .before .before .before .before)) (j .pre .1 .1 .1) _ (c .before .before .put-token2 .ensures),
+      k .read .ensures .memo,
+    )
 
 same-length-3 : tie.Need-same-length-3 Inv-loop μ-loop
 same-length-3 c = search needs
@@ -263,9 +266,10 @@ returns-3 c =
 put-waiting-requires-2 : tie.Need-put-waiting-requires-2 Inv-loop μ-loop
 put-waiting-requires-2 c κs =
     let i = c .before .before .loop .inv .0 in
-    let p = c .before .before .before .before .before .before .before .pre .1 .1 in
-    ((omega (arith, i .reached .medial .within, p .0), omega (arith, i .reached .place .within, p .0)),
-     last-fits i (p .1) (at-end _ _ (c .before .loop-test .left)))
+    let p = c .before .before .before .before .before .before .before .pre .1 .1 in (
+      (omega (arith, i .reached .medial .within, p .0), omega (arith, i .reached .place .within, p .0)),
+      last-fits i (p .1) (at-end _ _ (c .before .loop-test .left)),
+    )
 
 same-length-4 : tie.Need-same-length-4 Inv-loop μ-loop
 same-length-4 c = search needs
