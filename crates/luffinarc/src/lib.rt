@@ -5,7 +5,7 @@
 ghost use mathlib.Core.Path.{_≡_};
 ghost use mathlib.Core.List.{[], _∷_};
 ghost use mathlib.Core.Option.{none};
-ghost use lib.ListN.{length, getD};
+ghost use lib.ListN.{length};
 ghost use Rattle.image.specs.Profile.{profileBy};
 ghost use Rattle.image.specs.Check.{refusalOf, checkOf, readOf, wordsAfter};
 ghost use Rattle.writer.specs.Write.{writeOf, bytesAfter};
