@@ -1,9 +1,9 @@
 -- Stretches of one class, and the traits of their code points: a memo and a table hold the traits of their code points.
 -- Assumes nothing.
-use Prim.Native.Nat.{ℕ, _+_, _-_, _/_, _≤_, _<_}
-use mathlib.Core.Path.{_≡_, refl, sym, ap, _∙_}
+use Prim.Native.Nat.{ℕ, _+_, _-_, _≤_, _<_}
+use mathlib.Core.Path.{_≡_, sym, ap, _∙_}
 use mathlib.Core.Bool.{Bool, true, false}
-use mathlib.Core.List.{List, [], _∷_}
+use mathlib.Core.List.{List}
 use mathlib.Core.Option.{none}
 use native.Mathlib.Omega.{arith}
 use native.Mathlib.Decide.{decLt}
@@ -24,7 +24,7 @@ use Rattle.utf8.proofs.LeadLaws.{ascii}
 use Rattle.character.specs.Traits.{medialPart, traitsOf}
 use Rattle.utf8.proofs.TextLaws.{Unpacked}
 use Rattle.character.specs.Stretch.{StretchOf}
-use Rattle.character.specs.Read.{MemoOf, MemoAt, Filled, Settled, ReadAs}
+use Rattle.character.specs.Read.{MemoAt, Filled, Settled, ReadAs}
 use Rattle.character.specs.declared.Character.{Character}
 use Rattle.character.specs.declared.Memo.{Memo}
 use Rattle.character.specs.declared.Stretch.{Stretch}

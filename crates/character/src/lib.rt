@@ -232,6 +232,5 @@ pub fn read<'a>(
             memo,
         };
     }
-    let packed = utf8::decode_packed(text, at);
-    settle(image, memo, packed)
+    read_decoded(image, memo, text, at)
 }

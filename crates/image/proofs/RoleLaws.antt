@@ -31,7 +31,9 @@ role-same point role point' role' m x e f =
 module _ (s : List ℕ) (x : ℕ) where
   pub role-in-record : entryRole s x ≡ roleOf (profileOf s) x
   unfolding entryRole roleOf profileOf
-  role-in-record = role-same (pointAt s) (roleAt s) (pointIn (profileOf s)) (roleIn (profileOf s)) (entryCount s) x (λ i l. sym (entry-read s i l .0)) (λ i l. sym (entry-read s i l .1))
+  role-in-record =
+      role-same (pointAt s) (roleAt s) (pointIn (profileOf s)) (roleIn (profileOf s)) (entryCount s) x
+      (λ i l. sym (entry-read s i l .0)) (λ i l. sym (entry-read s i l .1))
 
   -- what a role does to the class of the ranges
   pub class-after : classOf s x ≡ afterRole (entryRole s x) (rangeClass s x)

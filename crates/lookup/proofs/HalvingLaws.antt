@@ -36,7 +36,11 @@ module _ (at : ℕ → Range) (x : ℕ) where
   enough (suc k) (suc j) lo hi h i =
       let m = (lo + hi) / 2 in
       pick-same (leb hi lo) (nothing lo) _ _
-      (λ e. let l : lo < hi = leb-false hi lo e in look-same (λ a b. seekIn k at a b x) (λ a b. seekIn j at a b x) lo hi m (enough k j lo m (omega arith) (omega arith)) (enough k j (m + 1) hi (omega arith) (omega arith)))
+      (λ e.
+      let l : lo < hi = leb-false hi lo e in
+      let below = enough k j lo m (omega arith) (omega arith) in
+      let above = enough k j (m + 1) hi (omega arith) (omega arith) in
+      look-same (λ a b. seekIn k at a b x) (λ a b. seekIn j at a b x) lo hi m below above)
 
   pub seek-none : (lo hi : ℕ) → hi ≤ lo → seekOf at lo hi x ≡ nothing lo
   unfolding seekOf
@@ -48,9 +52,11 @@ module _ (at : ℕ → Range) (x : ℕ) where
   seek-step lo hi h =
       let k = hi - lo in
       let m = (lo + hi) / 2 in
+      let below = enough k (m - lo) lo m (omega arith) (omega arith) in
+      let above = enough k (hi - (m + 1)) (m + 1) hi (omega arith) (omega arith) in
       enough k (suc k) lo hi (omega arith) (omega arith)
       ∙ ap (λ (t : Bool). cond t (nothing lo) (look (λ a b. seekIn k at a b x) at x lo hi m)) (lt-leb hi lo h)
-      ∙ look-same (λ a b. seekIn k at a b x) (λ a b. seekIn (b - a) at a b x) lo hi m (enough k (m - lo) lo m (omega arith) (omega arith)) (enough k (hi - (m + 1)) (m + 1) hi (omega arith) (omega arith))
+      ∙ look-same (λ a b. seekIn k at a b x) (λ a b. seekIn (b - a) at a b x) lo hi m below above
 
   -- one step, by the range r that it looks at and the search p in the half that remains
   module _ (lo hi : ℕ) (r : Range) (is : r ≡ at ((lo + hi) / 2)) (some : lo < hi) where

@@ -1,5 +1,5 @@
 -- What each answer of a lookup says, exactly when; its count is at most 13, and a class after the profile at most 5. Assumes nothing.
-use Prim.Native.Nat.{ℕ, _≤_, _<_}
+use Prim.Native.Nat.{ℕ, _≤_}
 use mathlib.Core.Path.{_≡_, refl, sym, ap, subst, _∙_}
 use mathlib.Core.Bool.{Bool, true, false, cond}
 use mathlib.Core.List.{List}
@@ -12,16 +12,14 @@ use Rattle.refusal.specs.declared.Refusal.the-variants as refusal
 use Rattle.image.specs.Header.{rangeCount, entryCount}
 use Rattle.image.specs.Ranges.{rangeAt}
 use Rattle.image.specs.Profile.{pointAt, roleAt, afterRole}
-use Rattle.image.specs.Check.{refusalOf, checkOf, rangeClass, entryRole, classOf}
-use Rattle.image.specs.declared.Answer.the-variants as answer
-use Rattle.image.specs.declared.Checked.{Checked}
-use Rattle.image.proofs.ImageLaws.{accepted, refused-none, says}
-use Rattle.image.proofs.RoleLaws.{class-after, after-known}
+use Rattle.image.specs.Check.{refusalOf, classOf}
+use Rattle.image.proofs.ImageLaws.{refusal-means, means-refusal, accepted, refused-none}
+use Rattle.image.proofs.RoleLaws.{after-known}
 use Rattle.lookup.specs.declared.Section.the-variants.{Ranges, Entries}
 use Rattle.lookup.specs.declared.Probe.{Probe}
 use Rattle.lookup.specs.declared.Found.{Found}
 use Rattle.lookup.specs.declared.Found.the-variants as found
-use Rattle.lookup.specs.Records.{entryRange, recordAt, recordCount, sectionClass}
+use Rattle.lookup.specs.Records.{entryRange, recordAt, recordCount}
 use Rattle.lookup.specs.Halving.{seekOf}
 use Rattle.lookup.specs.Lookup.{foundIn, lookupBy, lookupOf}
 use Rattle.lookup.specs.Means.{HasClass, held, in-none, HasRole, named, no-entry, LookupMeans, image-refused, not-scalar, found-class}
@@ -76,13 +74,14 @@ module _ (s : List ℕ) (x : ℕ) where
 
   scalar-means : refusalOf s ≡ none → (b : Bool) → isScalar x ≡ b → LookupMeans s x (cond b (found.Class (classOf s x) steps) (found.Refused (refusal.NotScalar x)))
   scalar-means a true h =
-      rw (class-by-sections s x)
-      (found-class (accepted s a) h (class-cases (rangeAt s) (rangeCount s) x) (has-role (pointAt s) (roleAt s) (entryCount s) x _ (class-cases (entryRange (pointAt s) (roleAt s)) (entryCount s) x)))
+      let c = class-cases (rangeAt s) (rangeCount s) x in
+      let r = has-role (pointAt s) (roleAt s) (entryCount s) x _ (class-cases (entryRange (pointAt s) (roleAt s)) (entryCount s) x) in
+      rw (class-by-sections s x) (found-class (accepted s a) h c r)
   scalar-means a false h = not-scalar (accepted s a) h
 
   means-by : (o : Option Refusal) → refusalOf s ≡ o → LookupMeans s x (lookupBy s x o)
   means-by none e = scalar-means e (isScalar x) refl
-  means-by (some r) e = image-refused e
+  means-by (some r) e = image-refused (refusal-means s (some r) e)
 
   -- what each answer says
   pub lookup-means : (f : Found) → lookupOf s x ≡ f → LookupMeans s x f
@@ -91,7 +90,7 @@ module _ (s : List ℕ) (x : ℕ) where
 
   -- and back
   pub means-lookup : (f : Found) → LookupMeans s x f → lookupOf s x ≡ f
-  means-lookup f (image-refused e) = refused s x _ e
+  means-lookup f (image-refused {r} m) = refused s x r (means-refusal s (some r) m)
   means-lookup f (not-scalar a h) = scalar-none s x (refused-none s a) h
   means-lookup f (found-class {class} {role} a h c r) =
       let o = refused-none s a in

@@ -1,7 +1,7 @@
 -- The records of an accepted image lie within its bytes, and rise; classes and roles by a search in them. Assumes nothing.
 use Prim.Native.Nat.{ℕ, _≤_, _<_}
-use mathlib.Core.Path.{_≡_, refl, sym, ap, _∙_}
-use mathlib.Core.Bool.{Bool, true, false, _&&_}
+use mathlib.Core.Path.{_≡_, refl, ap, _∙_}
+use mathlib.Core.Bool.{_&&_}
 use mathlib.Core.List.{List}
 use mathlib.Core.Option.{none}
 use native.Mathlib.Omega.{arith}
@@ -12,16 +12,15 @@ use borrow.Author.Tests.{le-leb, lt-leb, eq-eqb, ne-eqb}
 use Rattle.lists.proofs.FirstLaws.{first-same}
 use Rattle.image.specs.Limits.{maxRanges, maxEntries}
 use Rattle.image.specs.Header.{rangeCount, entryCount, imageEnd}
-use Rattle.image.specs.Ranges.{holds, classIn}
+use Rattle.image.specs.Ranges.{classIn}
 use Rattle.image.specs.Profile.{pointAt, roleAt, roleBy, afterRole, isMedial}
 use Rattle.image.specs.Check.{refusalOf, rangeClass, entryRole, classOf, medialOf}
-use Rattle.image.specs.declared.Range.{Range}
 use Rattle.image.proofs.ImageLaws.{accepted, accepted-size}
-use Rattle.image.proofs.RoleLaws.{class-after, medial-by, after-known}
+use Rattle.image.proofs.RoleLaws.{class-after, medial-by}
 use Rattle.lookup.specs.declared.Section.{Section}
 use Rattle.lookup.specs.declared.Section.the-variants.{Ranges, Entries}
 use Rattle.lookup.specs.Records.{entryRange, recordAt, recordCount, sectionClass}
-use Rattle.lookup.specs.Placed.{Rising, GoodRanges}
+use Rattle.lookup.specs.Placed.{Rising}
 use Rattle.lookup.specs.Halving.{seekOf}
 use Rattle.lookup.proofs.RisingLaws.{Sought, seek-all}
 use Rattle.lookup.proofs.ClassLaws.{ranges-rise, class-known}
@@ -77,7 +76,8 @@ module _ (s : List ℕ) (a : refusalOf s ≡ none) where
       record { ordered = λ i l. omega arith; after = λ i h l. good i l .rises h }
 
   -- what the search in a section finds
-  pub found-at : (section : Section) (x : ℕ) → Sought (recordAt s section) (recordCount s section) (records-rise section) x (seekOf (recordAt s section) 0 (recordCount s section) x)
+  pub found-at :
+      (section : Section) (x : ℕ) → Sought (recordAt s section) (recordCount s section) x (seekOf (recordAt s section) 0 (recordCount s section) x)
   found-at section x = seek-all (recordAt s section) (recordCount s section) (records-rise section) x
 
   -- classes in the ranges go to 5

@@ -54,6 +54,11 @@ module _ (at : ℕ → Range) (n : ℕ) where
   pub class-cases : (x : ℕ) → HasClass at n x (classIn at n x)
   class-cases x = cases-by x _ refl (decLt _ n)
 
+-- a search found the class of x, and its place
+pub record Sought (at : ℕ → Range) (n x : ℕ) (p : Probe) : Type 0 where
+  pub class : p .class ≡ classIn at n x
+  pub placed : Placed at n (p .place) x
+
 module _ (at : ℕ → Range) (n : ℕ) (up : Rising at n) where
   pub rise : (i j : ℕ) → i < j → j < n → at i .last < at j .first
   rise i zero h l = absurd (omega arith)
@@ -98,23 +103,22 @@ module _ (at : ℕ → Range) (n : ℕ) (up : Rising at n) where
 
   -- the halving search finds the class of x, and its place
   module _ (x : ℕ) where
-    pub record Sought (p : Probe) : Type 0 where
-      pub class : p .class ≡ classIn at n x
-      pub placed : Placed at n (p .place) x
+    abbrev Ends : Probe → Type 0
+    Ends = Sought at n x
 
     -- of any part of at most k ranges, where the range before it ends before x and the one after it begins after x
     abbrev Finds : ℕ → Type 0
     Finds k =
-        (lo hi : ℕ) → hi - lo ≤ k → lo ≤ hi → hi ≤ n → (0 < lo → at (lo - 1) .last < x) → (hi < n → x < at hi .first) → Sought (seekOf at lo hi x)
+        (lo hi : ℕ) → hi - lo ≤ k → lo ≤ hi → hi ≤ n → (0 < lo → at (lo - 1) .last < x) → (hi < n → x < at hi .first) → Ends (seekOf at lo hi x)
 
-    step : (p : Probe) → Sought p → Sought (more p)
+    step : (p : Probe) → Ends p → Ends (more p)
     step p h = record { class = h .class; placed = h .placed }
 
     finds-none : Finds zero
     finds-none lo hi h l u p q =
         let e : hi ≡ lo = omega arith in
         let g : lo < n → x < at lo .first = rw e at q in
-        subst Sought (sym (seek-none at x lo hi (omega arith)))
+        subst Ends (sym (seek-none at x lo hi (omega arith)))
         (record {
           class = sym (class-gap lo x (omega arith) p g);
           placed = record { passed = record { within = omega arith; before = p }; reached = λ k. let a = g k in let o = up .ordered lo k in omega arith };
@@ -122,16 +126,16 @@ module _ (at : ℕ → Range) (n : ℕ) (up : Rising at n) where
 
     finds-step :
         (k : ℕ) → Finds k → (lo hi : ℕ) → hi - lo ≤ suc k → lo < hi → hi ≤ n → (0 < lo → at (lo - 1) .last < x) → (hi < n → x < at hi .first)
-        → Dec (x < at ((lo + hi) / 2) .first) → Dec (at ((lo + hi) / 2) .last < x) → Sought (seekOf at lo hi x)
+        → Dec (x < at ((lo + hi) / 2) .first) → Dec (at ((lo + hi) / 2) .last < x) → Ends (seekOf at lo hi x)
     finds-step k f lo hi h l u p q (yes a) d =
-        subst Sought (seek-low at x lo hi _ refl l _ refl a) (step _ (f lo ((lo + hi) / 2) (omega arith) (omega arith) (omega arith) p (λ _. a)))
+        subst Ends (seek-low at x lo hi _ refl l _ refl a) (step _ (f lo ((lo + hi) / 2) (omega arith) (omega arith) (omega arith) p (λ _. a)))
     finds-step k f lo hi h l u p q (no a) (yes b) =
         let m = (lo + hi) / 2 in
         let z : m ≡ m + 1 - 1 = omega arith in
-        subst Sought (seek-high at x lo hi _ refl l _ refl (omega arith) b) (step _ (f (m + 1) hi (omega arith) (omega arith) u (λ _. rw z at b) q))
+        subst Ends (seek-high at x lo hi _ refl l _ refl (omega arith) b) (step _ (f (m + 1) hi (omega arith) (omega arith) u (λ _. rw z at b) q))
     finds-step k f lo hi h l u p q (no a) (no b) =
         let m = (lo + hi) / 2 in
-        subst Sought (seek-here at x lo hi _ refl l (omega arith) (omega arith))
+        subst Ends (seek-here at x lo hi _ refl l (omega arith) (omega arith))
         (record {
           class = sym (class-held m x (omega arith) (omega arith) (omega arith));
           placed =
@@ -145,14 +149,14 @@ module _ (at : ℕ → Range) (n : ℕ) (up : Rising at n) where
     finds zero lo hi h l u p q = finds-none lo hi h l u p q
     finds (suc k) lo hi h l u p q = go (decLt lo hi) (finds k)
       where
-        go : Dec (lo < hi) → Finds k → Sought (seekOf at lo hi x)
+        go : Dec (lo < hi) → Finds k → Ends (seekOf at lo hi x)
         go (yes w) f = finds-step k f lo hi h w u p q (decLt x _) (decLt _ x)
         go (no w) f = finds-none lo hi (omega arith) l u p q
 
     -- the search from lo to hi, where the range before lo ends before x and range hi begins after it
     pub seek-part :
-        (lo hi : ℕ) → lo ≤ hi → hi ≤ n → (0 < lo → at (lo - 1) .last < x) → (hi < n → x < at hi .first) → Sought (seekOf at lo hi x)
+        (lo hi : ℕ) → lo ≤ hi → hi ≤ n → (0 < lo → at (lo - 1) .last < x) → (hi < n → x < at hi .first) → Ends (seekOf at lo hi x)
     seek-part lo hi = finds (hi - lo) lo hi (omega arith)
 
-    pub seek-all : Sought (seekOf at 0 n x)
+    pub seek-all : Ends (seekOf at 0 n x)
     seek-all = seek-part 0 n (omega arith) (omega arith) (λ l. absurd (omega arith)) (λ l. absurd (omega arith))

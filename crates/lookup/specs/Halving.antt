@@ -1,7 +1,7 @@
 -- The halving search (docs/RULES.md, "Lookup and its count"), over ranges given by a function of the index:
 -- those of an image, or its profile entries (`Records.antt`).
 use Prim.Native.Nat.{ℕ, zero, suc, _+_, _-_, _/_}
-use mathlib.Core.Bool.{Bool, true, false, cond}
+use mathlib.Core.Bool.{cond}
 use lib.Dec.{leb, ltb}
 use Rattle.image.specs.Ranges.{holds}
 use Rattle.image.specs.declared.Range.{Range}

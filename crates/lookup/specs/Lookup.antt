@@ -1,7 +1,7 @@
 -- What a lookup answers (docs/RULES.md, "Lookup and its count", and refusals 1 to 4 and 9).
 use Prim.Native.Nat.{ℕ}
 use mathlib.Core.List.{List}
-use mathlib.Core.Bool.{Bool, true, false, cond}
+use mathlib.Core.Bool.{cond}
 use mathlib.Core.Option.{Option, none, some}
 use Rattle.utf8.specs.Scalar.{isScalar}
 use Rattle.refusal.specs.declared.Refusal.{Refusal}

@@ -12,7 +12,7 @@ use Rattle.image.specs.Header.{rangeCount, entryCount}
 use Rattle.image.specs.Ranges.{rangeAt}
 use Rattle.image.specs.Profile.{pointAt, roleAt, afterRole}
 use Rattle.image.specs.Accepted.{Accepted}
-use Rattle.image.specs.Check.{refusalOf}
+use Rattle.image.specs.Means.{RefusalMeans}
 use Rattle.image.specs.declared.Range.{Range}
 use Rattle.lookup.specs.Halving.{seekOf}
 use Rattle.lookup.specs.declared.Found.{Found}
@@ -30,7 +30,7 @@ pub data HasRole (point role : ℕ → ℕ) (m x : ℕ) : ℕ → Type 0 where
 
 -- a refusal of the image; 9; or the class after the profile, and the number of steps of the halving rule
 pub data LookupMeans (s : List ℕ) (x : ℕ) : Found → Type 0 where
-  image-refused : {r : Refusal} → refusalOf s ≡ some r → LookupMeans s x (found.Refused r)
+  image-refused : {r : Refusal} → RefusalMeans s (some r) → LookupMeans s x (found.Refused r)
   not-scalar : Accepted s → isScalar x ≡ false → LookupMeans s x (found.Refused (refusal.NotScalar x))
   found-class :
       {class role : ℕ} → Accepted s → isScalar x ≡ true → HasClass (rangeAt s) (rangeCount s) x class

@@ -9,23 +9,27 @@ ghost use Rattle.lookup.specs.Records.{entryRange, recordAt, recordCount
 ghost use Rattle.lookup.specs.Halving.{more, seekOf};
 ghost use Rattle.lookup.specs.Lookup.{lookupOf};
 use image::Answer;
+use image::ENTRY_BYTES;
+use image::ENTRY_COUNT_AT;
+use image::HEADER_BYTES;
+use image::NONSTART;
+use image::OTHER;
+use image::RANGE_BYTES;
+use image::RANGE_COUNT_AT;
+use image::ROLE_AT;
 use image::Range;
+use image::START;
+use image::UNASSIGNED;
 use refusal::Refusal;
 
-// The roles of profile entries, and the classes that they make.
-const START_ROLE: u32 = 1;
+// The roles of profile entries. A code point of no entry has role 0.
+pub const START_ROLE: u32 = 1;
 
-const NONSTART_ROLE: u32 = 2;
+pub const NONSTART_ROLE: u32 = 2;
 
-const MEDIAL_ROLE: u32 = 3;
+pub const MEDIAL_ROLE: u32 = 3;
 
-const OTHER_ROLE: u32 = 4;
-
-const START: u32 = 1;
-
-const NONSTART: u32 = 2;
-
-const OTHER: u32 = 5;
+pub const OTHER_ROLE: u32 = 4;
 
 // The records of an image that the search goes through.
 pub enum Section {
@@ -53,8 +57,8 @@ pub fn count_records(image: &[u8], section: Section) -> usize
     ensures { λ r. ⌜ r ≡ recordCount (now (image .entry)) section ⌝ }
 {
     match section {
-        Section::Ranges => image::word(image, 12) as usize,
-        Section::Entries => image::word(image, 20) as usize,
+        Section::Ranges => image::word(image, RANGE_COUNT_AT) as usize,
+        Section::Entries => image::word(image, ENTRY_COUNT_AT) as usize,
     }
 }
 
@@ -64,12 +68,13 @@ fn entry_at(image: &[u8], i: usize) -> Range
     requires { ⌜ i < entryCount (now image) ⌝ }
     ensures { λ r. ⌜ r ≡ entryRange (pointAt (now (image .entry))) (roleAt (now (image .entry))) i ⌝ }
 {
-    let at = 32 + 12 * (image::word(image, 12) as usize) + 8 * i;
+    let n = image::word(image, RANGE_COUNT_AT) as usize;
+    let at = HEADER_BYTES + RANGE_BYTES * n + ENTRY_BYTES * i;
     let point = image::word(image, at);
     Range {
         first: point,
         last: point,
-        class: image::word(image, at + 4),
+        class: image::word(image, at + ROLE_AT),
     }
 }
 
@@ -105,7 +110,7 @@ fn seek(image: &[u8], section: Section, lo: usize, hi: usize, x: u32) -> Probe
 {
     if hi <= lo {
         return Probe {
-            class: 0,
+            class: UNASSIGNED,
             count: 0,
             place: lo,
         };
@@ -172,9 +177,7 @@ pub fn lookup_checked(image: &[u8], x: u32) -> Found
 pub fn lookup(image: &[u8], x: u32) -> Found
     ensures { λ r. ⌜ r ≡ lookupOf (now (image .entry)) x ⌝ }
 {
-    let checked = image::check(image);
-    let answer = checked.answer;
-    match answer {
+    match image::judge(image) {
         Answer::Refused(r) => Found::Refused(r),
         Answer::Accepted {
             version: _,

@@ -4,7 +4,6 @@ use mathlib.Core.Path.{_≡_, refl, sym, subst}
 use mathlib.Core.List.{List}
 use native.Mathlib.Omega.{arith}
 use borrow.Author.Needs.{needs}
-use lib.ListN.{length}
 use Rattle.character.specs.Read.{MemoOf, Filled}
 use Rattle.character.proofs.CharacterLaws.{traits-small, filled-more}
 use Rattle.character.proofs.fill_table.Statement.{statement}

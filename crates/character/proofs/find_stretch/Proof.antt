@@ -1,8 +1,4 @@
 -- `character::find_stretch` meets its contract. Assumes nothing.
-use mathlib.Core.Path.{sym, subst}
-use Rattle.lookup.specs.declared.Probe.{Probe}
-use Rattle.lookup.specs.Records.{recordAt, recordCount}
-use Rattle.lookup.specs.Placed.{Placed}
 use Rattle.lookup.proofs.RecordLaws.{found-at}
 use borrow.Author.Needs.{needs}
 use Rattle.character.proofs.find_stretch.Statement.{statement}
@@ -15,7 +11,7 @@ stretch-at-requires : tie.Need-stretch-at-requires
 stretch-at-requires c κs =
     let a = c .before .before .args in
     let p = c .before .before .pre in
-    (p, subst (λ (q : Probe). Placed (recordAt (a .image .now) (a .section)) (recordCount (a .image .now) (a .section)) (q .place) (a .x)) (sym (c .find .ensures)) (found-at _ p (a .section) (a .x) .placed))
+    (p, rw (c .find .ensures) (found-at _ p (a .section) (a .x) .placed))
 
 returns : tie.Need-returns
 returns c = search needs

@@ -19,7 +19,10 @@ add-result : tie.Need-add-result
 add-result c = let e = ap (λ (r : Range). r .last) (c .before .record-at .ensures) in omega (arith, c .before .before .before .before .pre .1 .before (omega arith))
 
 returns-2 : tie.Need-returns-2
-returns-2 c = let e = ap (λ (r : Range). r .last) (c .before .record-at .ensures) in let h = c .before .before .before .before .pre .1 .before (omega arith) in (omega arith, λ _. omega arith)
+returns-2 c =
+    let e = ap (λ (r : Range). r .last) (c .before .record-at .ensures) in
+    let h = c .before .before .before .before .pre .1 .before (omega arith) in
+    (omega arith, λ _. omega arith)
 
 pub gap-start-spec : {M : Type 1} → statement M
 gap-start-spec = tie.close (tie.spec returns sub-record-at record-at-requires add-result returns-2)

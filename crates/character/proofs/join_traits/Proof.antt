@@ -1,7 +1,5 @@
 -- `character::join_traits` meets its contract, by whether the role marks a medial. Assumes nothing.
-use Prim.Native.Nat.{_+_}
 use mathlib.Core.Path.{sym, _∙_}
-use native.Mathlib.Nat.{add-zero}
 use native.Mathlib.Omega.{arith}
 use Rattle.image.proofs.RoleLaws.{after-known}
 use borrow.Author.Needs.{needs}

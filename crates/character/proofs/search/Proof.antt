@@ -23,7 +23,10 @@ returns : tie.Need-returns
 returns c =
     let f = c .before .before .before .before .before .before .find-stretch .ensures in
     let g = c .before .before .before .before .before .find-stretch2 .ensures in
-    memo-of _ _ _ _ _ f g (⊎-elim (λ w. (omega arith, omega arith, omega arith)) (λ w. (omega arith, omega arith, omega arith)) (c .before .before .before .if1 .came)) (⊎-elim (λ w. (omega arith, omega arith, omega arith)) (λ w. (omega arith, omega arith, omega arith)) (c .before .if2 .came)) (c .join-traits .ensures)
+    memo-of _ _ _ _ _ f g
+    (⊎-elim (λ w. (omega arith, omega arith, omega arith)) (λ w. (omega arith, omega arith, omega arith)) (c .before .before .before .if1 .came))
+    (⊎-elim (λ w. (omega arith, omega arith, omega arith)) (λ w. (omega arith, omega arith, omega arith)) (c .before .if2 .came))
+    (c .join-traits .ensures)
 
 pub search-spec : {M : Type 1} → statement M
 search-spec =

@@ -8,7 +8,7 @@ use borrow.Fn.Kinds.{In}
 use borrow.Fn.PlainCycle.{Measures, is, falls, and}
 use Rattle.lookup.proofs.seek.Reads as seek
 use Rattle.lookup.proofs.seek.Kinds as seek-kinds
-use Rattle.lookup.proofs.+seek.Lts-seek as seek-lts
+use Rattle.lookup.proofs.+seek.Lts-seek as lts
 use Rattle.lookup.proofs.add_step.Reads as add-step-reads
 use Rattle.lookup.proofs.record_at.Reads as record-at-reads
 use Rattle.lookup.proofs.+seek.{statement}
@@ -17,57 +17,73 @@ use Rattle.lookup.proofs.+seek.Tie.{close}
 abbrev μ-seek : Measures 1 seek-kinds.ps ℕ
 μ-seek κs a = a .1 .1 .1 .0 - a .1 .1 .0
 
-abbrev seek-at : ℕ → In 1 seek-kinds.ps
-seek-at t = and 1 seek-kinds.ps (is 1 seek-kinds.ps μ-seek t) seek.Pre
+module _ (t : ℕ) where
+  -- what the call is given, at measure t, and what is known of the calls that it makes: those of `seek` are below t
+  abbrev given : In 1 seek-kinds.ps
+  given = and 1 seek-kinds.ps (is 1 seek-kinds.ps μ-seek t) seek.Pre
 
-abbrev seek-below : ℕ → In 1 seek-kinds.ps
-seek-below t = and 1 seek-kinds.ps (falls 1 seek-kinds.ps _<_ μ-seek t) seek.Pre
+  abbrev below : In 1 seek-kinds.ps
+  below = and 1 seek-kinds.ps (falls 1 seek-kinds.ps _<_ μ-seek t) seek.Pre
 
-seek-returns : (t : ℕ) → seek-lts.Need-returns (record-at-reads.Asked, record-at-reads.Learnt, seek-below t, seek.Post, add-step-reads.Asked, add-step-reads.Learnt) (seek-at t) seek.Post
-seek-returns t c = sym (seek-none _ _ _ _ (c .if1 .taken))
+  abbrev calls : lts.Claims
+  calls = (record-at-reads.Asked, record-at-reads.Learnt, below, seek.Post, add-step-reads.Asked, add-step-reads.Learnt)
 
-seek-add-mid : (t : ℕ) → seek-lts.Need-add-mid (record-at-reads.Asked, record-at-reads.Learnt, seek-below t, seek.Post, add-step-reads.Asked, add-step-reads.Learnt) (seek-at t) seek.Post
-seek-add-mid t c = omega (arith, few-records _ (c .before .before .pre .1 .0) (c .before .before .args .section), c .before .before .pre .1 .1)
+  returns : lts.Need-returns calls given seek.Post
+  returns c = sym (seek-none _ _ _ _ (c .if1 .taken))
 
-seek-record-at-requires : (t : ℕ) → seek-lts.Need-record-at-requires (record-at-reads.Asked, record-at-reads.Learnt, seek-below t, seek.Post, add-step-reads.Asked, add-step-reads.Learnt) (seek-at t) seek.Post
-seek-record-at-requires t c κs = (c .before .before .pre .1 .0, omega (arith, c .before .before .pre .1 .1))
+  add-mid : lts.Need-add-mid calls given seek.Post
+  add-mid c = let b = c .before .before in omega (arith, few-records _ (b .pre .1 .0) (b .args .section), b .pre .1 .1)
 
-seek-seek-requires : (t : ℕ) → seek-lts.Need-seek-requires (record-at-reads.Asked, record-at-reads.Learnt, seek-below t, seek.Post, add-step-reads.Asked, add-step-reads.Learnt) (seek-at t) seek.Post
-seek-seek-requires t c κs = (omega arith, (c .before .before .before .before .before .pre .1 .0, omega (arith, c .before .before .before .before .before .pre .1 .1)))
+  record-at-requires : lts.Need-record-at-requires calls given seek.Post
+  record-at-requires c κs = let p = c .before .before .pre .1 in (p .0, omega (arith, p .1))
 
-seek-add-step-requires : (t : ℕ) → seek-lts.Need-add-step-requires (record-at-reads.Asked, record-at-reads.Learnt, seek-below t, seek.Post, add-step-reads.Asked, add-step-reads.Learnt) (seek-at t) seek.Post
-seek-add-step-requires t c κs = seek-fits _ _ _ _ _ (c .seek .ensures) (omega arith)
+  seek-requires : lts.Need-seek-requires calls given seek.Post
+  seek-requires c κs = let p = c .before .before .before .before .before .pre .1 in (omega arith, (p .0, omega (arith, p .1)))
 
-seek-returns-2 : (t : ℕ) → seek-lts.Need-returns-2 (record-at-reads.Asked, record-at-reads.Learnt, seek-below t, seek.Post, add-step-reads.Asked, add-step-reads.Learnt) (seek-at t) seek.Post
-seek-returns-2 t c = c .add-step .ensures ∙ seek-low _ _ _ _ _ (c .before .before .before .before .record-at .ensures) (c .before .before .before .before .before .if1 .left) _ (c .before .seek .ensures) (c .before .before .if2 .taken)
+  add-step-requires : lts.Need-add-step-requires calls given seek.Post
+  add-step-requires c κs = seek-fits _ _ _ _ _ (c .seek .ensures) (omega arith)
 
-seek-add-seek : (t : ℕ) → seek-lts.Need-add-seek (record-at-reads.Asked, record-at-reads.Learnt, seek-below t, seek.Post, add-step-reads.Asked, add-step-reads.Learnt) (seek-at t) seek.Post
-seek-add-seek t c = omega (arith, few-records _ (c .before .before .before .before .before .before .before .pre .1 .0) (c .before .before .before .before .before .before .before .args .section), c .before .before .before .before .before .before .before .pre .1 .1)
+  returns-2 : lts.Need-returns-2 calls given seek.Post
+  returns-2 c =
+      let b = c .before .before .before .before in
+      c .add-step .ensures
+      ∙ seek-low _ _ _ _ _ (b .record-at .ensures) (b .before .if1 .left) _ (c .before .seek .ensures) (c .before .before .if2 .taken)
 
-seek-seek-requires-2 : (t : ℕ) → seek-lts.Need-seek-requires-2 (record-at-reads.Asked, record-at-reads.Learnt, seek-below t, seek.Post, add-step-reads.Asked, add-step-reads.Learnt) (seek-at t) seek.Post
-seek-seek-requires-2 t c κs = (omega arith, (c .before .before .before .before .before .before .before .pre .1 .0, c .before .before .before .before .before .before .before .pre .1 .1))
+  add-seek : lts.Need-add-seek calls given seek.Post
+  add-seek c =
+      let b = c .before .before .before .before .before .before .before in
+      omega (arith, few-records _ (b .pre .1 .0) (b .args .section), b .pre .1 .1)
 
-seek-add-step-requires-2 : (t : ℕ) → seek-lts.Need-add-step-requires-2 (record-at-reads.Asked, record-at-reads.Learnt, seek-below t, seek.Post, add-step-reads.Asked, add-step-reads.Learnt) (seek-at t) seek.Post
-seek-add-step-requires-2 t c κs = seek-fits _ _ _ _ _ (c .seek2 .ensures) (omega arith)
+  seek-requires-2 : lts.Need-seek-requires-2 calls given seek.Post
+  seek-requires-2 c κs = let p = c .before .before .before .before .before .before .before .pre .1 in (omega arith, (p .0, p .1))
 
-seek-returns-3 : (t : ℕ) → seek-lts.Need-returns-3 (record-at-reads.Asked, record-at-reads.Learnt, seek-below t, seek.Post, add-step-reads.Asked, add-step-reads.Learnt) (seek-at t) seek.Post
-seek-returns-3 t c = c .add-step2 .ensures ∙ seek-high _ _ _ _ _ (c .before .before .before .before .before .before .record-at .ensures) (c .before .before .before .before .before .before .before .if1 .left) _ (c .before .seek2 .ensures) (c .before .before .before .before .if2 .left) (c .before .before .if3 .taken)
+  add-step-requires-2 : lts.Need-add-step-requires-2 calls given seek.Post
+  add-step-requires-2 c κs = seek-fits _ _ _ _ _ (c .seek2 .ensures) (omega arith)
 
-seek-returns-4 : (t : ℕ) → seek-lts.Need-returns-4 (record-at-reads.Asked, record-at-reads.Learnt, seek-below t, seek.Post, add-step-reads.Asked, add-step-reads.Learnt) (seek-at t) seek.Post
-seek-returns-4 t c = seek-here _ _ _ _ _ (c .before .before .before .before .record-at .ensures) (c .before .before .before .before .before .if1 .left) (c .before .before .if2 .left) (c .if3 .left)
+  returns-3 : lts.Need-returns-3 calls given seek.Post
+  returns-3 c =
+      let i = c .before .before in
+      let b = i .before .before .before .before in
+      c .add-step2 .ensures
+      ∙ seek-high _ _ _ _ _ (b .record-at .ensures) (b .before .if1 .left) _ (c .before .seek2 .ensures) (i .before .before .if2 .left) (i .if3 .taken)
+
+  returns-4 : lts.Need-returns-4 calls given seek.Post
+  returns-4 c =
+      let b = c .before .before .before .before in
+      seek-here _ _ _ _ _ (b .record-at .ensures) (b .before .if1 .left) (c .before .before .if2 .left) (c .if3 .left)
 
 pub +seek-spec : {M : Type 1} → statement M
-+seek-spec = close μ-seek λ t. seek-lts.spec (record-at-reads.Asked, record-at-reads.Learnt, seek-below t, seek.Post, add-step-reads.Asked, add-step-reads.Learnt)
-    (seek-at t)
++seek-spec = close μ-seek λ t. lts.spec (calls t)
+    (given t)
     seek.Post
-    (seek-returns t)
-    (seek-add-mid t)
-    (seek-record-at-requires t)
-    (seek-seek-requires t)
-    (seek-add-step-requires t)
-    (seek-returns-2 t)
-    (seek-add-seek t)
-    (seek-seek-requires-2 t)
-    (seek-add-step-requires-2 t)
-    (seek-returns-3 t)
-    (seek-returns-4 t)
+    (returns t)
+    (add-mid t)
+    (record-at-requires t)
+    (seek-requires t)
+    (add-step-requires t)
+    (returns-2 t)
+    (add-seek t)
+    (seek-requires-2 t)
+    (add-step-requires-2 t)
+    (returns-3 t)
+    (returns-4 t)

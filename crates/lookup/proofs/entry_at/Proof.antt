@@ -3,7 +3,7 @@ use mathlib.Core.Path.{_∙_, ap}
 use native.Mathlib.Omega.{arith}
 use Rattle.image.specs.Header.{entriesAt}
 use Rattle.image.proofs.ImageLaws.{point-is, role-is}
-use Rattle.lookup.proofs.RecordLaws.{Fits, fits}
+use Rattle.lookup.proofs.RecordLaws.{fits}
 use borrow.Author.Needs.{needs}
 use Rattle.lookup.proofs.entry_at.Statement.{statement}
 use Rattle.lookup.proofs.entry_at.Tie as tie
@@ -11,8 +11,8 @@ use Rattle.lookup.proofs.entry_at.Tie as tie
 word-requires : tie.Need-word-requires
 word-requires c κs = let f = fits _ (c .before .pre .0) in omega arith
 
-cast-at : tie.Need-cast-at
-cast-at c = search needs
+cast-n : tie.Need-cast-n
+cast-n c = search needs
 
 mul-at : tie.Need-mul-at
 mul-at c = search needs
@@ -47,7 +47,7 @@ entry-at-spec =
     tie.close
     (tie.spec
     word-requires
-    cast-at
+    cast-n
     mul-at
     add-at
     mul-at-2

@@ -1,5 +1,4 @@
 -- `lookup::record_at` meets its contract. Assumes nothing.
-use mathlib.Core.Path.{_∙_}
 use native.Mathlib.Omega.{arith}
 use Rattle.lookup.proofs.RecordLaws.{fits}
 use borrow.Author.Needs.{needs}
