@@ -10,7 +10,7 @@ use lib.ListN.{length, take, getD}
 use lib.Seq.{getD-take}
 use lib.Dec.{leb, eqb}
 use borrow.Author.Tests.{leb-true, eqb-true, le-leb, eq-eqb}
-use Rattle.lists.proofs.BoolLaws.{split}
+use Rattle.lists.proofs.BoolLaws.{split, impossible}
 use Rattle.lists.proofs.EachLaws.{column-at, column-past, column-same}
 use Rattle.refusal.specs.declared.Refusal.{Refusal}
 use Rattle.refusal.specs.declared.Refusal.the-variants as refusal
@@ -33,7 +33,7 @@ use Rattle.image.specs.Header.{
   headerRight,
 }
 use Rattle.image.specs.Ranges.{rangeAt}
-use Rattle.image.specs.Profile.{pointAt, roleAt, pointIn, roleIn, profileOf, noProfile}
+use Rattle.image.specs.Profile.{pointAt, roleAt, pointIn, roleIn, profileOf}
 use Rattle.image.specs.Same.{SameProfile}
 use Rattle.image.specs.Accepted.{Sized, Headed, Accepted}
 use Rattle.image.specs.Means.{
@@ -210,24 +210,6 @@ module _ (s : List ℕ) where
   unfolding profileOf
   zeros-past i l = (column-past maxEntries (pointAt s) (entryCount s) i l, column-past maxEntries (roleAt s) (entryCount s) i l)
 
--- what the answer of a check says
-abbrev pub Says : List ℕ → Answer → Profile → Type 0
-Says s (answer.Refused r) p = (refusalOf s ≡ some r) × (p ≡ noProfile)
-Says s (answer.Accepted v n) p = (refusalOf s ≡ none) × (v ≡ versionOf s) × (n ≡ rangeCount s) × (p ≡ profileOf s)
-
-module _ (s : List ℕ) where
-  says-by : (o : Option Refusal) → refusalOf s ≡ o → Says s (checkBy s o .answer) (checkBy s o .profile)
-  says-by none e = (e, refl, refl, refl)
-  says-by (some r) e = (e, refl)
-
-  pub says-of : Says s (checkOf s .answer) (checkOf s .profile)
-  unfolding checkOf
-  says-of = says-by (refusalOf s) refl
-
-  -- for a caller that has the answer in hand
-  pub says : (k : Checked) → k ≡ checkOf s → (a : Answer) → k .answer ≡ a → Says s a (k .profile)
-  says k e a f = subst (λ (x : Answer). Says s x (k .profile)) f (subst (λ (x : Checked). Says s (x .answer) (x .profile)) (sym e) says-of)
-
 -- the answer with a refusal, and without one
 module _ (s : List ℕ) where
   check-by : (o : Option Refusal) → refusalOf s ≡ o → CheckMeans s (checkBy s o)
@@ -253,17 +235,26 @@ module _ (s : List ℕ) where
 
   -- and back, from an answer in hand
   pub refused-by : (a : Answer) → a ≡ checkOf s .answer → (r : Refusal) → a ≡ answer.Refused r → refusalOf s ≡ some r
-  refused-by a e r f = says s (checkOf s) refl (answer.Refused r) (sym e ∙ f) .0
+  unfolding checkOf
+  refused-by a e r f = go _ refl (sym e ∙ f)
+    where
+      go : (o : Option Refusal) → refusalOf s ≡ o → checkBy s o .answer ≡ answer.Refused r → refusalOf s ≡ some r
+      go none g h = impossible (cc)
+      go (some q) g h = let z : q ≡ r = cc in g ∙ ap some z
 
-  pub accepted-by :
-      (a : Answer) → a ≡ checkOf s .answer → (v n : ℕ) → a ≡ answer.Accepted v n → (refusalOf s ≡ none) × (v ≡ versionOf s) × (n ≡ rangeCount s)
-  accepted-by a e v n f =
-      let (o, ev, en, ep) = says s (checkOf s) refl (answer.Accepted v n) (sym e ∙ f) in
-      (o, ev, en)
+  abbrev Accepts : ℕ → ℕ → Type 0
+  Accepts v n = (refusalOf s ≡ none) × (v ≡ versionOf s) × (n ≡ rangeCount s)
+
+  pub accepted-by : (a : Answer) → a ≡ checkOf s .answer → (v n : ℕ) → a ≡ answer.Accepted v n → Accepts v n
+  unfolding checkOf
+  accepted-by a e v n f = go _ refl (sym e ∙ f)
+    where
+      go : (o : Option Refusal) → refusalOf s ≡ o → checkBy s o .answer ≡ answer.Accepted v n → Accepts v n
+      go none g h = (g, cc, cc)
+      go (some q) g h = impossible (cc)
 
   -- what the check accepts is what the calls on a checked image require
-  pub check-accepts :
-      (v n : ℕ) → (checkOf s .answer ≡ answer.Accepted v n) ↔ ((refusalOf s ≡ none) × (v ≡ versionOf s) × (n ≡ rangeCount s))
+  pub check-accepts : (v n : ℕ) → (checkOf s .answer ≡ answer.Accepted v n) ↔ Accepts v n
   check-accepts v n = (accepted-by (checkOf s .answer) refl v n, λ k. sym (accepts (k .0) v n (k .1) (k .2)))
 
 -- equal profile sections give equal profile records, and back

@@ -231,8 +231,7 @@ fn judge_newer(older: &[u8], newer: &[u8], n: usize) -> Pair
     requires { ⌜ n ≡ rangeCount (now older) ⌝ }
     ensures { λ r. ⌜ r ≡ pairOf (now (older .entry)) (now (newer .entry)) ⌝ }
 {
-    let checked = image::check(newer);
-    let answer = checked.answer;
+    let answer = image::judge(newer);
     match answer {
         Answer::Refused(r) => Pair::Newer(r),
         Answer::Accepted { version: _, ranges } => compare(older, newer, n, ranges),
@@ -243,8 +242,7 @@ fn judge_newer(older: &[u8], newer: &[u8], n: usize) -> Pair
 pub fn check_pair(older: &[u8], newer: &[u8]) -> Pair
     ensures { λ r. ⌜ r ≡ pairOf (now (older .entry)) (now (newer .entry)) ⌝ }
 {
-    let checked = image::check(older);
-    let answer = checked.answer;
+    let answer = image::judge(older);
     match answer {
         Answer::Refused(r) => Pair::Older(r),
         Answer::Accepted { version: _, ranges } => judge_newer(older, newer, ranges),
