@@ -88,9 +88,10 @@ loop-less c =
 
 loop-again : tie.Need-loop-again Inv-loop μ-loop
 loop-again c =
-    let k = c .before .before .before .before .before .before .before in
-    (searching-on (k .before .before .loop .inv .0) (looked (c .before .before .before)) (c .before .before .if3 .taken) _ (c .state-after .ensures),
-     k .read .ensures .memo)
+    let k = c .before .before .before .before .before .before .before in (
+      searching-on (k .before .before .loop .inv .0) (looked (c .before .before .before)) (c .before .before .if3 .taken) _ (c .state-after .ensures),
+      k .read .ensures .memo,
+    )
 
 waiting-after-requires : tie.Need-waiting-after-requires Inv-loop μ-loop
 waiting-after-requires c κs =
@@ -104,9 +105,10 @@ loop-less-2 c =
 
 loop-again-2 : tie.Need-loop-again-2 Inv-loop μ-loop
 loop-again-2 c =
-    let k = c .before .before .before .before .before .before .before in
-    (searching-waits (k .before .before .loop .inv .0) (looked (c .before .before .before)) (c .before .if4 .taken) _ (c .waiting-after .ensures),
-     k .read .ensures .memo)
+    let k = c .before .before .before .before .before .before .before in (
+      searching-waits (k .before .before .loop .inv .0) (looked (c .before .before .before)) (c .before .if4 .taken) _ (c .waiting-after .ensures),
+      k .read .ensures .memo,
+    )
 
 end-first-requires-2 : tie.Need-end-first-requires-2 Inv-loop μ-loop
 end-first-requires-2 c κs = search needs
