@@ -4,24 +4,23 @@ use mathlib.Core.Path.{_≡_, refl, sym, ap, subst, _∙_}
 use mathlib.Core.List.{List, [], _∷_, _++_, append-assoc, append-nil}
 use mathlib.Core.Option.{Option, none, some}
 use native.Mathlib.Omega.{arith}
-use native.Mathlib.Decide.{decLt}
 use lib.ListN.{length, take, drop, set, length-append, length-take, length-drop}
 use lib.Seq.{take-at, drop-at, drop-drop}
 use borrow.Rule.Slice.PartMut.{putMid}
 use Rattle.lists.specs.Laid.{laid}
 use Rattle.lists.proofs.LaidLaws.{laid-none, laid-step, length-laid, lent}
 use Rattle.utf8.specs.Text.{widthOf}
-use Rattle.grammar.specs.Step.{idle, under, held, underWay, settle, finish}
+use Rattle.grammar.specs.Step.{idle, under, held, tok, underWay, settle, finish}
 use Rattle.grammar.specs.Grammar.{Kind}
-use Rattle.grammar.specs.Kinds.{kindNumber, kindOf}
+use Rattle.grammar.specs.Kinds.{kindOf}
 use Rattle.grammar.specs.Record.{recordSize, tokensWidth, recordsFrom, wordsOf, listedWords}
 use Rattle.grammar.specs.Reading.{meaningOf, tokensOf}
 use Rattle.grammar.proofs.RecordLaws.{length-records, length-words, length-listed, listed-append}
 use Rattle.grammar.proofs.StepLaws.{Settles, readFrom, first-comes}
 use Rattle.scan.specs.Turns.{numberBy, waiting, states, waitingOf, afterOf}
-use Rattle.scan.specs.Words.{tokenWords, waitingBy, waitingWords, startBy}
+use Rattle.scan.specs.Words.{tokenWords, startBy}
 use Rattle.scan.proofs.TurnLaws.{Tokens, Under, L, Stands, kind-less, stands-less, doneBy, Going}
-use Rattle.scan.proofs.ReachLaws.{charactersAt, Look, NoCharacter, Reached, reached-begins, After, tokens-come, after-settling, all-settled, read-end, after-turn, after-waiting, settles-here, left-here}
+use Rattle.scan.proofs.ReachLaws.{charactersAt, Look, NoCharacter, Reached, reached-begins, After, tokens-come, after-settling, all-settled, settles-none, read-end, after-turn, after-waiting, settles-here, left-here}
 
 -- a record's words at a buffer's front
 pub three-words : (out : List ℕ) (k a b : ℕ) → recordSize ≤ length out → set (set (set out 0 k) 1 a) 2 b ≡ laid out 0 (tokenWords k a b)
@@ -69,28 +68,6 @@ going-one (under k u) g = refl
 going-one idle g = absurd g
 going-one (held k u d) g = absurd g
 
-pub waits-some : (state mid at : ℕ) → waiting < state → waitingWords state mid at ≡ tokenWords (state - waiting) mid at
-unfolding waitingWords
-waits-some state mid at h = go (state - waiting) (omega arith)
-  where
-    go : (n : ℕ) → 0 < n → waitingBy n mid at ≡ tokenWords n mid at
-    go zero l = absurd (omega arith)
-    go (suc n) l = refl
-
-pub none-waits : (state mid at : ℕ) → state ≤ waiting → [] ≡ waitingWords state mid at
-unfolding waitingWords
-none-waits state mid at h = let z : state - waiting ≡ 0 = omega arith in rw z
-
--- what is written of a medial that waits
-module _ (out : List ℕ) (v state mid at : ℕ) where
-  pub none-put : state ≤ waiting → out ≡ laid out v (waitingWords state mid at)
-  none-put h = sym (ap (laid out v) (sym (none-waits state mid at h)) ∙ laid-none out v)
-
-  pub some-put : waiting < state → v + recordSize ≤ length out → (ys : List ℕ) →
-      ys ≡ laid (take (length out - v) (drop v out)) 0 (tokenWords (state - waiting) mid at) →
-      putMid v (length out - v) out ys ≡ laid out v (waitingWords state mid at)
-  some-put h l ys e = lent out (tokenWords (state - waiting) mid at) v l ys e ∙ ap (laid out v) (sym (waits-some state mid at h))
-
 pub part-long : (out : List ℕ) (v : ℕ) → v + recordSize ≤ length out → recordSize ≤ length (take (length out - v) (drop v out))
 part-long out v h = simp (length-take, length-drop) (omega arith)
 
@@ -101,36 +78,21 @@ module _ (s : List ℕ) (state start mid at : ℕ) where
   going-words idle g i = absurd g
   going-words (held k u d) g i = absurd g
 
-  some-waits : (k : Kind) → state ≡ waiting + kindNumber k → tokenWords (kindNumber k) mid at ≡ waitingWords state mid at
-  some-waits k e = let z : kindNumber k ≡ state - waiting = omega arith in ap (λ (n : ℕ). tokenWords n mid at) z
-      ∙ sym (waits-some state mid at (omega (arith, kind-less k)))
-
-  pub held-one : (q : Under) → Stands s q state start mid at → waiting < state → length (underWay q) ≡ 1
-  held-one idle i h = absurd (omega (arith, i .0))
-  held-one (under k u) i h = refl
-  held-one (held k u d) i h = refl
-
   pub began-before : (q : Under) → Stands s q state start mid at → start ≤ at
   began-before idle i = omega (arith, i .1)
   began-before (under k u) i = omega (arith, i .1)
   began-before (held k u d) i = omega (arith, i .1, i .2)
 
-  -- where nothing follows, the last tokens are the one under way and a medial that waits
-  pub finish-words : (q : Under) → Stands s q state start mid at →
-      wordsOf (recordsFrom start (finish (L s) q .tokens)) ≡ wordsOf (recordsFrom start (underWay q)) ++ waitingWords state mid at
+  -- where nothing follows and no medial waits that begins a token, the token under way is the last
+  last-under : (q : Under) → Stands s q state start mid at → state ≤ waiting → finish (L s) q .tokens ≡ underWay q
   unfolding finish settle
-  finish-words idle i = none-waits state mid at (omega (arith, i .0))
-  finish-words (under k u) i = ap (λ ws. wordsOf (recordsFrom start (underWay (under k u))) ++ ws) (none-waits state mid at (omega (arith, i .0, kind-less k)))
-  finish-words (held k u d) i = go (kindOf (meaningOf s) d) refl
+  last-under idle i h = refl
+  last-under (under k u) i h = refl
+  last-under (held k u d) i h = go (kindOf (meaningOf s) d) refl
     where
-      go : (o : Option Kind) → kindOf (meaningOf s) d ≡ o →
-          wordsOf (recordsFrom start (finish (L s) (held k u d) .tokens)) ≡ wordsOf (recordsFrom start (underWay (held k u d))) ++ waitingWords state mid at
-      go none g = rw g (ap (λ ws. wordsOf (recordsFrom start (underWay (held k u d))) ++ ws) (none-waits state mid at (omega (arith, i .0 ∙ ap (λ (o : Option Kind). waiting + numberBy o) g))))
-      go (some j) g =
-          let n = i .0 ∙ ap (λ (o : Option Kind). waiting + numberBy o) g in
-          let m : start + widthOf u ≡ mid = sym (i .1) in
-          let e : start + widthOf u + (d .width + 0) ≡ at = omega (arith, i .1, i .2) in
-          rw g (ap (λ ws. wordsOf (recordsFrom start (underWay (held k u d))) ++ ws) ((λ x. tokenWords (kindNumber j) (m x) (e x)) ∙ some-waits j n))
+      go : (o : Option Kind) → kindOf (meaningOf s) d ≡ o → finish (L s) (held k u d) .tokens ≡ tok k u ∷ []
+      go none g = rw g
+      go (some j) g = absurd (omega (arith, i .0 ∙ ap (λ (o : Option Kind). waiting + numberBy o) g, kind-less j))
 
 module _ (s text out₀ : List ℕ) where
   -- the tokens that are complete, and the one under way up to the place `at`, are in the buffer; w is the word after the complete ones
@@ -249,47 +211,14 @@ module _ {s text out₀ out : List ℕ} {state start mid at w : ℕ} (i : Writin
     writes-left n = all-shown (all-settled (i .reached) h n)
 
   -- nothing follows
-  module _ (room : recordSize * length (tokensOf s text) ≤ length out₀) (e : NoCharacter text at) where
-    last-tokens : tokensOf s text ≡ i .tokens ++ finish (L s) (i .under-way) .tokens
-    last-tokens = sym (ap (λ x. x .tokens) (read-end (i .reached) e))
+  module _ (e : NoCharacter text at) where
+    pub settles-end : Settles (L s) (i .under-way) (charactersAt text at)
+    settles-end = settles-none (i .reached) e
 
-    last-words : listedWords (tokensOf s text) ≡ listedWords (i .tokens ++ underWay (i .under-way)) ++ waitingWords state mid at
-    last-words =
-        let xs = listedWords (i .tokens) in
-        ap listedWords last-tokens ∙ listed-append (i .tokens) (finish (L s) (i .under-way) .tokens)
-        ∙ ap (λ (ws : List ℕ). xs ++ ws) (finish-words s state (tokensWidth (i .tokens)) mid at (i .under-way) (i .reached .stands))
-        ∙ sym (append-assoc xs (wordsOf (recordsFrom (tokensWidth (i .tokens)) (underWay (i .under-way)))) (waitingWords state mid at))
-        ∙ ap (λ (ws : List ℕ). ws ++ waitingWords state mid at) (sym (listed-append (i .tokens) (underWay (i .under-way))))
-
-    shown-size : length (listedWords (i .tokens ++ underWay (i .under-way))) + length (waitingWords state mid at) ≤ length out₀
-    shown-size = omega (arith, ap length last-words, length-append (listedWords (i .tokens ++ underWay (i .under-way))) (waitingWords state mid at), length-listed (tokensOf s text))
-
-    waits-one : waiting < state → (length (underWay (i .under-way)) ≡ 1) × (length (waitingWords state mid at) ≡ recordSize)
-    waits-one h = (held-one s state (tokensWidth (i .tokens)) mid at (i .under-way) (i .reached .stands) h, ap length (waits-some state mid at h))
-
-    pub last-fits : waiting < state → w + recordSize + recordSize ≤ length out
-    last-fits h =
-        let n = waits-one h in
-        omega (arith, shown-size, i .long, i .placed, length-listed (i .tokens ++ underWay (i .under-way)), length-append (i .tokens) (underWay (i .under-way)), n .0, n .1)
-
-    pub writes-last : (out′ : List ℕ) → out′ ≡ laid out (w + recordSize) (waitingWords state mid at) → out′ ≡ laid out₀ 0 (listedWords (tokensOf s text))
-    writes-last out′ f = f ∙ go (decLt waiting state) ∙ ap (laid out₀ 0) (sym last-words)
-      where
-        xs : List ℕ
-        xs = listedWords (i .tokens ++ underWay (i .under-way))
-
-        ws : List ℕ
-        ws = waitingWords state mid at
-
-        go : Dec (waiting < state) → laid out (w + recordSize) ws ≡ laid out₀ 0 (xs ++ ws)
-        go (no n) =
-            let z : ws ≡ [] = sym (none-waits state mid at (omega arith)) in
-            ap (laid out (w + recordSize)) z ∙ laid-none out (w + recordSize) ∙ i .same ∙ ap (laid out₀ 0) (sym (append-nil xs))
-            ∙ ap (λ (ys : List ℕ). laid out₀ 0 (xs ++ ys)) (sym z)
-        go (yes h) =
-            let n = waits-one h in
-            let l : w + recordSize ≡ 0 + length xs = omega (arith, i .placed, length-listed (i .tokens ++ underWay (i .under-way)), length-append (i .tokens) (underWay (i .under-way)), n .0) in
-            (λ j. laid (i .same j) (l j) ws) ∙ sym (laid-step out₀ xs 0 (omega (arith, shown-size)) ws)
+    pub writes-end : state ≤ waiting → out ≡ laid out₀ 0 (listedWords (tokensOf s text))
+    writes-end h =
+        let l = last-under s state (tokensWidth (i .tokens)) mid at (i .under-way) (i .reached .stands) h in
+        all-shown (sym (ap (λ x. x .tokens) (read-end (i .reached) e)) ∙ ap (λ (us : Tokens). i .tokens ++ us) l)
 
   -- a character stands here
   module _ {len traits turn : ℕ} (k : Look s text state at len traits turn) where

@@ -2,7 +2,7 @@
 // the state and the next character give the turn.
 ghost use mathlib.Core.Path.{_≡_};
 ghost use mathlib.Core.Option.{none};
-ghost use Prim.Native.Nat.{_+_, _-_, _*_, _≤_, _<_};
+ghost use Prim.Native.Nat.{_*_, _≤_, _<_};
 ghost use lib.ListN.{length, drop};
 ghost use Rattle.lists.specs.Laid.{laid};
 ghost use Rattle.utf8.specs.Text.{textOf};
@@ -10,9 +10,9 @@ ghost use Rattle.image.specs.Check.{refusalOf};
 ghost use Rattle.character.specs.Read.{TableOf};
 ghost use Rattle.grammar.specs.Record.{recordSize, listedWords};
 ghost use Rattle.grammar.specs.Reading.{maxText, readingOf};
-ghost use Rattle.scan.specs.Turns.{states, waiting, waitingOf, turnOf, afterOf, pendingOf, turnTable, afterTable};
+ghost use Rattle.scan.specs.Turns.{states, waitingOf, turnOf, afterOf, pendingOf, turnTable, afterTable};
 ghost use Rattle.scan.specs.Counted.{stopRefusal, countThrough};
-ghost use Rattle.scan.specs.Words.{tokenWords, waitingWords, startBy};
+ghost use Rattle.scan.specs.Words.{tokenWords, startBy};
 ghost use Rattle.scan.specs.First.{firstOf, pendingFirst};
 use refusal::Refusal;
 use utf8::Text;
@@ -314,18 +314,6 @@ fn put_token(out: &mut [u32], kind: u32, start: usize, end: usize)
     out[2] = end as u32;
 }
 
-// The words of a medial that waits, where nothing follows: the token after the one at word `w`.
-fn put_waiting(out: &mut [u32], w: usize, state: u32, mid: usize, at: usize)
-    requires { ⌜ (mid ≤ maxText) × (at ≤ maxText) ⌝ }
-    requires { ⌜ (waiting < state → w + recordSize + recordSize ≤ length (now out)) ⌝ }
-    ensures { λ _. ⌜ now (out .exit) ≡ laid (now (out .entry)) (w + recordSize) (waitingWords state mid at) ⌝ }
-{
-    if state <= WAITING {
-        return;
-    }
-    put_token(&mut out[w + RECORD_WORDS..], state - WAITING, mid, at);
-}
-
 // Where the token began that is under way after a turn at a place: there, or where it began before.
 fn pick_start(turn: usize, start: usize, at: usize) -> usize
     ensures { λ r. ⌜ r ≡ startBy turn start at ⌝ }
@@ -358,8 +346,7 @@ pub fn write_tokens<'a>(image: &'a [u8], table: &'a [u8; 128], text: &'a [u8], o
         let c = character::read(image, table, memo, text, at);
         let len = c.len;
         if len == 0 {
-            put_waiting(out, w, state, mid, at);
-            return;
+            break;
         }
         memo = c.memo;
         let next = at + len;
@@ -390,7 +377,10 @@ pub fn write_tokens<'a>(image: &'a [u8], table: &'a [u8; 128], text: &'a [u8], o
         }
         return;
     }
-    put_waiting(out, w, state, mid, at);
+    if WAITING < state {
+        w += RECORD_WORDS;
+        put_token(&mut out[w..], state - WAITING, mid, at);
+    }
 }
 
 // The first token, where it is complete at a place.

@@ -2,13 +2,14 @@
 -- them, those of the one under way. Assumes nothing.
 use Prim.Native.Nat.{_+_, _-_, _*_, _/_}
 use mathlib.Core.Path.{refl}
+use mathlib.Core.Logic.{⊎-elim}
 use native.Mathlib.Omega.{arith}
 use borrow.Author.Needs.{needs}
 use lib.ListN.{length}
 use Rattle.character.specs.Read.{MemoOf}
 use Rattle.grammar.specs.Record.{recordSize}
 use Rattle.scan.specs.Turns.{waiting}
-use Rattle.scan.proofs.ReachLaws.{Here, here, here-small, Look, at-ill, at-end}
+use Rattle.scan.proofs.ReachLaws.{Here, here, here-small, Look, NoCharacter, at-ill, at-end}
 use Rattle.scan.proofs.WriteLaws.{
   Writing,
   Due,
@@ -21,8 +22,8 @@ use Rattle.scan.proofs.WriteLaws.{
   writing-less,
   due-settles,
   writes-left,
-  last-fits,
-  writes-last,
+  settles-end,
+  writes-end,
   due-turn,
   writing-waits,
   waits-here,
@@ -89,8 +90,18 @@ settled c =
     let s = waits-here i (looked (c .before .before .before .before)) (c .before .if4 .taken) in
     due-settles i (s .1) (s .0) (c .if5 .left) _ refl
 
-no-memo-requires : tie.Need-no-memo-requires Inv-loop μ-loop
-no-memo-requires c κs = search needs
+-- no character stands where the loop is left
+ended : (c : tie.Left-loop Inv-loop μ-loop) → NoCharacter (c .before .before .before .before .before .before .args .text .now) (c .before .loop .at)
+ended c = ⊎-elim (λ w. at-end _ _ (w .left)) (λ w. at-ill _ _ (w .1 .ensures .none (w .2 .taken))) (c .loop-test .came)
+
+last :
+    (c : tie.Then6 Inv-loop μ-loop)
+    → let a = c .before .before .before .before .before .before .before .args in
+    let l = c .before .before .loop in
+    Due (a .image .now) (a .text .now) (a .out .now) (l .out) (l .state - waiting) (l .mid) (l .mid) (l .at) (l .w + recordSize)
+last c =
+    let i = c .before .before .loop .inv .0 in
+    due-settles i (settles-end i (ended (c .before))) (omega (arith, c .if6 .taken)) (λ e. omega (arith, c .if6 .taken)) _ refl
 
 loop-holds : tie.Need-loop-holds Inv-loop μ-loop
 loop-holds c = (writing-begins _ _ _, c .no-memo .ensures _)
@@ -99,24 +110,6 @@ read-requires : tie.Need-read-requires Inv-loop μ-loop
 read-requires c κs =
     let p = c .before .before .before .before .before .before .pre in
     (p .0, (p .1 .0, (c .before .loop .inv .1, c .loop-test .taken)))
-
-put-waiting-requires : tie.Need-put-waiting-requires Inv-loop μ-loop
-put-waiting-requires c κs =
-    let i = c .before .before .before .before .loop .inv .0 in
-    let p = c .before .before .before .before .before .before .before .before .before .pre .1 .1 in (
-      (omega (arith, i .reached .medial .within, p .0), omega (arith, i .reached .place .within, p .0)),
-      last-fits i (p .1) (at-ill _ _ (c .before .before .read .ensures .none (c .before .if1 .taken))),
-    )
-
-same-length : tie.Need-same-length Inv-loop μ-loop
-same-length c = search needs
-
-returns : tie.Need-returns Inv-loop μ-loop
-returns c =
-    let k = c .before .before .before .before .before in
-    let j = k .before .before .before .before .before .before .before in
-    let e = at-ill _ _ (k .read .ensures .none (c .before .before .before .before .if1 .taken)) in
-    writes-last (k .before .before .loop .inv .0) (j .pre .1 .1 .1) e _ (c .before .before .put-waiting .ensures)
 
 add-next : tie.Need-add-next Inv-loop μ-loop
 add-next c =
@@ -132,9 +125,6 @@ state-after-requires : tie.Need-state-after-requires Inv-loop μ-loop
 state-after-requires c κs =
     let k = c .before .before .before .before .before .before .before .before .before .before .before .before .before in
     (refl, here-small (k .pre .0) (stands (c .before .before .before .before)))
-
-pick-start-requires : tie.Need-pick-start-requires Inv-loop μ-loop
-pick-start-requires c κs = search needs
 
 mul-w : tie.Need-mul-w Inv-loop μ-loop
 mul-w c = omega (arith, c .before .before .before .if2 .taken)
@@ -158,9 +148,6 @@ part-put-token-start : tie.Need-part-put-token-start Inv-loop μ-loop
 part-put-token-start c =
     let k = c .before .before .before .before .before .before .before .before .before .before .before .before .before .before .before in
     omega (arith, due-room (turned c) (k .pre .1 .1 .1))
-
-part-put-token-end : tie.Need-part-put-token-end Inv-loop μ-loop
-part-put-token-end c = search needs
 
 put-token-requires : tie.Need-put-token-requires Inv-loop μ-loop
 put-token-requires c κs =
@@ -198,11 +185,8 @@ loop-less-2 c =
 loop-again-2 : tie.Need-loop-again-2 Inv-loop μ-loop
 loop-again-2 c = (waited c, c .before .before .before .before .before .before .before .read .ensures .memo)
 
-same-length-2 : tie.Need-same-length-2 Inv-loop μ-loop
-same-length-2 c = search needs
-
-returns-2 : tie.Need-returns-2 Inv-loop μ-loop
-returns-2 c =
+returns : tie.Need-returns Inv-loop μ-loop
+returns c =
     let i = c .before .before .before .before .before .before .before .before .before .before .loop .inv .0 in
     writes-left i (waits-here i (looked (c .before .before .before .before)) (c .before .if4 .taken) .1) (c .if5 .taken)
 
@@ -231,9 +215,6 @@ part-put-token-start-2 c =
     let k = c .before .before .before .before .before .before .before .before .before .before .before .before .before .before .before in
     omega (arith, due-room (settled c) (k .pre .1 .1 .1))
 
-part-put-token-end-2 : tie.Need-part-put-token-end-2 Inv-loop μ-loop
-part-put-token-end-2 c = search needs
-
 put-token-requires-2 : tie.Need-put-token-requires-2 Inv-loop μ-loop
 put-token-requires-2 c κs =
     let k = c .before .before .before .before .before .before .before .before .before .before .before .before .before .before .before .before in
@@ -255,30 +236,47 @@ loop-again-3 c =
       k .read .ensures .memo,
     )
 
-same-length-3 : tie.Need-same-length-3 Inv-loop μ-loop
-same-length-3 c = search needs
-
-returns-3 : tie.Need-returns-3 Inv-loop μ-loop
-returns-3 c =
+returns-2 : tie.Need-returns-2 Inv-loop μ-loop
+returns-2 c =
     let k = c .before .before .before .before .before .before .before .before .before in
     writes-stop (k .loop .inv .0) (looked (c .before .before .before)) (omega (arith, c .before .before .if2 .left, c .before .if3 .left, c .if4 .left))
 
-put-waiting-requires-2 : tie.Need-put-waiting-requires-2 Inv-loop μ-loop
-put-waiting-requires-2 c κs =
-    let i = c .before .before .loop .inv .0 in
-    let p = c .before .before .before .before .before .before .before .pre .1 .1 in (
-      (omega (arith, i .reached .medial .within, p .0), omega (arith, i .reached .place .within, p .0)),
-      last-fits i (p .1) (at-end _ _ (c .before .loop-test .left)),
-    )
+add-w-3 : tie.Need-add-w-3 Inv-loop μ-loop
+add-w-3 c =
+    let k = c .before .before .before .before .before .before .before in
+    omega (arith, due-fits (last c) (k .pre .1 .1 .1), k)
 
-same-length-4 : tie.Need-same-length-4 Inv-loop μ-loop
-same-length-4 c = search needs
+mul-put-token-3 : tie.Need-mul-put-token-3 Inv-loop μ-loop
+mul-put-token-3 c =
+    let k = c .before .before .before .before .before .before .before in
+    omega (arith, due-fits (last c) (k .pre .1 .1 .1), k)
+
+sub-put-token-3 : tie.Need-sub-put-token-3 Inv-loop μ-loop
+sub-put-token-3 c = omega (arith, due-room (last c) (c .before .before .before .before .before .before .before .pre .1 .1 .1))
+
+part-put-token-start-3 : tie.Need-part-put-token-start-3 Inv-loop μ-loop
+part-put-token-start-3 c = omega (arith, due-room (last c) (c .before .before .before .before .before .before .before .pre .1 .1 .1))
+
+put-token-requires-3 : tie.Need-put-token-requires-3 Inv-loop μ-loop
+put-token-requires-3 c κs =
+    let p = c .before .before .before .before .before .before .before .before .pre .1 .1 in
+    let b = due-bounds (last (c .before)) (p .1) in
+    ((omega (arith, b .0, p .0), omega (arith, b .1, p .0)), due-part (last (c .before)) (p .1))
+
+same-length-3 : tie.Need-same-length-3 Inv-loop μ-loop
+same-length-3 c =
+    let k = c .before .before .before .before .before .before .before .before .before .before .before in
+    due-put (last (c .before .before .before .before)) (k .pre .1 .1 .1) _ (c .before .before .put-token3 .ensures) .long
+
+returns-3 : tie.Need-returns-3 Inv-loop μ-loop
+returns-3 c =
+    let k = c .before .before .before .before .before in
+    let l = last (c .before .before .before .before) in
+    let i = due-put l (k .before .before .before .before .before .before .pre .1 .1 .1) _ (c .before .before .put-token3 .ensures) in
+    writes-end i (ended (k)) (omega (arith, writing-less (k .before .loop .inv .0)))
 
 returns-4 : tie.Need-returns-4 Inv-loop μ-loop
-returns-4 c =
-    let k = c .before .before .before .before .before in
-    let e = at-end _ _ (c .before .before .before .before .loop-test .left) in
-    writes-last (k .loop .inv .0) (k .before .before .before .before .before .pre .1 .1 .1) e _ (c .before .before .put-waiting2 .ensures)
+returns-4 c = writes-end (c .before .before .loop .inv .0) (ended (c .before)) (c .if6 .left)
 
 pub write-tokens-spec : {M : Type 1} → statement M
 write-tokens-spec =
@@ -286,41 +284,46 @@ write-tokens-spec =
     (tie.spec
     Inv-loop
     μ-loop
-    no-memo-requires
+    (λ c κs. search needs)
     loop-holds
     read-requires
-    put-waiting-requires
-    same-length
-    returns
     add-next
     find-turn-requires
     state-after-requires
-    pick-start-requires
+    (λ c κs. search needs)
     mul-w
     add-w
     mul-put-token
     sub-put-token
     part-put-token-start
-    part-put-token-end
+    (λ c. search needs)
     put-token-requires
     loop-less
     loop-again
     waiting-after-requires
     loop-less-2
     loop-again-2
-    same-length-2
-    returns-2
+    (λ c. search needs)
+    returns
     sub-state
     add-w-2
     mul-put-token-2
     sub-put-token-2
     part-put-token-start-2
-    part-put-token-end-2
+    (λ c. search needs)
     put-token-requires-2
     loop-less-3
     loop-again-3
+    (λ c. search needs)
+    returns-2
+    add-w-3
+    mul-put-token-3
+    sub-put-token-3
+    part-put-token-start-3
+    (λ c. search needs)
+    (λ c. search needs)
+    put-token-requires-3
     same-length-3
     returns-3
-    put-waiting-requires-2
-    same-length-4
+    (λ c. search needs)
     returns-4)
