@@ -94,7 +94,7 @@ static void images(const uint8_t *m, size_t m_len, const uint8_t *m2, size_t m2_
     CHECK(luffinarc_write(1, ranges, 14, points, roles, 1, out, 101, answer) == LUFFINARC_SHAPE && gave(0, 0, 0));
     CHECK(luffinarc_lookup(m, m_len, 0x20, answer) == 0 && gave(LUFFINARC_CLASS_WHITE, 3, 0));
     CHECK(luffinarc_lookup(m, m_len, 0xD800, answer) == LUFFINARC_NOT_SCALAR && gave(0xD800, 0, 0));
-    CHECK(luffinarc_lookup_checked(m, m_len, 5, points, roles, 1, 0x7A, answer) == 0 && gave(LUFFINARC_CLASS_START, 2, 0));
+    CHECK(luffinarc_lookup_checked(m, m_len, 0x7A, answer) == 0 && gave(LUFFINARC_CLASS_START, 2, 0));
     CHECK(luffinarc_pair(m, m_len, m2, m2_len, answer) == 0 && gave(0, 0, 0));
     CHECK(luffinarc_pair(m2, m2_len, m, m_len, answer) == LUFFINARC_CHANGE && gave(0xE9, 0, 0));
 }
@@ -110,17 +110,17 @@ static void tokens(const uint8_t *m, size_t m_len)
     memset(words, 0xFF, sizeof words);
     CHECK(luffinarc_check(m, m_len, points, roles, answer) == 0 && gave(VERSION, 5, 1));
     CHECK(luffinarc_count(m, m_len, text, 7, answer) == 0 && gave(3, 0, 0));
-    CHECK(luffinarc_count_checked(m, m_len, 5, points, roles, 1, text, 7, answer) == 0 && gave(3, 0, 0));
+    CHECK(luffinarc_count_checked(m, m_len, text, 7, answer) == 0 && gave(3, 0, 0));
     CHECK(luffinarc_list(m, m_len, text, 7, words, 8, answer) == LUFFINARC_ROOM && gave(3, 0, 0));
     CHECK(words[0] == UINT32_MAX);
     CHECK(luffinarc_list(m, m_len, text, 7, words, 10, answer) == 0 && gave(3, 0, 0));
     CHECK(memcmp(words, list, sizeof list) == 0 && words[9] == UINT32_MAX);
     memset(words, 0xFF, sizeof words);
-    CHECK(luffinarc_list_checked(m, m_len, 5, points, roles, 1, text, 7, words, 9, answer) == 0 && gave(3, 0, 0));
+    CHECK(luffinarc_list_checked(m, m_len, text, 7, words, 9, answer) == 0 && gave(3, 0, 0));
     CHECK(memcmp(words, list, sizeof list) == 0 && words[9] == UINT32_MAX);
     CHECK(luffinarc_token(m, m_len, text, 7, 5, answer) == 0 && gave(LUFFINARC_KIND_WHITESPACE, 5, 6));
     CHECK(luffinarc_token(m, m_len, text, 7, 4, answer) == LUFFINARC_CHARACTERS && gave(4, 0, 0));
-    CHECK(luffinarc_token_checked(m, m_len, 5, points, roles, 1, text, 7, 7, answer) == LUFFINARC_DONE && gave(0, 0, 0));
+    CHECK(luffinarc_token_checked(m, m_len, text, 7, 7, answer) == LUFFINARC_DONE && gave(0, 0, 0));
     CHECK(luffinarc_part(text, 7, 2, 5, answer) == 0 && gave(2, 3, 0));
     CHECK(luffinarc_part(text, 7, 5, 2, answer) == LUFFINARC_SHAPE && gave(0, 0, 0));
 }

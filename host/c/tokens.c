@@ -70,9 +70,7 @@ static int list(struct bytes image, struct bytes text)
         print_refusal(refusal, answer);
         return 1;
     }
-    size_t ranges = answer[1], used = answer[2];
-    refusal = luffinarc_count_checked(image.at, image.len, ranges, points, roles, used, text.at,
-                                      text.len, answer);
+    refusal = luffinarc_count_checked(image.at, image.len, text.at, text.len, answer);
     if (refusal != 0) {
         print_refusal(refusal, answer);
         return 1;
@@ -83,8 +81,7 @@ static int list(struct bytes image, struct bytes text)
         perror("tokens");
         return 2;
     }
-    luffinarc_list_checked(image.at, image.len, ranges, points, roles, used, text.at, text.len,
-                           words, words_len, answer);
+    luffinarc_list_checked(image.at, image.len, text.at, text.len, words, words_len, answer);
     printf("tokens %" PRIu64 "\n", answer[0]);
     for (size_t i = 0; i < words_len; i += LUFFINARC_TOKEN_WORDS)
         printf("%s %" PRIu32 " %" PRIu32 "\n", kind_name(words[i]), words[i + 1], words[i + 2]);

@@ -171,27 +171,22 @@ uint32_t luffinarc_part(const uint8_t *text, size_t text_len,
 
 /* The calls for an image that was checked once and is not checked again.
  *
- * They must be given an image that luffinarc_check or luffinarc_read accepted, the same bytes still, with `ranges` and
- * `used` the second and third number of that answer and points and roles as that call left them. With anything else
- * they may read outside the image, and their answer means nothing. The safe Rust type `Image` sees to this.
+ * They must be given an image that luffinarc_check or luffinarc_read accepted, whose bytes have not changed since. With
+ * any other they may read outside the image, and their answer means nothing. The safe Rust type `Image` sees to this.
  *
  * Answers and refusals are those of the function without `_checked`, 1 to 4 apart.
  */
-uint32_t luffinarc_lookup_checked(const uint8_t *image, size_t image_len, size_t ranges,
-                                  const uint32_t *points, const uint32_t *roles, size_t used,
+uint32_t luffinarc_lookup_checked(const uint8_t *image, size_t image_len,
                                   uint32_t number, uint64_t *answer);
 
-uint32_t luffinarc_count_checked(const uint8_t *image, size_t image_len, size_t ranges,
-                                 const uint32_t *points, const uint32_t *roles, size_t used,
+uint32_t luffinarc_count_checked(const uint8_t *image, size_t image_len,
                                  const uint8_t *text, size_t text_len, uint64_t *answer);
 
-uint32_t luffinarc_list_checked(const uint8_t *image, size_t image_len, size_t ranges,
-                                const uint32_t *points, const uint32_t *roles, size_t used,
+uint32_t luffinarc_list_checked(const uint8_t *image, size_t image_len,
                                 const uint8_t *text, size_t text_len,
                                 uint32_t *words, size_t words_len, uint64_t *answer);
 
-uint32_t luffinarc_token_checked(const uint8_t *image, size_t image_len, size_t ranges,
-                                 const uint32_t *points, const uint32_t *roles, size_t used,
+uint32_t luffinarc_token_checked(const uint8_t *image, size_t image_len,
                                  const uint8_t *text, size_t text_len,
                                  size_t place, uint64_t *answer);
 

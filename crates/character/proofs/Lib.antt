@@ -1,1 +1,2 @@
 pub mod CharacterLaws
+pub mod TraitLaws

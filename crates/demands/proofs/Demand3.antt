@@ -4,8 +4,8 @@ use mathlib.Core.Path.{_≡_, refl, sym, ap, _∙_}
 use mathlib.Core.Bool.{true}
 use mathlib.Core.List.{List, [], _∷_}
 use mathlib.Core.Logic.{_⊎_, inl, inr, ⊎-map}
-use mathlib.Core.Option.{none, some}
-use lib.ListN.{length, take, drop}
+use mathlib.Core.Option.{some}
+use lib.ListN.{length, drop}
 use lib.Seq.{drop-drop, take-at}
 use Rattle.lists.specs.Laid.{laid}
 use Rattle.lists.proofs.BoolLaws.{impossible}
@@ -13,18 +13,19 @@ use Rattle.refusal.specs.declared.Refusal.{Refusal}
 use Rattle.refusal.specs.declared.Refusal.the-variants.{Characters}
 use Rattle.refusal.specs.Outcome.{given, refused}
 use Rattle.utf8.specs.Scalar.{isScalar}
-use Rattle.utf8.specs.Head.{stepOf}
+use Rattle.utf8.specs.Head.{sequence}
 use Rattle.utf8.specs.Text.{Character, characterOf, Encoded, ends, takes}
-use Rattle.utf8.proofs.SequenceLaws.{step-of-sequence, sequence-scalar}
+use Rattle.utf8.proofs.SequenceLaws.{sequence-scalar}
 use Rattle.utf8.proofs.EncodedLaws.{encoded-next}
 use Rattle.image.specs.Class.{classNamed}
-use Rattle.image.specs.Profile.{profileOf}
 use Rattle.image.specs.Check.{medialOf}
-use Rattle.image.specs.Accepted.{Accepted, Because}
-use Rattle.image.proofs.ImageLaws.{decides}
+use Rattle.image.specs.Accepted.{Accepted}
+use Rattle.image.specs.Means.{RefusalMeans}
+use Rattle.image.proofs.ImageLaws.{refused-none, means-refusal}
 use Rattle.image.proofs.PermittedLaws.{permitted-after, medial-same}
 use Rattle.pair.specs.declared.Pair.the-variants as pair
-use Rattle.pair.proofs.PairLaws.{pair-means, means-pair, profiles-equal}
+use Rattle.pair.specs.Means.{all-permitted}
+use Rattle.pair.proofs.PairLaws.{permitted-means, means-pair}
 use Rattle.grammar.specs.All.{All}
 use Rattle.grammar.specs.Scan.{Tok}
 use Rattle.grammar.specs.Grammar.{Kind}
@@ -40,12 +41,12 @@ use Rattle.demands.proofs.DividedLaws.{divided-unique, left-encoded}
 use Rattle.demands.proofs.MeansLaws.{count-means, means-count, list-means, means-list, list-written}
 
 stands : {s rest : List ℕ} {c : Character} {r : List Character} → Encoded s (c ∷ r) rest → StandsAt s 0 (c .code) (c .width)
-stands (takes q r e f d) = ap stepOf e ∙ step-of-sequence q r f
+stands (takes q r e f d) = sequence q r e f refl refl
 
-no-refusal : {s : List ℕ} → Accepted s → (r : Refusal) → Because s (some r) → ⊥
-no-refusal {s} a r m =
-    let e = decides s none a in
-    let f = decides s (some r) m in
+no-refusal : {s : List ℕ} {r : Refusal} → Accepted s → RefusalMeans s (some r) → ⊥
+no-refusal {s} {r} a m =
+    let e = refused-none s a in
+    let f = means-refusal s (some r) m in
     impossible (cc)
 
 module _ (older newer text : List ℕ) (L : Later older newer) where
@@ -53,8 +54,8 @@ module _ (older newer text : List ℕ) (L : Later older newer) where
   allowed : (c : Character) → isScalar (c .code) ≡ true → Allowed (meaningOf older) (meaningOf newer) c
   unfolding meaningOf
   allowed c h =
-      let e = profiles-equal older newer (L .profiles) in
-      record { permitted = permitted-after older newer e (c .code) (L .permitted (c .code) h); medial = medial-same older newer e (c .code) }
+      let x = c .code in
+      record { permitted = permitted-after older newer (L .profiles) x (L .permitted x h); medial = medial-same older newer (L .profiles) x }
 
   all-allowed : {s rest : List ℕ} {cs : List Character} → Encoded s cs rest → All (Allowed (meaningOf older) (meaningOf newer)) cs
   all-allowed (ends n) = tt
@@ -95,11 +96,11 @@ module _ (older newer text : List ℕ) (L : Later older newer) where
 
   -- the refusals, whatever the room
   refused-characters : {p : ℕ} → Refuses older text (Characters p) → Refuses newer text (Characters p) ⊎ Excepted older newer text p
-  refused-characters (of-image {r} m) = absurd (no-refusal (L .olderAccepted) r m)
+  refused-characters (of-image m) = absurd (no-refusal (L .olderAccepted) m)
   refused-characters (no-token t) = ⊎-map no-token (λ x. x) (stopped t)
 
   refused-other : {r : Refusal} → ((p : ℕ) → r ≡ Characters p → ⊥) → Refuses older text r → Refuses newer text r
-  refused-other n (of-image {r} m) = absurd (no-refusal (L .olderAccepted) r m)
+  refused-other n (of-image m) = absurd (no-refusal (L .olderAccepted) m)
   refused-other n (too-long a l) = too-long (L .newerAccepted) l
   refused-other n (ill-formed a l m) = ill-formed (L .newerAccepted) l m
   refused-other n (no-token {p} t) = absurd (n p refl)
@@ -166,11 +167,11 @@ demand-3 older newer L text out newOut room =
 module _ (older newer : List ℕ) where
   pub later-of-pair : SaysYes older newer → Later older newer
   later-of-pair y =
-      let ((a, b), p, c) = pair-means older newer pair.Permitted y in
+      let (a, b, p, c) = permitted-means older newer y in
       record { olderAccepted = a; newerAccepted = b; profiles = p; permitted = c }
 
   pub pair-of-later : Later older newer → SaysYes older newer
-  pair-of-later L = means-pair older newer pair.Permitted ((L .olderAccepted, L .newerAccepted), L .profiles, L .permitted)
+  pair-of-later L = means-pair older newer pair.Permitted (all-permitted (L .olderAccepted) (L .newerAccepted) (L .profiles) (L .permitted))
 
   -- then demand 3 holds for every text, whatever its bytes, and any two token buffers with the same room
   pub demand-3-of-pair : SaysYes older newer → (text out newOut : List ℕ) → roomOf (length newOut) ≡ roomOf (length out) → Demand3 older newer text out newOut

@@ -5,7 +5,7 @@ use mathlib.Core.List.{List, [], append-nil}
 use native.Mathlib.Omega.{arith}
 use lib.ListN.{length, drop, length-drop}
 use Rattle.utf8.specs.Text.{Character, Encoded, decode, widthOf}
-use Rattle.utf8.proofs.TextLaws.{encoded-unique, covers}
+use Rattle.utf8.proofs.TextLaws.{means-decode, decode-covers}
 use Rattle.utf8.proofs.EncodedLaws.{encoded-from}
 use Rattle.grammar.specs.Scan.{Tok, unitsOf}
 use Rattle.grammar.specs.Grammar.{Kind, Token}
@@ -18,7 +18,7 @@ use Rattle.demands.specs.Demand2.{Readable, Divided}
 
 module _ {s text : List ℕ} where
   characters-unique : {cs : List Character} → Readable s text cs → decode text .characters ≡ cs
-  characters-unique h = ap (λ d. d .characters) (encoded-unique (h .wellFormed))
+  characters-unique h = ap (λ d. d .characters) (means-decode (h .wellFormed))
 
   pub reading-divides : {cs : List Character} → Readable s text cs → Divided s text (readingOf s text .tokens) (readingOf s text .left)
   unfolding readingOf
@@ -38,7 +38,7 @@ module _ {s text : List ℕ} where
   -- the list covers the text from byte 0 to its end
   pub divided-covers : {ts : List (Tok Character Kind)} → Divided s text ts [] → tokensWidth ts ≡ length text
   divided-covers {ts} d =
-      let c = rw (encoded-unique (d .readable .wellFormed)) at (covers text) in
+      let c = rw (means-decode (d .readable .wellFormed)) at (decode-covers text) in
       let u : d .characters ≡ unitsOf ts = division-covers (Token (meaningOf s)) (d .division) ∙ append-nil (unitsOf ts) in
       let w : tokensWidth ts ≡ widthOf (d .characters) = tokens-width ts ∙ ap widthOf (sym u) in
       let l = length-drop (widthOf (d .characters)) text in

@@ -1,5 +1,5 @@
 -- Counting and writing the list: each answer, exactly when, and what the buffer then holds. Assumes nothing.
-use Prim.Native.Nat.{ℕ, _≤_, _<_}
+use Prim.Native.Nat.{ℕ, _≤_}
 use mathlib.Core.Path.{_≡_, refl, sym, ap, subst, _∙_}
 use mathlib.Core.Bool.{Bool, true, false}
 use mathlib.Core.List.{List, [], _∷_}
@@ -13,17 +13,17 @@ use Rattle.refusal.specs.declared.Refusal.the-variants as refusal
 use Rattle.refusal.specs.Outcome.{Outcome, given, refused, unless, refusedIf, outcomeMap}
 use Rattle.utf8.specs.declared.Text.{Text}
 use Rattle.utf8.specs.declared.Text.the-variants as form
-use Rattle.utf8.specs.Text.{Character, TextMeans, textOf}
+use Rattle.utf8.specs.Text.{Character, TextMeans, well-formed, ill-formed as bad-form, textOf}
 use Rattle.utf8.proofs.TextLaws.{text-means, means-text}
 use Rattle.image.specs.Check.{refusalOf}
 use Rattle.image.specs.Accepted.{Accepted}
-use Rattle.image.proofs.ImageLaws.{why, decides}
+use Rattle.image.proofs.ImageLaws.{refusal-means, means-refusal, accepted, refused-none}
 use Rattle.grammar.specs.Scan.{Tok}
 use Rattle.grammar.specs.Grammar.{Kind}
 use Rattle.grammar.specs.Record.{roomOf, listedWords}
 use Rattle.grammar.specs.Reading.{maxText, readingOf, lengthRefusal, formRefusalBy, formRefusal, judged, outcomeOf, countOf, roomed, writtenOf, listOf, laidBy, listWords}
 use Rattle.grammar.proofs.AnswerLaws.{counts-given, counts-refused, roomed-in, roomed-out, roomed-given}
-use Rattle.demands.specs.Demand2.{Readable, Divided, Stopped}
+use Rattle.demands.specs.Demand2.{Divided}
 use Rattle.demands.specs.Means.{Refuses, of-image, too-long, ill-formed, no-token, CountMeans, counts, count-refuses, ListMeans, lists, no-room, list-refuses}
 use Rattle.demands.proofs.DividedLaws.{reading-divides, divided-unique}
 
@@ -38,8 +38,8 @@ module _ (s text : List ℕ) where
   judged-means ts (c ∷ r) d = refuses (no-token (record { tokens = ts; first = c; others = r; divided = d; place = refl }))
 
   form-means : Accepted s → length text ≤ maxText → (t : Text) → TextMeans text t → OutcomeMeans (unless (formRefusalBy t) (judged (readingOf s text .tokens) (readingOf s text .left)))
-  form-means a l form.WellFormed m = judged-means (readingOf s text .tokens) (readingOf s text .left) (reading-divides (record { image = a; short = l; wellFormed = m .1 }))
-  form-means a l (form.IllFormed p) m = refuses (ill-formed a l m)
+  form-means a l t (well-formed e) = judged-means (readingOf s text .tokens) (readingOf s text .left) (reading-divides (record { image = a; short = l; wellFormed = e }))
+  form-means a l t (bad-form e h p) = refuses (ill-formed a l (bad-form e h p))
 
   length-means : Accepted s → (b : Bool) → ltb maxText (length text) ≡ b →
       OutcomeMeans (unless (refusedIf b refusal.TextLength) (unless (formRefusal text) (judged (readingOf s text .tokens) (readingOf s text .left))))
@@ -52,8 +52,8 @@ module _ (s text : List ℕ) where
     where
       go : (o : Option Refusal) → refusalOf s ≡ o →
           OutcomeMeans (unless o (unless (lengthRefusal text) (unless (formRefusal text) (judged (readingOf s text .tokens) (readingOf s text .left)))))
-      go none e = length-means (why s none e) _ refl
-      go (some r) e = refuses (of-image (why s (some r) e))
+      go none e = length-means (accepted s e) _ refl
+      go (some r) e = refuses (of-image (refusal-means s (some r) e))
 
   pub outcome-means : (o : Outcome (List (Tok Character Kind))) → outcomeOf s text ≡ o → OutcomeMeans o
   outcome-means o e = subst OutcomeMeans e own-means
@@ -64,14 +64,14 @@ module _ (s text : List ℕ) where
   judged-by d =
       let h = d .readable in
       let u = divided-unique (reading-divides h) d in
-      rw (decides s none (h .image), le-ltb maxText (length text) (h .short), means-text text form.WellFormed (d .characters, h .wellFormed)) (λ i. judged (u .0 i) (u .1 i))
+      rw (refused-none s (h .image), le-ltb maxText (length text) (h .short), means-text text form.WellFormed (well-formed (h .wellFormed))) (λ i. judged (u .0 i) (u .1 i))
 
   pub means-outcome : (o : Outcome (List (Tok Character Kind))) → OutcomeMeans o → outcomeOf s text ≡ o
   unfolding outcomeOf lengthRefusal
   means-outcome o (divides d) = judged-by d
-  means-outcome o (refuses (of-image {r} m)) = rw (decides s (some r) m)
-  means-outcome o (refuses (too-long a l)) = rw (decides s none a, lt-ltb maxText (length text) l)
-  means-outcome o (refuses (ill-formed {p} a l m)) = rw (decides s none a, le-ltb maxText (length text) l, means-text text (form.IllFormed p) m)
+  means-outcome o (refuses (of-image {r} m)) = rw (means-refusal s (some r) m)
+  means-outcome o (refuses (too-long a l)) = rw (refused-none s a, lt-ltb maxText (length text) l)
+  means-outcome o (refuses (ill-formed {p} a l m)) = rw (refused-none s a, le-ltb maxText (length text) l, means-text text (form.IllFormed p) m)
   means-outcome o (refuses (no-token t)) = judged-by (t .divided) ∙ ap (λ (p : ℕ). refused (refusal.Characters p)) (sym (t .place))
 
   -- counting

@@ -1,6 +1,6 @@
 -- A newer meaning of the units keeps the older division of a text, unless that ended at a unit that changed, or at a medial before one.
 -- Over the tokens of the grammar: no reader is known here. Assumes nothing.
-use Prim.Native.Nat.{ℕ, suc, _≤_, _<_}
+use Prim.Native.Nat.{ℕ, _≤_, _<_}
 use mathlib.Core.Path.{_≡_, refl, sym, ap, subst, _∙_}
 use mathlib.Core.Bool.{Bool, true, false, true≢false}
 use mathlib.Core.List.{List, [], _∷_, _++_, append-assoc}
@@ -10,7 +10,7 @@ use native.Mathlib.Omega.{arith}
 use native.Mathlib.Decide.{decLt}
 use lib.ListN.{length, length-append}
 use Rattle.lists.proofs.BoolLaws.{impossible}
-use Rattle.image.specs.Class.{Class, Unassigned, White, class-discrete}
+use Rattle.image.specs.Class.{Class, White, class-discrete}
 use Rattle.image.specs.Permitted.{
   Permitted,
   same,
@@ -26,9 +26,9 @@ use Rattle.grammar.specs.Scan.{Tok}
 use Rattle.grammar.specs.Division.{Longest, NoToken, Division, ends, takes}
 use Rattle.grammar.specs.Meaning.{Meaning}
 use Rattle.grammar.specs.Grammar.{Kind, identifier, syntax, whitespace, Continue, IsContinue, IsMedial, IsWhite, Identifier, Token}
-use Rattle.grammar.specs.Kinds.{isContinue, kindOfClass}
-use Rattle.grammar.proofs.GrammarLaws.{continue-means, continue-test, first-class, fits, tokens-divide}
-use Rattle.grammar.proofs.TailLaws.{Tail, no-more, continued, linked, Begun, identifier-begun, begun-identifier, tail-append, tail-from}
+use Rattle.grammar.specs.Kinds.{kindOfClass}
+use Rattle.grammar.proofs.GrammarLaws.{first-class, fits, tokens-divide}
+use Rattle.grammar.proofs.TailLaws.{Tail, no-more, continued, linked, identifier-begun, tail-identifier, tail-append, tail-from}
 use Rattle.demands.specs.Firm.{Allowed, Settled, Changed, Firm, Touched}
 
 -- a Continue stays one; a class that begins a token doesn't change; nothing becomes White
@@ -36,11 +36,8 @@ keeps-continue : {a b : Class} → Permitted a b → Continue a → Continue b
 keeps-continue (same p) e = subst Continue p e
 keeps-continue unassigned-start e = inl refl
 keeps-continue unassigned-nonstart e = inr refl
-keeps-continue unassigned-other e = impossible (no-class e)
-  where
-    no-class : Continue Unassigned → _≡_ {A = ℕ} 0 1
-    no-class (inl e) = cc
-    no-class (inr e) = cc
+keeps-continue unassigned-other (inl e) = impossible (cc)
+keeps-continue unassigned-other (inr e) = impossible (cc)
 keeps-continue other-start e = inl refl
 keeps-continue other-nonstart e = inr refl
 keeps-continue nonstart-start e = inl refl
@@ -121,15 +118,9 @@ module _ {A : Type 0} (older newer : Meaning A) where
 
   token-stays : (k : Kind) (u : List A) → AllAllowed u → Token older k u → Token newer k u
   token-stays identifier u a t =
-      let b = identifier-begun older t in
-      let c : AllAllowed (b .first ∷ b .after) = rw (b .whole) at a in
-      begun-identifier newer (record {
-        first = b .first;
-        after = b .after;
-        whole = b .whole;
-        start = keeps-first (c .0 .permitted) identifier (ap kindOfClass (b .start)) ∙ b .start;
-        tail = tail-stays (c .1) (b .tail);
-      })
+      let i = identifier-begun older t in
+      let b : AllAllowed (i .first ∷ i .after) = rw (i .whole) at a in
+      rw (i .whole) (tail-identifier newer (keeps-first (b .0 .permitted) identifier (ap kindOfClass (i .start)) ∙ i .start) (tail-stays (b .1) (i .tail)))
   token-stays syntax u a t =
       let c : AllAllowed (t .only ∷ []) = rw (t .whole) at a in
       record { only = t .only; whole = t .whole; class = keeps-first (c .0 .permitted) syntax (ap kindOfClass (t .class)) ∙ t .class }
@@ -188,17 +179,17 @@ module _ {A : Type 0} (older newer : Meaning A) where
       go : (j : Kind) → Token older j u → c ∷ r ≡ u ++ rest → Settled older newer r
       go identifier t e =
           let i = identifier-begun older t in
-          let f : c ≡ i .first = let h = ap (λ x. x ++ rest) (i .whole) in cc in
-          absurd (n (inl (ap (older .class) f ∙ i .start)))
+          let h : c ≡ i .first = let z = ap (λ y. y ++ rest) (i .whole) in cc in
+          absurd (n (inl (ap (older .class) h ∙ i .start)))
       go syntax t e = after (t .only) [] (e ∙ ap (λ x. x ++ rest) (t .whole)) tt
       go whitespace t e = after (t .first) (t .others) (e ∙ ap (λ x. x ++ rest) (t .whole)) (t .white .1)
 
   -- an identifier that is the longest is followed by no tail
   grows : {s u rest : List A} → Longest (Token older) s identifier u rest → (x y : List A) → rest ≡ x ++ y → Tail older x → length x ≤ 0
   grows {s} {u} {rest} L x y e t =
-      let b = identifier-begun older (L .token) in
-      let i = begun-identifier older (record { first = b .first; after = b .after ++ x; whole = ap (λ z. z ++ x) (b .whole); start = b .start; tail = tail-append older (b .tail) t }) in
-      let l = L .longest identifier (u ++ x) y (L .whole ∙ ap (λ z. u ++ z) e ∙ sym (append-assoc u x y)) i in
+      let i = identifier-begun older (L .token) in
+      let j : Identifier older (u ++ x) = rw (i .whole) (tail-identifier older (i .start) (tail-append older (i .tail) t)) in
+      let l = L .longest identifier (u ++ x) y (L .whole ∙ ap (λ z. u ++ z) e ∙ sym (append-assoc u x y)) j in
       omega (arith, length-append u x)
 
   no-continue : {s u r : List A} {x : A} → Longest (Token older) s identifier u (x ∷ r) → IsContinue older x → ⊥
@@ -260,7 +251,7 @@ module _ {A : Type 0} (older newer : Meaning A) where
 
   -- one unit of a class that begins a token is one
   single : (k : Kind) (c : A) → kindOfClass (older .class c) ≡ some k → Token older k (c ∷ [])
-  single identifier c f = begun-identifier older (record { first = c; after = []; whole = refl; start = first-class (older .class c) identifier f; tail = no-more })
+  single identifier c f = tail-identifier older (first-class (older .class c) identifier f) no-more
   single syntax c f = record { only = c; whole = refl; class = first-class (older .class c) syntax f }
   single whitespace c f = record { first = c; others = []; whole = refl; white = (first-class (older .class c) whitespace f, tt) }
 

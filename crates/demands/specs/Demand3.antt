@@ -9,13 +9,14 @@ use Rattle.refusal.specs.declared.Refusal.{Refusal}
 use Rattle.refusal.specs.declared.Refusal.the-variants as refusal
 use Rattle.refusal.specs.Outcome.{Outcome, given, refused}
 use Rattle.utf8.specs.declared.Step.the-variants.{Scalar}
-use Rattle.utf8.specs.Head.{stepOf}
+use Rattle.utf8.specs.Head.{StepMeans}
 use Rattle.utf8.specs.Text.{Character}
 use Rattle.image.specs.Check.{classOf, medialOf}
 use Rattle.image.specs.Accepted.{Accepted}
+use Rattle.image.specs.Same.{SameProfile}
 use Rattle.pair.specs.declared.Pair.the-variants as pair
 use Rattle.pair.specs.Pair.{pairOf}
-use Rattle.pair.specs.Means.{SameProfile, OnlyPermitted}
+use Rattle.pair.specs.Means.{OnlyPermitted}
 use Rattle.grammar.specs.Scan.{Tok}
 use Rattle.grammar.specs.Grammar.{Kind}
 use Rattle.grammar.specs.Record.{recordSize}
@@ -36,7 +37,7 @@ SaysYes older newer = pairOf older newer ≡ pair.Permitted
 
 -- the code point x begins at byte p of the text and has n bytes
 abbrev pub StandsAt : List ℕ → ℕ → ℕ → ℕ → Type 0
-StandsAt text p x n = stepOf (drop p text) ≡ Scalar x n
+StandsAt text p x n = StepMeans (drop p text) (Scalar x n)
 
 -- x has another class after the profile in the newer
 abbrev pub AnotherClass : List ℕ → List ℕ → ℕ → Type 0

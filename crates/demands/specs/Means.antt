@@ -10,7 +10,8 @@ use Rattle.refusal.specs.declared.Refusal.the-variants as refusal
 use Rattle.refusal.specs.Outcome.{Outcome, given, refused}
 use Rattle.utf8.specs.declared.Text.the-variants as form
 use Rattle.utf8.specs.Text.{Character, TextMeans}
-use Rattle.image.specs.Accepted.{Accepted, Because}
+use Rattle.image.specs.Accepted.{Accepted}
+use Rattle.image.specs.Means.{RefusalMeans}
 use Rattle.grammar.specs.Scan.{Tok}
 use Rattle.grammar.specs.Grammar.{Kind}
 use Rattle.grammar.specs.Record.{roomOf}
@@ -21,7 +22,7 @@ module _ (s text : List ℕ) where
   -- the refusals of an image and a text, whatever the room
   pub data Refuses : Refusal → Type 0 where
     -- 1 to 4: those of the image
-    of-image : {r : Refusal} → Because s (some r) → Refuses r
+    of-image : {r : Refusal} → RefusalMeans s (some r) → Refuses r
     -- 5: the text is too long
     too-long : Accepted s → maxText < length text → Refuses refusal.TextLength
     -- 6: p is the first place at which no well-formed sequence begins

@@ -7,16 +7,15 @@ use mathlib.Core.Option.{Option, none, some}
 use native.Mathlib.Omega.{arith}
 use lib.ListN.{length, length-append}
 use lib.Dec.{ltb}
+use Rattle.lists.proofs.BoolLaws.{impossible}
 use Rattle.refusal.specs.declared.Refusal.{Refusal}
 use Rattle.refusal.specs.declared.Refusal.the-variants as refusal
 use Rattle.refusal.specs.Refusal.{numberOf}
 use Rattle.refusal.specs.Outcome.{Outcome, given, refused, unless, refusedIf}
 use Rattle.utf8.specs.declared.Text.{Text}
 use Rattle.utf8.specs.declared.Text.the-variants as form
-use Rattle.utf8.specs.Table.{Sequence}
-use Rattle.utf8.specs.Text.{Character, Encoded, ends, takes, decode, textOf}
-use Rattle.utf8.proofs.SequenceLaws.{not-empty}
-use Rattle.utf8.proofs.TextLaws.{decode-means}
+use Rattle.utf8.specs.Text.{Character, decode, textOf}
+use Rattle.utf8.proofs.TextLaws.{characters-few}
 use Rattle.image.specs.Check.{refusalOf}
 use Rattle.image.proofs.ImageLaws.{refusal-number}
 use Rattle.grammar.specs.Scan.{Tok}
@@ -29,22 +28,11 @@ use Rattle.grammar.specs.Reading.{maxText, meaningOf, readingOf, tokensO
 use Rattle.grammar.proofs.GrammarLaws.{tokens-divide}
 use Rattle.grammar.proofs.AnswerLaws.{counts-given, roomed-in, roomed-given}
 
--- a sequence has a byte, and a token a unit
-sequence-some : (q : List ℕ) → Sequence q → 0 < length q
-sequence-some [] f = absurd (not-empty f)
-sequence-some (b ∷ q) f = omega arith
-
+-- a token has a unit
 token-some : {A : Type 0} (m : Meaning A) (k : Kind) (u : List A) → Token m k u → 0 < length u
 token-some m identifier u t = let l = ap length (t .whole) in omega arith
 token-some m syntax u t = let l = ap length (t .whole) in omega arith
 token-some m whitespace u t = let l = ap length (t .whole) in omega arith
-
-few-characters : {s rest : List ℕ} {cs : List Character} → Encoded s cs rest → length cs ≤ length s
-few-characters (ends n) = omega arith
-few-characters (takes q r e f c) =
-    let i = few-characters c in
-    let l = ap length e ∙ length-append q r in
-    omega (arith, sequence-some q f)
 
 few-divided : {A : Type 0} (m : Meaning A) {s left : List A} {ts : List (Tok A Kind)} → Division (Token m) s ts left → length ts ≤ length s
 few-divided m (division.ends n) = omega arith
@@ -56,35 +44,38 @@ few-divided m (division.takes {k = k} {u = u} {rest = r} l d) =
 module _ (s text : List ℕ) where
   pub few-tokens : length (tokensOf s text) ≤ length text
   unfolding readingOf
-  few-tokens = omega (arith, few-divided (meaningOf s) (tokens-divide (meaningOf s) (decode text .characters)), few-characters (decode-means text))
+  few-tokens = omega (arith, few-divided (meaningOf s) (tokens-divide (meaningOf s) (decode text .characters)), characters-few text)
 
-  -- an outcome is a refusal of 1 to 7, or no more tokens than the text has bytes
+  -- an outcome is a refusal other than 8, or no more tokens than the text has bytes
   abbrev Read : Outcome (List (Tok Character Kind)) → Type 0
   Read (given ts) = length ts ≤ length text
-  Read (refused r) = numberOf r ≤ 7
+  Read (refused r) = (n : ℕ) → r ≡ refusal.Room n → ⊥
 
   by-left : (l : List Character) → Read (judged (tokensOf s text) l)
   by-left [] = few-tokens
-  by-left (c ∷ l) = omega arith
+  by-left (c ∷ l) = λ n e. impossible (cc)
 
   by-form : (t : Text) (o : Outcome (List (Tok Character Kind))) → Read o → Read (unless (formRefusalBy t) o)
   by-form form.WellFormed o h = h
-  by-form (form.IllFormed p) o h = omega arith
+  by-form (form.IllFormed p) o h = λ n e. impossible (cc)
 
   by-length : (b : Bool) (o : Outcome (List (Tok Character Kind))) → Read o → Read (unless (refusedIf b refusal.TextLength) o)
-  by-length true o h = omega arith
+  by-length true o h = λ n e. impossible (cc)
   by-length false o h = h
 
   by-image : (a : Option Refusal) (o : Outcome (List (Tok Character Kind))) → refusalOf s ≡ a → Read o → Read (unless a o)
   by-image none o e h = h
-  by-image (some r) o e h = omega (arith, refusal-number s r e)
+  by-image (some r) o e h = λ n f. let k = ap numberOf f in omega (arith, refusal-number s r e)
 
   outcome-read : Read (outcomeOf s text)
   unfolding outcomeOf lengthRefusal
   outcome-read = by-image (refusalOf s) _ refl (by-length (ltb maxText (length text)) _ (by-form (textOf text) _ (by-left (readingOf s text .left))))
 
-  pub outcome-number : (r : Refusal) → outcomeOf s text ≡ refused r → numberOf r ≤ 7
-  outcome-number r e = rw e at outcome-read
+  -- 8 comes of the room alone
+  pub outcome-no-room : (n : ℕ) → outcomeOf s text ≡ refused (refusal.Room n) → ⊥
+  outcome-no-room n e =
+      let h : Read (refused (refusal.Room n)) = rw e at outcome-read in
+      h n refl
 
   -- so nothing lacks room where there is room for a token at every byte
   pub written-all : (words : ℕ) → length text ≤ roomOf words → writtenOf s text words ≡ outcomeOf s text

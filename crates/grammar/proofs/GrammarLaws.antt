@@ -1,19 +1,21 @@
 -- The one-pass reader of the three kinds gives the one division of a text into the tokens of the grammar. Assumes nothing.
-use mathlib.Core.Path.{_≡_, refl, ap}
+use mathlib.Core.Path.{_≡_, refl, sym, ap, _∙_}
 use mathlib.Core.Bool.{Bool, true, false, false≢true, _&&_}
 use mathlib.Core.List.{List, [], _∷_, _++_}
 use mathlib.Core.Option.{some}
 use mathlib.Core.Logic.{_↔_, _⊎_, inl, inr}
 use Prim.Native.Nat.{_≤_, zero-le, suc-le-suc}
 use lib.ListN.{length}
-use Rattle.lists.proofs.BoolLaws.{or-cases, and-left, and-right, and-in, or-left, or-right}
+use Rattle.lists.proofs.BoolLaws.{or-cases, and-left, and-right, and-in, or-left, or-right, or-none}
 use Rattle.image.specs.Class.{Class, Unassigned, Start, Nonstart, Syntax, White, Other}
 use Rattle.grammar.specs.All.{All}
 use Rattle.grammar.specs.Scan.{Tok, walk, reading}
 use Rattle.grammar.specs.Division.{Division}
 use Rattle.grammar.specs.Meaning.{Meaning}
-use Rattle.grammar.specs.Grammar.{Kind, identifier, syntax, whitespace, Continue, IsContinue, IsMedial, IsWhite, Groups, no-group, group, Token}
-use Rattle.grammar.specs.Kinds.{isContinue, isWhite, kindOfClass, continues, continuesFirst, more, kindOf, rules}
+use Rattle.grammar.specs.Grammar.{Kind, identifier, syntax, whitespace, Continue, IsContinue, IsMedial, IsWhite, Token}
+use Rattle.grammar.specs.Kinds.{isContinue, isWhite, kindOfClass, continues, kindOf, localRules, rules}
+use Rattle.grammar.specs.Step.{Local, goesFirst, moreBy}
+use Rattle.grammar.proofs.TailLaws.{Tail, no-more, continued, linked, identifier-begun, begun-identifier, tail-from}
 use Rattle.grammar.proofs.ScanLaws.{walk-nil, walk-more, run-ends}
 use Rattle.grammar.proofs.DivisionLaws.{Fits, divides, unique, fits-one-kind}
 
@@ -53,33 +55,12 @@ first-class White k e = let p : whitespace ≡ k = cc in rw (← p)
 first-class Other k e = cc
 
 module _ {A : Type 0} (m : Meaning A) where
-  -- what may follow an identifier's first unit, unit by unit
-  data Tail : List A → Type 0 where
-    t-nil : Tail []
-    t-continue : {c : A} {r : List A} → IsContinue m c → Tail r → Tail (c ∷ r)
-    t-medial : {d : A} {r : List A} → IsMedial m d → continuesFirst m r ≡ true → Tail r → Tail (d ∷ r)
+  abbrev L : Local A Kind
+  L = localRules m
 
-  all-tail : (cs : List A) {gs : List A} → All (IsContinue m) cs → Tail gs → Tail (cs ++ gs)
-  all-tail [] a t = t
-  all-tail (c ∷ cs) a t = t-continue (a .0) (all-tail cs (a .1) t)
-
-  groups-tail : {gs : List A} → Groups m gs → Tail gs
-  groups-tail no-group = t-nil
-  groups-tail (group {c = c} cs d e a g) = t-medial d (continue-test (m .class c) e) (t-continue e (all-tail cs a (groups-tail g)))
-
-  -- a tail is plain units, then groups
-  abbrev Split : List A → Type 0
-  Split r = (cs : List A) × (gs : List A) × (r ≡ cs ++ gs) × All (IsContinue m) cs × Groups m gs
-
-  split-medial : {d : A} {gs : List A} → IsMedial m d → (cs : List A) → All (IsContinue m) cs → continuesFirst m (cs ++ gs) ≡ true → Groups m gs → Split (d ∷ (cs ++ gs))
-  split-medial e (c ∷ cs) a h g = ([], _, refl, tt, group cs e (a .0) (a .1) g)
-  split-medial e [] a h no-group = absurd (false≢true h)
-  split-medial e [] a h (group {d = f} {c = c} cs i k b g) = ([], _, refl, tt, group (c ∷ cs) e (continue-means (m .class f) h) (k, b) g)
-
-  tail-split : {r : List A} → Tail r → Split r
-  tail-split t-nil = ([], [], refl, tt, no-group)
-  tail-split (t-continue {c = c} e t) = let s = tail-split t in (c ∷ s .0, s .1, ap (λ x. c ∷ x) (s .2), (e, s .3), s .4)
-  tail-split (t-medial e h t) = let s = tail-split t in rw (s .2) (split-medial e (s .0) (s .3) (rw (s .2) at h) (s .4))
+  -- white space goes on with White alone
+  more-white : (c : A) (r : List A) → moreBy L whitespace (c ∷ r) ≡ isWhite (m .class c)
+  more-white c r = or-none (isWhite (m .class c))
 
   abbrev run : Kind → List A → List A
   run k r = walk (rules m) (some k) r .run
@@ -87,53 +68,58 @@ module _ {A : Type 0} (m : Meaning A) where
   run-nil : (k : Kind) → run k [] ≡ []
   run-nil k = ap (λ w. w .run) (walk-nil (rules m) (some k))
 
-  run-more : (k : Kind) (c : A) (r : List A) → more m k (c ∷ r) ≡ true → run k (c ∷ r) ≡ c ∷ run k r
+  run-more : (k : Kind) (c : A) (r : List A) → moreBy L k (c ∷ r) ≡ true → run k (c ∷ r) ≡ c ∷ run k r
   run-more k c r e = ap (λ w. w .run) (walk-more (rules m) (some k) c r e)
 
   -- a property of the run, from where it goes on
-  run-step : (P : List A → Type 0) (k : Kind) (c : A) (r : List A) → P [] → (more m k (c ∷ r) ≡ true → P (c ∷ run k r)) → P (run k (c ∷ r))
-  run-step P k c r z s = go (more m k (c ∷ r)) refl
+  run-step : (P : List A → Type 0) (k : Kind) (c : A) (r : List A) → P [] → (moreBy L k (c ∷ r) ≡ true → P (c ∷ run k r)) → P (run k (c ∷ r))
+  run-step P k c r z s = go (moreBy L k (c ∷ r)) refl
     where
-      go : (b : Bool) → more m k (c ∷ r) ≡ b → P (run k (c ∷ r))
+      go : (b : Bool) → moreBy L k (c ∷ r) ≡ b → P (run k (c ∷ r))
       go true e = rw (run-more k c r e) (s e)
       go false e = rw (run-ends (rules m) (some k) c r e) z
 
-  first-run : (r : List A) → continuesFirst m r ≡ true → continuesFirst m (run identifier r) ≡ true
-  first-run [] e = absurd (false≢true e)
-  first-run (d ∷ r) e = rw (run-more identifier d r (or-left (continues m d) (m .medial d && continuesFirst m r) e)) e
+  -- an identifier goes on with a Continue, and through a medial before one
+  goes-continue : (c : A) (r : List A) → IsContinue m c → moreBy L identifier (c ∷ r) ≡ true
+  goes-continue c r e = or-left (continues m c) (m .medial c && goesFirst L identifier r) (continue-test (m .class c) e)
 
-  tail-run : (r : List A) → Tail (run identifier r)
-  tail-run [] = rw (run-nil identifier) t-nil
-  tail-run (c ∷ r) = run-step Tail identifier c r t-nil (λ e. go (tail-run r) (or-cases (continues m c) (m .medial c && continuesFirst m r) e))
+  goes-medial : (d c : A) (r : List A) → IsMedial m d → IsContinue m c → moreBy L identifier (d ∷ c ∷ r) ≡ true
+  goes-medial d c r e h = or-right (continues m d) (m .medial d && continues m c) (and-in (m .medial d) (continues m c) e (continue-test (m .class c) h))
+
+  first-run : (r : List A) → goesFirst L identifier r ≡ true → goesFirst L identifier (run identifier r) ≡ true
+  first-run [] e = absurd (false≢true e)
+  first-run (d ∷ r) e = rw (run-more identifier d r (or-left (continues m d) (m .medial d && goesFirst L identifier r) e)) e
+
+  link : (d : A) (x : List A) → IsMedial m d → goesFirst L identifier x ≡ true → Tail m x → Tail m (d ∷ x)
+  link d [] e h t = absurd (false≢true h)
+  link d (c ∷ x) e h t = linked e (continue-means (m .class c) h) (tail-from m (c ∷ []) t)
+
+  tail-run : (r : List A) → Tail m (run identifier r)
+  tail-run [] = rw (run-nil identifier) no-more
+  tail-run (c ∷ r) = run-step (Tail m) identifier c r no-more (λ e. go (tail-run r) (or-cases (continues m c) (m .medial c && goesFirst L identifier r) e))
     where
-      go : Tail (run identifier r) → (continues m c ≡ true) ⊎ ((m .medial c && continuesFirst m r) ≡ true) → Tail (c ∷ run identifier r)
-      go t (inl h) = t-continue (continue-means (m .class c) h) t
-      go t (inr h) = t-medial (and-left (m .medial c) (continuesFirst m r) h) (first-run r (and-right (m .medial c) (continuesFirst m r) h)) t
+      go : Tail m (run identifier r) → (continues m c ≡ true) ⊎ ((m .medial c && goesFirst L identifier r) ≡ true) → Tail m (c ∷ run identifier r)
+      go t (inl h) = continued (continue-means (m .class c) h) t
+      go t (inr h) = link c (run identifier r) (and-left (m .medial c) (goesFirst L identifier r) h) (first-run r (and-right (m .medial c) (goesFirst L identifier r) h)) t
 
   white-run : (r : List A) → All (IsWhite m) (run whitespace r)
   white-run [] = rw (run-nil whitespace) tt
-  white-run (c ∷ r) = let t = white-run r in run-step (All (IsWhite m)) whitespace c r tt (λ e. (white-means (m .class c) e, t))
+  white-run (c ∷ r) = let t = white-run r in run-step (All (IsWhite m)) whitespace c r tt (λ e. (white-means (m .class c) (sym (more-white c r) ∙ e), t))
 
   nothing-run : (r : List A) → run syntax r ≡ []
   nothing-run [] = run-nil syntax
   nothing-run (c ∷ r) = run-ends (rules m) (some syntax) c r refl
 
-  first-append : (r w : List A) → continuesFirst m r ≡ true → continuesFirst m (r ++ w) ≡ true
-  first-append [] w e = absurd (false≢true e)
-  first-append (d ∷ r) w e = e
-
-  tail-bound : {v : List A} → Tail v → (w : List A) → length v ≤ length (run identifier (v ++ w))
-  tail-bound t-nil w = zero-le
-  tail-bound (t-continue {c = c} {r = r} e t) w =
-      rw (run-more identifier c (r ++ w) (or-left (continues m c) (m .medial c && continuesFirst m (r ++ w)) (continue-test (m .class c) e)))
-      (suc-le-suc (tail-bound t w))
-  tail-bound (t-medial {d = d} {r = r} e h t) w =
-      rw (run-more identifier d (r ++ w) (or-right (continues m d) (m .medial d && continuesFirst m (r ++ w)) (and-in (m .medial d) (continuesFirst m (r ++ w)) e (first-append r w h))))
-      (suc-le-suc (tail-bound t w))
+  tail-bound : {v : List A} → Tail m v → (w : List A) → length v ≤ length (run identifier (v ++ w))
+  tail-bound no-more w = zero-le
+  tail-bound (continued {c = c} {r = r} e t) w = rw (run-more identifier c (r ++ w) (goes-continue c (r ++ w) e)) (suc-le-suc (tail-bound t w))
+  tail-bound (linked {d = d} {c = c} {r = r} e h t) w =
+      rw (run-more identifier d (c ∷ (r ++ w)) (goes-medial d c (r ++ w) e h), run-more identifier c (r ++ w) (goes-continue c (r ++ w) h))
+      (suc-le-suc (suc-le-suc (tail-bound t w)))
 
   white-bound : (v : List A) → All (IsWhite m) v → (w : List A) → length v ≤ length (run whitespace (v ++ w))
   white-bound [] a w = zero-le
-  white-bound (c ∷ v) a w = rw (run-more whitespace c (v ++ w) (ap isWhite (a .0))) (suc-le-suc (white-bound v (a .1) w))
+  white-bound (c ∷ v) a w = rw (run-more whitespace c (v ++ w) (more-white c (v ++ w) ∙ ap isWhite (a .0))) (suc-le-suc (white-bound v (a .1) w))
 
   token-starts : (k : Kind) (u : List A) → Token m k u → (c : A) × (v : List A) × (u ≡ c ∷ v) × (kindOf m c ≡ some k)
   token-starts identifier u t = (t .first, t .plain ++ t .groups, t .whole, ap kindOfClass (t .start))
@@ -141,16 +127,15 @@ module _ {A : Type 0} (m : Meaning A) where
   token-starts whitespace u t = (t .first, t .others, t .whole, ap kindOfClass (t .white .0))
 
   token-sound : (k : Kind) (c : A) (r : List A) → m .class c ≡ firstClass k → Token m k (c ∷ run k r)
-  token-sound identifier c r e =
-      let s = tail-split (tail-run r) in
-      record { first = c; plain = s .0; groups = s .1; whole = ap (λ x. c ∷ x) (s .2); start = e; continued = s .3; grouped = s .4 }
+  token-sound identifier c r e = begun-identifier m (record { first = c; after = run identifier r; whole = refl; start = e; tail = tail-run r })
   token-sound syntax c r e = record { only = c; whole = ap (λ x. c ∷ x) (nothing-run r); class = e }
   token-sound whitespace c r e = record { first = c; others = run whitespace r; whole = refl; white = (e, white-run r) }
 
   token-bound : (k : Kind) (c : A) (v w : List A) → Token m k (c ∷ v) → length v ≤ length (run k (v ++ w))
   token-bound identifier c v w t =
-      let e : v ≡ t .plain ++ t .groups = cc (t .whole) in
-      tail-bound {v = v} (rw e (all-tail (t .plain) (t .continued) (groups-tail (t .grouped)))) w
+      let b = identifier-begun m t in
+      let e : v ≡ b .after = cc (b .whole) in
+      tail-bound {v = v} (rw e (b .tail)) w
   token-bound syntax c v w t = let e : v ≡ [] = cc (t .whole) in rw e zero-le
   token-bound whitespace c v w t = let e : v ≡ t .others = cc (t .whole) in white-bound v (rw e (t .white .1)) w
 

@@ -1,8 +1,9 @@
 pub mod ScanLaws
 pub mod DivisionLaws
+pub mod TailLaws
 pub mod GrammarLaws
+pub mod StepLaws
 pub mod RecordLaws
 pub mod AnswerLaws
 pub mod FewLaws
-pub mod TailLaws
 pub mod MedialLaws

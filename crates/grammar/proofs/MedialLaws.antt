@@ -8,7 +8,7 @@ use Rattle.grammar.specs.Meaning.{Meaning}
 use Rattle.grammar.specs.Grammar.{Identifier}
 use Rattle.grammar.specs.Kinds.{isContinue}
 use Rattle.grammar.proofs.GrammarLaws.{continue-means}
-use Rattle.grammar.proofs.TailLaws.{Tail, no-more, continued, linked, identifier-begun, begun-identifier}
+use Rattle.grammar.proofs.TailLaws.{Tail, no-more, continued, linked, identifier-begun, tail-identifier}
 
 -- the meaning that takes the medial mark from every unit that is Continue
 abbrev pub unmarked : {A : Type 0} → Meaning A → Meaning A
@@ -32,6 +32,6 @@ module _ {A : Type 0} (m : Meaning A) where
   -- exactly the same units are identifiers
   pub identifier-unmarked : (u : List A) → Identifier m u ↔ Identifier (unmarked m) u
   identifier-unmarked u = (
-    λ i. let b = identifier-begun m i in begun-identifier (unmarked m) (record { first = b .first; after = b .after; whole = b .whole; start = b .start; tail = take-marks (b .tail) }),
-    λ i. let b = identifier-begun (unmarked m) i in begun-identifier m (record { first = b .first; after = b .after; whole = b .whole; start = b .start; tail = give-marks (b .tail) }),
+    λ i. let b = identifier-begun m i in rw (b .whole) (tail-identifier (unmarked m) (b .start) (take-marks (b .tail))),
+    λ i. let b = identifier-begun (unmarked m) i in rw (b .whole) (tail-identifier m (b .start) (give-marks (b .tail))),
   )

@@ -1,5 +1,5 @@
 -- An identifier, unit by unit. Assumes nothing.
-use mathlib.Core.Path.{_≡_, refl, ap, _∙_}
+use mathlib.Core.Path.{_≡_, refl, ap}
 use mathlib.Core.List.{List, [], _∷_, _++_}
 use Rattle.grammar.specs.All.{All}
 use Rattle.grammar.specs.Meaning.{Meaning}
@@ -12,13 +12,6 @@ module _ {A : Type 0} (m : Meaning A) where
     no-more : Tail []
     continued : {c : A} {r : List A} → IsContinue m c → Tail r → Tail (c ∷ r)
     linked : {d c : A} {r : List A} → IsMedial m d → IsContinue m c → Tail r → Tail (d ∷ c ∷ r)
-
-  pub record Begun (u : List A) : Type 0 where
-    pub first : A
-    pub after : List A
-    pub whole : u ≡ first ∷ after
-    pub start : m .class first ≡ Start
-    pub tail : Tail after
 
   plain-tail : (cs : List A) {gs : List A} → All (IsContinue m) cs → Tail gs → Tail (cs ++ gs)
   plain-tail [] a t = t
@@ -36,22 +29,25 @@ module _ {A : Type 0} (m : Meaning A) where
       let s = tail-split t in
       ([], d ∷ c ∷ (s .0 ++ s .1), ap (λ x. d ∷ c ∷ x) (s .2), tt, group (s .0) e h (s .3) (s .4))
 
+  -- an identifier is a Start and a tail
+  pub record Begun (u : List A) : Type 0 where
+    pub first : A
+    pub after : List A
+    pub whole : u ≡ first ∷ after
+    pub start : m .class first ≡ Start
+    pub tail : Tail after
+
   pub identifier-begun : {u : List A} → Identifier m u → Begun u
   identifier-begun i =
       record { first = i .first; after = i .plain ++ i .groups; whole = i .whole; start = i .start; tail = plain-tail (i .plain) (i .continued) (groups-tail (i .grouped)) }
 
+  pub tail-identifier : {c : A} {r : List A} → m .class c ≡ Start → Tail r → Identifier m (c ∷ r)
+  tail-identifier {c} e t =
+      let (cs, gs, w, a, g) = tail-split t in
+      record { first = c; plain = cs; groups = gs; whole = ap (λ x. c ∷ x) w; start = e; continued = a; grouped = g }
+
   pub begun-identifier : {u : List A} → Begun u → Identifier m u
-  begun-identifier b =
-      let s = tail-split (b .tail) in
-      record {
-        first = b .first;
-        plain = s .0;
-        groups = s .1;
-        whole = b .whole ∙ ap (λ x. b .first ∷ x) (s .2);
-        start = b .start;
-        continued = s .3;
-        grouped = s .4;
-      }
+  begun-identifier b = rw (b .whole) (tail-identifier (b .start) (b .tail))
 
   pub tail-append : {u v : List A} → Tail u → Tail v → Tail (u ++ v)
   tail-append no-more t = t

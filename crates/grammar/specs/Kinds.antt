@@ -1,11 +1,11 @@
 -- The kinds of tokens by their numbers, and the rules of the one-pass reader for them (docs/RULES.md, "Tokens").
 -- `proofs/GrammarLaws.antt` joins the rules to the tokens of `Grammar.antt`.
 use Prim.Native.Nat.{ℕ}
-use mathlib.Core.Bool.{Bool, true, false, _&&_, _||_}
-use mathlib.Core.List.{List, [], _∷_}
+use mathlib.Core.Bool.{Bool, true, false}
 use mathlib.Core.Option.{Option, none, some}
 use Rattle.image.specs.Class.{Class, Unassigned, Start, Nonstart, Syntax, White, Other}
 use Rattle.grammar.specs.Scan.{Rules}
+use Rattle.grammar.specs.Step.{Local, rulesBy}
 use Rattle.grammar.specs.Meaning.{Meaning}
 use Rattle.grammar.specs.Grammar.{Kind, identifier, syntax, whitespace}
 
@@ -41,24 +41,27 @@ kindOfClass Syntax = some syntax
 kindOfClass White = some whitespace
 kindOfClass Other = none
 
+-- how tokens go on, by the kind of the token and what is known of the next unit. An identifier goes on with a Continue, and through
+-- a medial that a Continue follows; white space with White; a syntax token doesn't go on
 module _ {A : Type 0} (m : Meaning A) where
-  abbrev pub continues : A → Bool
-  continues c = isContinue (m .class c)
-
-  -- whether the units begin with a Continue
-  abbrev pub continuesFirst : List A → Bool
-  continuesFirst [] = false
-  continuesFirst (c ∷ r) = continues c
-
-  -- an identifier goes on with a Continue, or with a medial that a Continue follows; white space with White; a syntax token doesn't go on
-  abbrev pub more : Kind → List A → Bool
-  more k [] = false
-  more identifier (c ∷ r) = continues c || (m .medial c && continuesFirst r)
-  more syntax (c ∷ r) = false
-  more whitespace (c ∷ r) = isWhite (m .class c)
-
   abbrev pub kindOf : A → Option Kind
   kindOf c = kindOfClass (m .class c)
 
+  abbrev pub continues : A → Bool
+  continues c = isContinue (m .class c)
+
+  abbrev pub goesWith : Kind → A → Bool
+  goesWith identifier c = continues c
+  goesWith syntax c = false
+  goesWith whitespace c = isWhite (m .class c)
+
+  abbrev pub linksWith : Kind → A → Bool
+  linksWith identifier c = m .medial c
+  linksWith syntax c = false
+  linksWith whitespace c = false
+
+  abbrev pub localRules : Local A Kind
+  localRules = record { kindOf = kindOf; goes = goesWith; links = linksWith }
+
   abbrev pub rules : Rules A Kind
-  rules = record { kindOf = kindOf; more = more }
+  rules = rulesBy localRules

@@ -1,5 +1,6 @@
 pub mod All
 pub mod Scan
+pub mod Step
 pub mod Division
 pub mod Meaning
 pub mod Grammar

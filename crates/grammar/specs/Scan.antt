@@ -40,10 +40,10 @@ module _ {A K : Type 0} where
 
   -- the reading of c ∷ r, by whether the token under way goes on with it, and by the kind of token that c begins;
   -- `here` is the reading of r with the same token under way, `there` with one of another kind
-  abbrev pub step : Bool → Option K → A → List A → Reading A K → (K → Reading A K) → Reading A K
-  step true o c r here there = grown c here
-  step false none c r here there = stopped (c ∷ r)
-  step false (some j) c r here there = opened j c (there j)
+  abbrev pub readBy : Bool → Option K → A → List A → Reading A K → (K → Reading A K) → Reading A K
+  readBy true o c r here there = grown c here
+  readBy false none c r here there = stopped (c ∷ r)
+  readBy false (some j) c r here there = opened j c (there j)
 
   -- whether the token under way, if there is one, goes on
   abbrev pub goes : Rules A K → Option K → List A → Bool
@@ -53,7 +53,7 @@ module _ {A K : Type 0} where
   -- the reading of what follows, where a token of a kind is under way, or none
   unfoldable pub walk : Rules A K → Option K → List A → Reading A K
   walk R k [] = stopped []
-  walk R k (c ∷ r) = step (goes R k (c ∷ r)) (R .kindOf c) c r (walk R k r) (λ (j : K). walk R (some j) r)
+  walk R k (c ∷ r) = readBy (goes R k (c ∷ r)) (R .kindOf c) c r (walk R k r) (λ (j : K). walk R (some j) r)
 
   -- the reading of a text
   abbrev pub reading : Rules A K → List A → Reading A K

@@ -15,7 +15,7 @@ use Rattle.image.proofs.ImageLaws.{refusal-number}
 use Rattle.grammar.specs.Record.{recordSize, roomOf}
 use Rattle.grammar.specs.Reading.{outcomeOf, listOf}
 use Rattle.grammar.proofs.AnswerLaws.{counts-refused}
-use Rattle.grammar.proofs.FewLaws.{outcome-number, written-all, list-fits}
+use Rattle.grammar.proofs.FewLaws.{outcome-no-room, written-all, list-fits}
 use Rattle.scan.specs.declared.Counted.the-variants as counted
 use Rattle.scan.specs.Counted.{countedBy}
 use Rattle.listing.specs.Input.{maxScript, imageIn, textIn, listedFrom, wholeAnswer, ComesWhole, ListingMeans, cut-off, bad-image, long-text, listed}
@@ -68,7 +68,7 @@ module _ (input : List ℕ) (words : ℕ) where
         go (bad-image r w f) = omega (arith, refusal-number (imageIn input) (refusal.Room n) f)
         go (listed p w h a f) =
             let o = ap (outcomeMap length) (sym (written-all (imageIn input) (textIn input) words (omega arith))) ∙ f in
-            omega (arith, outcome-number (imageIn input) (textIn input) (refusal.Room n) (counts-refused (outcomeOf (imageIn input) (textIn input)) (refusal.Room n) o))
+            outcome-no-room (imageIn input) (textIn input) n (counts-refused (outcomeOf (imageIn input) (textIn input)) (refusal.Room n) o)
 
 -- so the program never answers 8
 pub never-room : (input : List ℕ) (n : ℕ) → wholeAnswer input ≡ counted.Refused (refusal.Room n) → ⊥

@@ -20,7 +20,7 @@ use Rattle.listing.proofs.InputLaws.{dec-whole, written-cut, written-wh
 
 module _ (input : List ℕ) (k words : ℕ) (enough : maxImage + maxScript < k) where
   total : totalOf (take k input) ≡ totalOf input
-  total = word-take input k totalPlace (omega arith)
+  total = word-take input k 8 (omega arith)
 
   module _ (long : k ≤ length input) where
     size : length (take k input) ≡ k

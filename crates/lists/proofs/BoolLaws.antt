@@ -48,3 +48,7 @@ AllHold a (b ∷ bs) = (a ≡ true) × AllHold b bs
 pub split : (a : Bool) (bs : List Bool) → joined a bs ≡ true → AllHold a bs
 split a [] e = e
 split a (b ∷ bs) e = (and-left a (joined b bs) e, split b bs (and-right a (joined b bs) e))
+
+pub or-none : (a : Bool) → (a || false) ≡ a
+or-none true = refl
+or-none false = refl

@@ -1,3 +1,3 @@
 mod ReplyLaws
-mod OpenedLaws
+pub mod CheckedLaws
 mod PartLaws

@@ -1,9 +1,8 @@
 -- The replies of the calls on tokens (docs/RULES.md, "Tokens").
-use Prim.Native.Nat.{ℕ, _-_}
+use Prim.Native.Nat.{ℕ}
 use mathlib.Core.List.{List, [], _∷_}
-use mathlib.Core.Option.{Option, none, some}
-use lib.ListN.{getD, take, drop}
-use Rattle.refusal.specs.declared.Refusal.{Refusal}
+use lib.ListN.{length, getD, take, drop}
+use Rattle.refusal.specs.Outcome.{Outcome, given, refused}
 use Rattle.scan.specs.declared.Counted.{Counted}
 use Rattle.scan.specs.declared.Counted.the-variants as counted
 use Rattle.token.specs.declared.Taken.{Taken}
@@ -26,9 +25,9 @@ takenReply taken.Done = record { number = done; values = 0 ∷ 0 ∷ 0 ∷ 0 ∷
 takenReply (taken.Token kind start end) = gives (kind ∷ start ∷ end ∷ [])
 
 -- handing back a part: its first byte and its number of bytes
-abbrev pub partReply : Option Refusal → ℕ → ℕ → Reply
-partReply (some r) start end = refuses r
-partReply none start end = gives (start ∷ (end - start) ∷ [])
+abbrev pub partReply : Outcome (List ℕ) → ℕ → Reply
+partReply (refused r) start = refuses r
+partReply (given part) start = gives (start ∷ length part ∷ [])
 
 -- the bytes that an answer array tells of: from the first number on, as many as the second
 abbrev pub toldPart : List ℕ → List ℕ → List ℕ

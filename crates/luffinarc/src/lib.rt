@@ -1,20 +1,20 @@
 // The functions of the static library, for callers in C and Rust: numbers, slices and arrays of a fixed length only.
 // The result is 0 where the call gives no refusal, else the refusal's number. The values of the answer, or what the
-// refusal carries, go into `answer`, with zeros past them. A function whose name ends in `_checked` is given an image
-// that was checked, with what its check gave: number of ranges, profile, number of profile entries.
+// refusal carries, go into `answer`, with zeros past them. A function whose name ends in `_checked` is given an image that
+// `luffinarc_check` or `luffinarc_read` accepted, with the same bytes.
 ghost use mathlib.Core.Path.{_≡_};
 ghost use mathlib.Core.List.{[], _∷_};
-ghost use lib.ListN.{length, getD};
+ghost use mathlib.Core.Option.{none};
+ghost use lib.ListN.{length};
 ghost use Rattle.image.specs.Profile.{profileBy};
-ghost use Rattle.image.specs.Check.{checkOf, readOf, wordsAfter};
+ghost use Rattle.image.specs.Check.{refusalOf, checkOf, readOf, wordsAfter};
 ghost use Rattle.writer.specs.Write.{writeOf, bytesAfter};
 ghost use Rattle.lookup.specs.Lookup.{lookupOf};
 ghost use Rattle.pair.specs.Pair.{pairOf};
-ghost use Rattle.character.specs.Opened.{Opened};
 ghost use Rattle.grammar.specs.Reading.{countOf, listOf, listWords};
 ghost use Rattle.scan.specs.Counted.{countedBy};
 ghost use Rattle.token.specs.Taken.{takenOf};
-ghost use Rattle.part.specs.Part.{partRefusal, partBytes};
+ghost use Rattle.part.specs.Part.{partOf, partBytes};
 ghost use Rattle.luffinarc.specs.Reply.{Tells, refusesOf};
 ghost use Rattle.luffinarc.specs.ImageReply.{TellsChecked, foundReply, writtenReply, pairReply};
 ghost use Rattle.luffinarc.specs.TokenReply.{countedReply, takenReply, partReply, toldPart};
@@ -117,7 +117,7 @@ pub extern "C" fn luffinarc_check(
     tell_checked(checked, points, roles, answer)
 }
 
-// Reads an image: its ranges go into `words`, three each. Answer: version, number of ranges, number of profile entries.
+// Reads an image: its ranges go into `words`. Answer: version, number of ranges, number of profile entries.
 #[no_mangle]
 pub extern "C" fn luffinarc_read(
     image: &[u8],
@@ -133,7 +133,7 @@ pub extern "C" fn luffinarc_read(
     tell_checked(checked, points, roles, answer)
 }
 
-// Writes the image with this version, these ranges, three words each, and this profile. Answer: bytes of the image.
+// Writes the image with this version, these ranges and this profile. Answer: bytes of the image.
 #[no_mangle]
 pub extern "C" fn luffinarc_write<'a>(
     version: u32,
@@ -165,44 +165,17 @@ pub extern "C" fn luffinarc_lookup(image: &[u8], number: u32, answer: &mut [u64;
     tell_found(found, answer)
 }
 
-// The lookup in an image that was checked, with what its check gave.
-fn look_up<'a>(
-    image: &'a [u8],
-    n: usize,
-    points: &'a [u32; MAX_ENTRIES],
-    roles: &'a [u32; MAX_ENTRIES],
-    used: usize,
-    x: u32,
-) -> Found
-    requires { ⌜ Opened (now image) n (now points) (now roles) used ⌝ }
-    ensures { λ r. ⌜ r ≡ lookupOf (now (image .entry)) x ⌝ }
-{
-    if utf8::is_scalar(x) {
-        let role = lookup::role_of(points, roles, used, x);
-        let probe = lookup::find(image, n, x);
-        return Found::Class {
-            class: lookup::after_role(role, probe.class),
-            count: probe.count,
-        };
-    }
-    Found::Refused(Refusal::NotScalar(x as usize))
-}
-
 // As `luffinarc_lookup`, in an image that was checked.
 #[no_mangle]
 pub extern "C" fn luffinarc_lookup_checked<'a>(
     image: &'a [u8],
-    n: usize,
-    points: &'a [u32; MAX_ENTRIES],
-    roles: &'a [u32; MAX_ENTRIES],
-    used: usize,
     number: u32,
     answer: &mut [u64; 4],
 ) -> u32
-    requires { ⌜ Opened (now image) n (now points) (now roles) used ⌝ }
+    requires { ⌜ refusalOf (now image) ≡ none ⌝ }
     ensures { λ k. ⌜ Tells (foundReply (lookupOf (now (image .entry)) number)) k (now (answer .exit)) ⌝ }
 {
-    let found = look_up(image, n, points, roles, used, number);
+    let found = lookup::lookup_checked(image, number);
     tell_found(found, answer)
 }
 
@@ -274,21 +247,17 @@ pub extern "C" fn luffinarc_count<'a>(image: &'a [u8], text: &'a [u8], answer: &
 #[no_mangle]
 pub extern "C" fn luffinarc_count_checked<'a>(
     image: &'a [u8],
-    n: usize,
-    points: &'a [u32; MAX_ENTRIES],
-    roles: &'a [u32; MAX_ENTRIES],
-    used: usize,
     text: &'a [u8],
     answer: &mut [u64; 4],
 ) -> u32
-    requires { ⌜ Opened (now image) n (now points) (now roles) used ⌝ }
+    requires { ⌜ refusalOf (now image) ≡ none ⌝ }
     ensures { λ k. ⌜ Tells (countedReply (countedBy (countOf (now (image .entry)) (now (text .entry))))) k (now (answer .exit)) ⌝ }
 {
-    let counted = token::count_checked(image, n, points, roles, used, text);
+    let counted = token::count_checked(image, text);
     tell_counted(counted, answer)
 }
 
-// Writes the list of a text's tokens, three words each. Answer: their number.
+// Writes the list of a text's tokens. Answer: their number.
 #[no_mangle]
 pub extern "C" fn luffinarc_list<'a>(
     image: &'a [u8],
@@ -307,19 +276,15 @@ pub extern "C" fn luffinarc_list<'a>(
 #[no_mangle]
 pub extern "C" fn luffinarc_list_checked<'a>(
     image: &'a [u8],
-    n: usize,
-    points: &'a [u32; MAX_ENTRIES],
-    roles: &'a [u32; MAX_ENTRIES],
-    used: usize,
     text: &'a [u8],
     words: &mut [u32],
     answer: &mut [u64; 4],
 ) -> u32
-    requires { ⌜ Opened (now image) n (now points) (now roles) used ⌝ }
+    requires { ⌜ refusalOf (now image) ≡ none ⌝ }
     ensures { λ k. ⌜ Tells (countedReply (countedBy (listOf (now (image .entry)) (now (text .entry)) (length (now (words .entry)))))) k (now (answer .exit)) ⌝ }
     ensures { λ _. ⌜ now (words .exit) ≡ listWords (now (image .entry)) (now (text .entry)) (now (words .entry)) ⌝ }
 {
-    let counted = token::list_checked(image, n, points, roles, used, text, words);
+    let counted = token::list_checked(image, text, words);
     tell_counted(counted, answer)
 }
 
@@ -342,18 +307,14 @@ pub extern "C" fn luffinarc_token<'a>(
 #[no_mangle]
 pub extern "C" fn luffinarc_token_checked<'a>(
     image: &'a [u8],
-    n: usize,
-    points: &'a [u32; MAX_ENTRIES],
-    roles: &'a [u32; MAX_ENTRIES],
-    used: usize,
     text: &'a [u8],
     place: usize,
     answer: &mut [u64; 4],
 ) -> u32
-    requires { ⌜ Opened (now image) n (now points) (now roles) used ⌝ }
+    requires { ⌜ refusalOf (now image) ≡ none ⌝ }
     ensures { λ k. ⌜ Tells (takenReply (takenOf (now (image .entry)) (now (text .entry)) place)) k (now (answer .exit)) ⌝ }
 {
-    let taken = token::take_checked(image, n, points, roles, used, text, place);
+    let taken = token::take_checked(image, text, place);
     tell_taken(taken, answer)
 }
 
@@ -365,7 +326,7 @@ pub extern "C" fn luffinarc_part(
     end: usize,
     answer: &mut [u64; 4],
 ) -> u32
-    ensures { λ n. ⌜ Tells (partReply (partRefusal (now (text .entry)) start end) start end) n (now (answer .exit)) ⌝ }
+    ensures { λ n. ⌜ Tells (partReply (partOf (now (text .entry)) start end) start) n (now (answer .exit)) ⌝ }
     ensures { λ _. ⌜ toldPart (now (text .entry)) (now (answer .exit)) ≡ partBytes (now (text .entry)) start end ⌝ }
 {
     let refused = part::check(text, start, end);

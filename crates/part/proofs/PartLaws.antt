@@ -3,7 +3,7 @@ use Prim.Native.Nat.{ℕ, _+_, _-_, _≤_, _<_}
 use mathlib.Core.Path.{_≡_, refl, sym, ap, subst, _∙_}
 use mathlib.Core.Bool.{Bool, true, false}
 use mathlib.Core.List.{List, _++_}
-use mathlib.Core.Logic.{_⊎_, inl, inr}
+use mathlib.Core.Logic.{inl, inr}
 use native.Mathlib.Omega.{arith}
 use native.Mathlib.Decide.{decLt}
 use lib.Dec.{ltb}
@@ -12,7 +12,7 @@ use lib.Seq.{length-take-le, take-append-seam, drop-append-seam}
 use borrow.Author.Tests.{lt-ltb, le-ltb}
 use Rattle.refusal.specs.declared.Refusal.the-variants as refusal
 use Rattle.refusal.specs.Outcome.{Outcome, given, refused, unless, refusedIf}
-use Rattle.part.specs.Part.{partOf, PartMeans, misplaced, part}
+use Rattle.part.specs.Part.{partOf, numberBy, partNumber, PartMeans, misplaced, part}
 
 module _ (text : List ℕ) (start end : ℕ) where
   pub means-part : (o : Outcome (List ℕ)) → PartMeans text start end o → partOf text start end ≡ o
@@ -51,3 +51,21 @@ module _ (text : List ℕ) (start end : ℕ) where
   pub part-inside : start ≤ end → end ≤ length text → partOf text start end ≡ given (take (end - start) (drop start text))
   unfolding partOf
   part-inside h k = simp (le-ltb end start h, le-ltb (length text) end k)
+
+  -- the number tells which
+  pub part-within : partNumber text start end ≡ 0 → (start ≤ end) × (end ≤ length text)
+  part-within z = go (partOf text start end) (part-means _ refl) z
+    where
+      go : (o : Outcome (List ℕ)) → PartMeans text start end o → numberBy o ≡ 0 → (start ≤ end) × (end ≤ length text)
+      go o (misplaced h) n = absurd (omega (arith, n))
+      go o (part before bytes after e s m) n =
+          let l = ap length e ∙ length-append before (bytes ++ after) in
+          let k = length-append bytes after in
+          (omega arith, omega arith)
+
+  pub part-shape : (partNumber text start end ≡ 0 → ⊥) → partOf text start end ≡ refused refusal.Shape
+  part-shape f = go (partOf text start end) (part-means _ refl) f
+    where
+      go : (o : Outcome (List ℕ)) → PartMeans text start end o → (numberBy o ≡ 0 → ⊥) → o ≡ refused refusal.Shape
+      go o (misplaced h) n = refl
+      go o (part before bytes after e s m) n = absurd (n refl)

@@ -1,6 +1,5 @@
 // A token's bytes, handed back as that part of the caller's own text.
 ghost use mathlib.Core.Path.{_≡_};
-ghost use lib.ListN.{length};
 ghost use Rattle.part.specs.Part.{partNumber, partBytes};
 
 // A part of a text, or the number of the refusal beside an empty part; 0: not refused.

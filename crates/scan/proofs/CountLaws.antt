@@ -1,130 +1,140 @@
--- Counting in one pass: what was counted and what the rest gives are the whole, character by character. Assumes nothing.
-use Prim.Native.Nat.{ℕ, zero, suc, _+_, _≤_, _<_}
+-- Counting by turns: the count is that of the tokens that are complete. Assumes nothing.
+use Prim.Native.Nat.{ℕ, _+_, _-_, _≤_, _<_}
 use mathlib.Core.Path.{_≡_, refl, sym, ap, subst, _∙_}
-use mathlib.Core.Bool.{true, false}
-use mathlib.Core.List.{List, [], _∷_}
-use mathlib.Core.Option.{none}
-use native.Mathlib.Nat.{zero-add, add-zero}
+use mathlib.Core.List.{List, [], _∷_, _++_}
+use mathlib.Core.Option.{Option, none, some}
 use native.Mathlib.Omega.{arith}
-use lib.ListN.{length, drop}
+use lib.ListN.{length, drop, length-append}
 use Rattle.refusal.specs.declared.Refusal.the-variants as refusal
+use Rattle.refusal.specs.Outcome.{Outcome, refused, unless, outcomeMap}
 use Rattle.utf8.specs.declared.Text.{Text}
 use Rattle.utf8.specs.declared.Text.the-variants as form
-use Rattle.utf8.specs.declared.Step.the-variants as step
+use Rattle.utf8.specs.declared.Step.the-variants as utf8-step
 use Rattle.utf8.specs.Head.{stepOf}
-use Rattle.utf8.specs.Text.{Character, decode, widthOf, textBy, textOf}
-use Rattle.utf8.proofs.TextLaws.{shift, shift-zero, ill-here, end-here, covers}
-use Rattle.image.specs.Check.{refusalOf}
-use Rattle.grammar.specs.Scan.{Tok, Reading, grown, opened, stopped}
+use Rattle.utf8.specs.Text.{Character, textOf}
+use Rattle.utf8.proofs.TextLaws.{shift, ill-here, end-here}
+use Rattle.grammar.specs.Step.{idle, under, held, underWay, preceded, tokensLeft, settle, finish}
 use Rattle.grammar.specs.Grammar.{Kind}
-use Rattle.refusal.specs.Outcome.{Outcome, given, refused, unless, outcomeMap}
+use Rattle.grammar.specs.Kinds.{kindOf}
 use Rattle.grammar.specs.Record.{tokensWidth}
-use Rattle.grammar.specs.Reading.{readingOf, formRefusalBy, judged}
-use Rattle.scan.specs.declared.Counted.the-variants.{Refused, Tokens}
-use Rattle.scan.specs.Traits.{kindFor, goesOn, turnOf, afterOf}
-use Rattle.scan.specs.Rest.{restOf, continuesAt}
+use Rattle.grammar.specs.Reading.{meaningOf, readingOf, tokensOf, formRefusalBy, judged}
+use Rattle.grammar.proofs.RecordLaws.{tokens-append}
+use Rattle.grammar.proofs.FewLaws.{few-tokens}
+use Rattle.grammar.proofs.StepLaws.{Settles}
+use Rattle.scan.specs.declared.Counted.the-variants.{Refused, Tokens as Counted}
+use Rattle.scan.specs.Turns.{numberBy, waiting, states, waitingOf, afterOf, pendingOf}
 use Rattle.scan.specs.Counted.{countedBy, readThrough, countThrough, stopRefusal}
-use Rattle.scan.proofs.TurnLaws.{turn-goes, turn-begins}
-use Rattle.scan.proofs.RestLaws.{charactersAt, Turn, reading-run, rest-begins, rest-none, at-end, rest-more, rest-stop, Begins, rest-begin}
+use Rattle.scan.proofs.TurnLaws.{Tokens, Under, L, Stands, pending-by, phase-of, stands-less, doneBy, left}
+use Rattle.scan.proofs.ReachLaws.{charactersAt, Place, Look, at-end, Reached, reached-begins, After, complete-few, after-settling, left-settled, settles-none, read-end, after-turn, after-waiting, settles-here, left-here}
 
--- the bytes of a token's rest and of the tokens after it
-abbrev pub spanOf : Reading Character Kind → ℕ
-spanOf w = widthOf (w .run) + tokensWidth (w .tokens)
+-- `count` tokens are complete before what is under way at the place `at`
+pub record Counting (s text : List ℕ) (state count mid at : ℕ) : Type 0 where
+  pub tokens : Tokens
+  pub under-way : Under
+  pub reached : Reached s text state mid at tokens under-way
+  pub counted : count ≡ length tokens
 
--- `count` tokens have begun before the place `at`, the last of this kind
-pub record Counting (s text : List ℕ) (kind count at : ℕ) : Type 0 where
-  pub within : at ≤ length text
-  pub few : count ≤ at
-  pub form : shift at (textOf (drop at text)) ≡ textOf text
-  pub tokens : count + length (restOf s text kind at .tokens) ≡ length (readingOf s text .tokens)
-  pub left : restOf s text kind at .left ≡ readingOf s text .left
-  pub span : at + spanOf (restOf s text kind at) ≡ tokensWidth (readingOf s text .tokens)
+-- no token begins at a place: 6 if the text from there on has an ill-formed place, else 7
+stop-by : (p : ℕ) (f : Text) (ts : Tokens) (c : Character) (l : List Character) → tokensWidth ts ≡ p →
+    unless (formRefusalBy (shift p f)) (judged ts (c ∷ l)) ≡ refused (stopRefusal p f)
+stop-by p form.WellFormed ts c l w = rw w
+stop-by p (form.IllFormed n) ts c l w = refl
 
-module _ (s text : List ℕ) where
-  pub counting-begins : Counting s text 0 0 0
-  counting-begins =
-      let r = rest-begins s text in
+stops-at : (s text : List ℕ) (p : ℕ) (ts us : Tokens) (c : Character) (l : List Character) → Place text p → p ≡ tokensWidth ts + tokensWidth us →
+    preceded ts (tokensLeft us (c ∷ l)) ≡ readingOf s text → Refused (stopRefusal p (textOf (drop p text))) ≡ countThrough s text
+unfolding countThrough readThrough
+stops-at s text p ts us c l m w e =
+    rw (← m .form, ← e)
+    (sym (ap (λ (o : Outcome Tokens). countedBy (outcomeMap length o)) (stop-by p (textOf (drop p text)) (ts ++ us) c l (tokens-append ts us ∙ sym w))))
+
+pub counting-begins : (s text : List ℕ) → Counting s text 0 0 0 0
+counting-begins s text = record { tokens = []; under-way = idle; reached = reached-begins s text; counted = refl }
+
+module _ {s text : List ℕ} {state count mid at : ℕ} (i : Counting s text state count mid at) where
+  pub counting-few : count ≤ length text
+  counting-few = omega (arith, i .counted, complete-few (i .reached))
+
+  pub counting-less : state < states
+  counting-less = stands-less s state (tokensWidth (i .tokens)) mid at (i .under-way) (i .reached .stands)
+
+  pub counts-ill : stepOf (drop at text) ≡ utf8-step.IllFormed → Refused (refusal.IllFormed at) ≡ countThrough s text
+  unfolding countThrough readThrough
+  counts-ill e = rw (← i .reached .place .form, ill-here text at e)
+
+  pub counting-after : {r state′ start′ mid′ at′ : ℕ} → After s text (i .tokens) (i .under-way) r state′ start′ mid′ at′ →
+      Counting s text state′ (count + r) mid′ at′
+  counting-after {r} a =
       record {
-        within = omega arith;
-        few = omega arith;
-        form = shift-zero (textOf text);
-        tokens = rw r (zero-add _);
-        left = ap (λ w. w .left) r;
-        span = rw (r, reading-run s text) (omega arith);
+        tokens = i .tokens ++ doneBy r (i .under-way);
+        under-way = a .next;
+        reached = a .reached;
+        counted = omega (arith, length-append (i .tokens) (doneBy r (i .under-way)), a .size, i .counted);
       }
 
-  module _ (accepted : refusalOf s ≡ none) (kind count at len traits : ℕ) (i : Counting s text kind count at) (t : Turn s text at len traits) where
-    pub counts-more : goesOn kind traits (continuesAt s text (at + len)) ≡ true → Counting s text kind count (at + len)
-    counts-more e =
-        let r = rest-more s text accepted at len traits t kind e in
-        let n = rw r at (i .tokens) in
-        let p = rw r at (i .span) in
-        record {
-          within = t .within;
-          few = omega (arith, i .few);
-          form = sym (t .same) ∙ i .form;
-          tokens = n;
-          left = rw r at (i .left);
-          span = omega arith;
-        }
+  -- what waits is settled
+  module _ (h : Settles (L s) (i .under-way) (charactersAt text at)) where
+    pub counting-settles : waiting ≤ state → (state ≡ waiting → ⊥) → Counting s text (state - waiting) (count + 1) mid at
+    counting-settles w n = counting-after (after-settling (i .reached) h w n)
 
-    pub counts-begin : goesOn kind traits (continuesAt s text (at + len)) ≡ false → (k : ℕ) → k ≡ kindFor traits → (k ≡ 0 → ⊥) → Counting s text k (count + 1) (at + len)
-    counts-begin e k q h =
-        let r = rest-begin s text accepted at len traits t kind e k q h .rest in
-        let n = rw r at (i .tokens) in
-        let p = rw r at (i .span) in
-        record {
-          within = t .within;
-          few = omega (arith, i .few, t .some-bytes);
-          form = sym (t .same) ∙ i .form;
-          tokens = omega arith;
-          left = rw r at (i .left);
-          span = omega arith;
-        }
+    pub counts-left : state ≡ waiting → Refused (stopRefusal mid (textOf (drop mid text))) ≡ countThrough s text
+    counts-left n =
+        let x = left s state (tokensWidth (i .tokens)) mid at (i .under-way) (i .reached .stands) (omega arith) n in
+        stops-at s text mid (i .tokens) (underWay (i .under-way)) (x .medial) (charactersAt text at) (i .reached .medial) (x .place)
+        (left-settled (i .reached) h x)
 
-    -- the same, where the turn is known without a closer look
-    pub counts-turn : (r : ℕ) → r ≡ turnOf kind traits → r < 2 → (k : ℕ) → k ≡ afterOf traits → Counting s text k (count + r) (at + len)
-    counts-turn zero e h k q =
-        let g = turn-goes kind traits (sym e) (continuesAt s text (at + len)) in
-        subst (λ (j : ℕ). Counting s text j (count + 0) (at + len)) (sym (q ∙ g .after)) (subst (λ (n : ℕ). Counting s text kind n (at + len)) (sym (add-zero count)) (counts-more (g .on)))
-    counts-turn (suc zero) e h k q =
-        let g = turn-begins kind traits (sym e) (continuesAt s text (at + len)) in
-        counts-begin (g .ended) k (q ∙ g .after) (λ z. g .some-kind (sym (q ∙ g .after) ∙ z))
-    counts-turn (suc (suc r)) e h k q = absurd (omega arith)
+  -- the text ends: what is pending is complete
+  module _ (h : length text ≤ at) where
+    pub settles-end : Settles (L s) (i .under-way) (charactersAt text at)
+    settles-end = settles-none (i .reached) (at-end text at h)
 
-    -- no token begins: 6 if the rest has an ill-formed place, else 7
-    stop-by : (f : Text) (ts : List (Tok Character Kind)) (c : Character) (l : List Character) → tokensWidth ts ≡ at →
-        unless (formRefusalBy (shift at f)) (judged ts (c ∷ l)) ≡ refused (stopRefusal at f)
-    stop-by form.WellFormed ts c l w = rw w
-    stop-by (form.IllFormed p) ts c l w = refl
+    module _ (n : state ≡ waiting → ⊥) where
+      -- all is read
+      pub record Ended (q : Under) : Type 0 where
+        pub none-left : finish (L s) q .left ≡ []
+        pub pending : length (finish (L s) q .tokens) ≡ pendingOf state
 
-    pub counts-stop : goesOn kind traits (continuesAt s text (at + len)) ≡ false → kindFor traits ≡ 0 → Refused (stopRefusal at (textOf (drop at text))) ≡ countThrough s text
-    unfolding countThrough readThrough
-    counts-stop e z =
-        let r = rest-stop s text accepted at len traits t kind e z in
-        let p = rw r at (i .span) in
-        let l = rw r at (i .left) in
-        rw (← i .form, ← l) (sym (ap (λ (o : Outcome (List (Tok Character Kind))). countedBy (outcomeMap length o)) (stop-by (textOf (drop at text)) (readingOf s text .tokens) (record { code = t .code; width = len }) (charactersAt text (at + len)) (omega arith))))
+      ended : (q : Under) → Stands s q state (tokensWidth (i .tokens)) mid at → Ended q
+      unfolding finish settle
+      ended idle e = record { none-left = refl; pending = pending-by state _ (phase-of s state (tokensWidth (i .tokens)) mid at idle e) }
+      ended (under k u) e = record { none-left = refl; pending = pending-by state _ (phase-of s state (tokensWidth (i .tokens)) mid at (under k u) e) }
+      ended (held k u d) e = go (kindOf (meaningOf s) d) refl
+        where
+          go : (o : Option Kind) → kindOf (meaningOf s) d ≡ o → Ended (held k u d)
+          go none g = absurd (n (e .0 ∙ ap (λ (o : Option Kind). waiting + numberBy o) g))
+          go (some j) g = record { none-left = rw g; pending = rw g (pending-by state _ (phase-of s state (tokensWidth (i .tokens)) mid at (held k u d) e)) }
 
-  module _ (kind count at : ℕ) (i : Counting s text kind count at) where
-    pub counts-ill : stepOf (drop at text) ≡ step.IllFormed → Refused (refusal.IllFormed at) ≡ countThrough s text
-    unfolding countThrough readThrough
-    counts-ill e = rw (← i .form, ill-here text at e)
+      pub all-read : Ended (i .under-way)
+      all-read = ended (i .under-way) (i .reached .stands)
 
-    pub counts-end : length text ≤ at → Tokens count ≡ countThrough s text
-    unfolding countThrough readThrough
-    counts-end h =
-        let r = rest-none s text kind at (at-end text at h) in
-        let n = rw r at (i .tokens) in
-        let l = rw r at (i .left) in
-        let q : count ≡ length (readingOf s text .tokens) = omega arith in
-        rw (← i .form, end-here text at h, ← l, q)
+      all-tokens : tokensOf s text ≡ i .tokens ++ finish (L s) (i .under-way) .tokens
+      all-tokens = sym (ap (λ w. w .tokens) (read-end (i .reached) (at-end text at h)))
 
--- an ill-formed place lies within the text
-ill-by : (p q : ℕ) (r : List ℕ) → textBy p r ≡ form.IllFormed q → q ≡ p
-ill-by p q [] e = cc
-ill-by p q (b ∷ r) e = cc
+      all-count : count + pendingOf state ≡ length (tokensOf s text)
+      all-count = omega (arith, ap length all-tokens, length-append (i .tokens) (finish (L s) (i .under-way) .tokens), all-read .pending, i .counted)
 
-pub ill-within : (u : List ℕ) (p : ℕ) → textOf u ≡ form.IllFormed p → p ≤ length u
-unfolding textOf
-ill-within u p e = let q = ill-by (widthOf (decode u .characters)) p (decode u .rest) e in omega (arith, covers u .within)
+      pub pending-few : count + pendingOf state ≤ length text
+      pending-few = omega (arith, all-count, few-tokens s text)
+
+      pub counts-end : Counted (count + pendingOf state) ≡ countThrough s text
+      unfolding countThrough readThrough
+      counts-end =
+          let l = sym (all-read .none-left) ∙ ap (λ w. w .left) (read-end (i .reached) (at-end text at h)) in
+          rw (← i .reached .place .form, end-here text at h, ← l, all-count)
+
+  -- a character stands here
+  module _ {len traits turn : ℕ} (k : Look s text state at len traits turn) where
+    pub counting-turn : turn ≤ 1 → (n : ℕ) → n ≡ afterOf traits → Counting s text n (count + turn) mid (at + len)
+    counting-turn h n e = subst (λ (n : ℕ). Counting s text n (count + turn) mid (at + len)) (sym e) (counting-after (after-turn (i .reached) k turn refl h))
+
+    pub counting-waits : turn ≡ 2 → (n : ℕ) → n ≡ waitingOf traits → Counting s text n count at (at + len)
+    counting-waits h n e =
+        let x = after-waiting (i .reached) k h in
+        subst (λ (n : ℕ). Counting s text n count at (at + len)) (sym e) (record { tokens = i .tokens; under-way = x .0; reached = x .2; counted = i .counted })
+
+    pub waits-here : turn ≡ 3 → (waiting ≤ state) × Settles (L s) (i .under-way) (charactersAt text at)
+    waits-here h = settles-here (i .reached) k h
+
+    pub counts-stop : 4 ≤ turn → Refused (stopRefusal at (textOf (drop at text))) ≡ countThrough s text
+    counts-stop h =
+        let x = left-here (i .reached) k h in
+        stops-at s text at (i .tokens) (underWay (i .under-way)) _ _ (i .reached .place) (x .0) (x .1)

@@ -1,69 +1,143 @@
--- The end of a token under way, and the first token of a text. Assumes nothing.
-use Prim.Native.Nat.{ℕ, _+_, _≤_, _<_}
-use mathlib.Core.Path.{_≡_, refl, sym, ap, _∙_}
-use mathlib.Core.Bool.{true, false}
-use mathlib.Core.List.{List, [], _∷_}
+-- The first token by turns: the one under way, as soon as it is complete. Assumes nothing.
+use Prim.Native.Nat.{ℕ, zero, suc, _+_, _≤_, _<_}
+use mathlib.Core.Path.{_≡_, refl, sym, ap, subst, _∙_}
+use mathlib.Core.List.{List, [], _∷_, _++_}
 use mathlib.Core.Option.{none}
-use native.Mathlib.Nat.{zero-add, add-zero}
 use native.Mathlib.Omega.{arith}
-use lib.ListN.{length, drop}
-use Rattle.utf8.specs.declared.Step.the-variants as step
+use lib.ListN.{length, drop, drop-of-length-le}
+use Rattle.lists.proofs.BoolLaws.{impossible}
+use Rattle.utf8.specs.declared.Step.{Step}
+use Rattle.utf8.specs.declared.Step.the-variants as utf8-step
 use Rattle.utf8.specs.Head.{stepOf}
-use Rattle.utf8.specs.Text.{Character, widthOf}
-use Rattle.image.specs.Check.{refusalOf}
-use Rattle.grammar.specs.Scan.{Reading}
+use Rattle.utf8.specs.Text.{Character, decode, widthOf}
+use Rattle.utf8.proofs.SequenceLaws.{step-empty}
+use Rattle.utf8.proofs.TextLaws.{decode-ill, decode-end}
+use Rattle.grammar.specs.Scan.{Tok, walk}
+use Rattle.grammar.specs.Step.{idle, under, held, tok, underWay, finish}
 use Rattle.grammar.specs.Grammar.{Kind}
 use Rattle.grammar.specs.Kinds.{kindNumber}
-use Rattle.grammar.specs.Reading.{readingOf, tokensOf}
-use Rattle.scan.specs.declared.First.{First}
-use Rattle.scan.specs.declared.First.the-variants.{Nothing, IllFormed, NoToken, Token}
-use Rattle.scan.specs.Traits.{kindFor, goesOn}
-use Rattle.scan.specs.Rest.{restOf, continuesAt, endFrom}
-use Rattle.scan.specs.First.{firstIn, firstBy, firstOf}
-use Rattle.scan.proofs.RestLaws.{NoCharacter, Turn, rest-begins, rest-none, rest-more, rest-ends, rest-stop, Begins, rest-begin}
+use Rattle.grammar.specs.Reading.{rulesOf, readingOf, tokensOf}
+use Rattle.grammar.proofs.ScanLaws.{walk-nil}
+use Rattle.grammar.proofs.StepLaws.{readFrom, Settles, settles-first, finish-begins}
+use Rattle.scan.specs.declared.First.the-variants.{Nothing, IllFormed, Token}
+use Rattle.scan.specs.Turns.{Phase, phaseNamed, waiting, states, waitingOf, afterOf}
+use Rattle.scan.specs.First.{firstIn, firstBy, firstOf, pendingBy, pendingFirst}
+use Rattle.scan.proofs.TurnLaws.{Tokens, Under, L, Stands, kind-less, phase-of, stands-less}
+use Rattle.scan.proofs.ReachLaws.{charactersAt, Look, NoCharacter, Reached, reached-begins, tokens-come, read-end, after-turn, after-waiting, settles-here, left-here}
+
+pub first-by : (n mid at : ℕ) (p : Phase) → phaseNamed n ≡ p → pendingBy p mid at ≡ pendingFirst n mid at
+unfolding pendingFirst
+first-by n mid at p e = ap (λ p. pendingBy p mid at) (sym e)
+
+-- no token is complete before the place `at`
+pub record Searching (s text : List ℕ) (state mid at : ℕ) : Type 0 where
+  pub under-way : Under
+  pub reached : Reached s text state mid at [] under-way
+
+pub searching-begins : (s text : List ℕ) → Searching s text 0 0 0
+searching-begins s text = record { under-way = idle; reached = reached-begins s text }
 
 module _ (s text : List ℕ) where
-  pub end-none : (kind at : ℕ) → NoCharacter text at → endFrom s text kind at ≡ at
-  unfolding endFrom
-  end-none kind at e = rw (rest-none s text kind at e) (add-zero at)
+  -- what stands at the front
+  no-tokens : decode text .characters ≡ [] → tokensOf s text ≡ []
+  unfolding readingOf
+  no-tokens e = ap (λ (cs : List Character). walk (rulesOf s) none cs .tokens) e ∙ ap (λ w. w .tokens) (walk-nil (rulesOf s) none)
 
-  module _ (accepted : refusalOf s ≡ none) (kind at len traits : ℕ) (t : Turn s text at len traits) where
-    pub end-more : goesOn kind traits (continuesAt s text (at + len)) ≡ true → endFrom s text kind at ≡ endFrom s text kind (at + len)
-    unfolding endFrom
-    end-more e = rw (rest-more s text accepted at len traits t kind e) (omega arith)
-
-    pub end-here : goesOn kind traits (continuesAt s text (at + len)) ≡ false → endFrom s text kind at ≡ at
-    unfolding endFrom
-    end-here e = rw (rest-ends s text accepted at len traits t kind e) (add-zero at)
-
-  -- what stands at the front, by its step
-  empty : (u : List ℕ) → length u ≡ 0 → u ≡ []
-  empty [] e = refl
-  empty (b ∷ u) e = absurd (omega arith)
-
-  pub first-nothing : length text ≡ 0 → Nothing ≡ firstOf s text
-  unfolding firstOf stepOf
-  first-nothing e = rw (empty text e)
-
-  pub first-ill : stepOf (drop 0 text) ≡ step.IllFormed → IllFormed ≡ firstOf s text
+  by-front : (t : Tok Character Kind) (rest : Tokens) → tokensOf s text ≡ t ∷ rest → firstIn (t ∷ rest) ≡ firstOf s text
   unfolding firstOf
-  first-ill e = rw e
+  by-front t rest e = ap firstIn (sym e) ∙ go (stepOf text) refl
+    where
+      go : (x : Step) → stepOf text ≡ x → firstIn (tokensOf s text) ≡ firstBy (tokensOf s text) x
+      go (utf8-step.Scalar x n) f = refl
+      go utf8-step.IllFormed f = let z = no-tokens (ap (λ d. d .characters) (decode-ill text f)) in impossible (cc)
+      go utf8-step.End f = let z = no-tokens (ap (λ d. d .characters) (decode-end text f)) in impossible (cc)
 
-  module _ (accepted : refusalOf s ≡ none) (len traits : ℕ) (t : Turn s text 0 len traits) where
-    no-kind : (follows : _) → goesOn 0 traits follows ≡ false
-    unfolding goesOn
-    no-kind follows = refl
+  module _ (state mid at : ℕ) where
+    -- past the front a token is under way
+    some-under : (q : Under) → Stands s q state 0 mid at → (at ≡ 0 → ⊥) → 0 < length (underWay q)
+    some-under idle i z = absurd (z (i .1))
+    some-under (under k u) i z = omega arith
+    some-under (held k u d) i z = omega arith
 
-    pub first-stop : kindFor traits ≡ 0 → NoToken ≡ firstOf s text
+    -- the token under way is the first
+    complete : (q : Under) → Stands s q state 0 mid at → (rest : Tokens) → tokensOf s text ≡ underWay q ++ rest → 0 < length (underWay q) →
+        pendingFirst state mid at ≡ firstOf s text
+    complete idle i rest e h = absurd (omega arith)
+    complete (under k u) i rest e h =
+        let w : at ≡ widthOf u = omega (arith, i .1) in
+        sym (first-by state mid at _ (phase-of s state 0 mid at (under k u) i)) ∙ ap (Token (kindNumber k)) w ∙ by-front (tok k u) rest e
+    complete (held k u d) i rest e h =
+        let w : mid ≡ widthOf u = omega (arith, i .1) in
+        sym (first-by state mid at _ (phase-of s state 0 mid at (held k u d) i)) ∙ (λ j. Token (kindNumber (sym (i .3) j)) (w j)) ∙ by-front (tok k u) rest e
+
+module _ {s text : List ℕ} {state mid at : ℕ} (i : Searching s text state mid at) where
+  pub searching-less : state < states
+  searching-less = stands-less s state 0 mid at (i .under-way) (i .reached .stands)
+
+  pub first-ill : stepOf (drop at text) ≡ utf8-step.IllFormed → at ≡ 0 → IllFormed ≡ firstOf s text
+  unfolding firstOf
+  first-ill e z = let f : stepOf text ≡ utf8-step.IllFormed = rw z at e in rw f
+
+  pub first-nothing : length text ≤ at → at ≡ 0 → Nothing ≡ firstOf s text
+  unfolding firstOf
+  first-nothing h z = let e : stepOf text ≡ utf8-step.End = ap stepOf (drop-of-length-le text {i = 0} (omega arith)) ∙ step-empty in rw e
+
+  -- nothing follows
+  pub first-last : NoCharacter text at → (at ≡ 0 → ⊥) → pendingFirst state mid at ≡ firstOf s text
+  first-last e z = go (i .under-way) (i .reached .stands) (sym (ap (λ w. w .tokens) (read-end (i .reached) e)))
+    where
+      go : (q : Under) → Stands s q state 0 mid at → tokensOf s text ≡ finish (L s) q .tokens → pendingFirst state mid at ≡ firstOf s text
+      go q h f = let x = finish-begins (L s) q in complete s text state mid at q h (x .0) (f ∙ x .1) (some-under s text state mid at q h z)
+
+  -- a character stands here
+  module _ {len traits turn : ℕ} (k : Look s text state at len traits turn) where
+    pub searching-on : turn ≡ 0 → (n : ℕ) → n ≡ afterOf traits → Searching s text n mid (at + len)
+    searching-on h n e =
+        let a = after-turn (i .reached) k 0 h (omega arith) in
+        subst (λ (n : ℕ). Searching s text n mid (at + len)) (sym e) (record { under-way = a .next; reached = a .reached })
+
+    pub searching-waits : turn ≡ 2 → (n : ℕ) → n ≡ waitingOf traits → Searching s text n at (at + len)
+    searching-waits h n e =
+        let a = after-waiting (i .reached) k h in
+        subst (λ (n : ℕ). Searching s text n at (at + len)) (sym e) (record { under-way = a .0; reached = a .2 })
+
+    none-begins : Stands s idle state 0 mid at → tokensOf s text ≡ [] → pendingFirst state mid at ≡ firstOf s text
     unfolding firstOf
-    first-stop z =
-        let r = sym (rest-begins s text) ∙ rest-stop s text accepted 0 len traits t 0 (no-kind _) z in
-        sym (ap (firstBy (tokensOf s text)) (t .stands) ∙ ap (λ w. firstIn (w .tokens)) r)
+    none-begins h f =
+        let z : at ≡ 0 = h .1 in
+        let g : stepOf text ≡ utf8-step.Scalar (k .here .code) len = rw z at (k .here .stands) in
+        sym (first-by state mid at _ (phase-of s state 0 mid at idle h)) ∙ sym (ap (firstBy (tokensOf s text)) g ∙ ap firstIn f)
 
-    pub first-begin : (k : ℕ) → k ≡ kindFor traits → (k ≡ 0 → ⊥) → Token k (endFrom s text k len) ≡ firstOf s text
-    unfolding firstOf endFrom
-    first-begin k q h =
-        let b = rest-begin s text accepted 0 len traits t 0 (no-kind _) k q h in
-        sym (ap (firstBy (tokensOf s text)) (t .stands)
-        ∙ ap (λ w. firstIn (w .tokens)) (sym (rest-begins s text) ∙ b .rest)
-        ∙ (λ d. Token (sym (b .number) d) (len + widthOf (restOf s text k (zero-add len d) .run))))
+    -- the token under way is complete, or none begins
+    first-begins : turn ≡ 1 → pendingFirst state mid at ≡ firstOf s text
+    first-begins h =
+        let a = after-turn (i .reached) k 1 h (omega arith) in
+        complete s text state mid at (i .under-way) (i .reached .stands) _ (tokens-come (a .reached)) (omega (arith, a .size))
+
+    first-settles : turn ≡ 3 → pendingFirst state mid at ≡ firstOf s text
+    first-settles h = let x = settles-here (i .reached) k h in go (i .under-way) (i .reached .stands) (x .0) (x .1) (tokens-come (i .reached))
+      where
+        go : (q : Under) → Stands s q state 0 mid at → waiting ≤ state → Settles (L s) q (charactersAt text at) →
+            tokensOf s text ≡ readFrom (L s) q (charactersAt text at) .tokens →
+            pendingFirst state mid at ≡ firstOf s text
+        go idle h w f g = absurd (omega (arith, h .0))
+        go (under k u) h w f g = absurd (omega (arith, h .0, kind-less k))
+        go (held k u d) h w f g = complete s text state mid at (held k u d) h _ (g ∙ ap (λ r. r .tokens) (settles-first (L s) k u d (charactersAt text at) f)) (omega arith)
+
+    first-stops : 4 ≤ turn → pendingFirst state mid at ≡ firstOf s text
+    first-stops h = go (i .under-way) (i .reached .stands) (sym (ap (λ w. w .tokens) (left-here (i .reached) k h .1)))
+      where
+        go : (q : Under) → Stands s q state 0 mid at → tokensOf s text ≡ underWay q → pendingFirst state mid at ≡ firstOf s text
+        go idle h f = none-begins h f
+        go (under k u) h f = complete s text state mid at (under k u) h [] f (omega arith)
+        go (held k u d) h f = complete s text state mid at (held k u d) h [] f (omega arith)
+
+    pub first-ends : (turn ≡ 0 → ⊥) → (turn ≡ 2 → ⊥) → pendingFirst state mid at ≡ firstOf s text
+    first-ends n m = go turn refl
+      where
+        go : (r : ℕ) → turn ≡ r → pendingFirst state mid at ≡ firstOf s text
+        go zero e = absurd (n e)
+        go (suc zero) e = first-begins e
+        go (suc (suc zero)) e = absurd (m e)
+        go (suc (suc (suc zero))) e = first-settles e
+        go (suc (suc (suc (suc r)))) e = first-stops (omega arith)

@@ -1,6 +1,6 @@
-pub mod TraitLaws
+pub mod TableLaws
 pub mod TurnLaws
-pub mod RestLaws
+pub mod ReachLaws
 pub mod CountLaws
 pub mod WriteLaws
 pub mod FirstTokenLaws

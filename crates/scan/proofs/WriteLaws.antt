@@ -1,286 +1,321 @@
--- Writing tokens in one pass: with the words of the rest laid after those written, the buffer is the whole list's. Assumes nothing.
+-- Writing by turns: the buffer holds the words of the tokens that are complete, and of the one under way up to the place. Assumes nothing.
 use Prim.Native.Nat.{ℕ, zero, suc, _+_, _-_, _*_, _≤_, _<_}
 use mathlib.Core.Path.{_≡_, refl, sym, ap, subst, _∙_}
-use mathlib.Core.Bool.{Bool, true, false}
 use mathlib.Core.List.{List, [], _∷_, _++_, append-assoc, append-nil}
-use mathlib.Core.Option.{none}
-use native.Mathlib.Nat.{add-assoc, add-zero, zero-add}
+use mathlib.Core.Option.{Option, none, some}
 use native.Mathlib.Omega.{arith}
+use native.Mathlib.Decide.{decLt}
 use lib.ListN.{length, take, drop, set, length-append, length-take, length-drop}
-use lib.Seq.{take-at, drop-at}
+use lib.Seq.{take-at, drop-at, drop-drop}
 use borrow.Rule.Slice.PartMut.{putMid}
-use Rattle.lists.proofs.BoolLaws.{impossible}
 use Rattle.lists.specs.Laid.{laid}
 use Rattle.lists.proofs.LaidLaws.{laid-none, laid-step, length-laid, lent}
-use Rattle.utf8.specs.Text.{Character, widthOf}
-use Rattle.image.specs.Check.{refusalOf}
-use Rattle.grammar.specs.Scan.{Reading, grown, opened, stopped}
-use Rattle.grammar.specs.Grammar.{Kind, identifier, syntax, whitespace}
-use Rattle.grammar.specs.Kinds.{kindNumber}
-use Rattle.grammar.specs.Record.{recordsFrom, wordsOf, listedWords}
-use Rattle.grammar.specs.Reading.{readingOf}
-use Rattle.grammar.proofs.RecordLaws.{length-listed}
-use Rattle.scan.specs.Traits.{kindFor, goesOn, turnOf, afterOf}
-use Rattle.scan.specs.Rest.{restOf, continuesAt}
-use Rattle.scan.specs.Words.{tokenWords, wordsFrom, startBy}
-use Rattle.scan.proofs.TurnLaws.{turn-goes, turn-begins}
-use Rattle.scan.proofs.RestLaws.{NoCharacter, Turn, reading-run, rest-begins, rest-none, rest-more, rest-ends, rest-stop, Begins, rest-begin}
+use Rattle.utf8.specs.Text.{widthOf}
+use Rattle.grammar.specs.Step.{idle, under, held, underWay, settle, finish}
+use Rattle.grammar.specs.Grammar.{Kind}
+use Rattle.grammar.specs.Kinds.{kindNumber, kindOf}
+use Rattle.grammar.specs.Record.{recordSize, tokensWidth, recordsFrom, wordsOf, listedWords}
+use Rattle.grammar.specs.Reading.{meaningOf, tokensOf}
+use Rattle.grammar.proofs.RecordLaws.{length-records, length-words, length-listed, listed-append}
+use Rattle.grammar.proofs.StepLaws.{Settles, readFrom, first-comes}
+use Rattle.scan.specs.Turns.{numberBy, waiting, states, waitingOf, afterOf}
+use Rattle.scan.specs.Words.{tokenWords, waitingBy, waitingWords, startBy}
+use Rattle.scan.proofs.TurnLaws.{Tokens, Under, L, Stands, kind-less, stands-less, doneBy, Going}
+use Rattle.scan.proofs.ReachLaws.{charactersAt, Look, NoCharacter, Reached, reached-begins, After, tokens-come, after-settling, all-settled, read-end, after-turn, after-waiting, settles-here, left-here}
 
--- the words from a place on, for each turn of the reading
-module _ (kind start at : ℕ) where
-  words-more : (c : Character) (w : Reading Character Kind) → wordsFrom kind start at (grown c w) ≡ wordsFrom kind start (at + c .width) w
-  unfolding wordsFrom
-  words-more c w = ap (λ (e : ℕ). tokenWords kind start e ++ wordsOf (recordsFrom e (w .tokens))) (sym (add-assoc at (c .width) (widthOf (w .run))))
-
-  words-stop : (l : List Character) → wordsFrom kind start at (stopped l) ≡ tokenWords kind start at
-  unfolding wordsFrom
-  words-stop l = append-nil (tokenWords kind start (at + 0)) ∙ ap (tokenWords kind start) (add-zero at)
-
-  numbered : (j : Kind) (e : ℕ) → tokenWords (kindNumber j) at e ≡ kindNumber j ∷ at ∷ e ∷ []
-  numbered identifier e = refl
-  numbered syntax e = refl
-  numbered whitespace e = refl
-
-  words-begin : (j : Kind) (c : Character) (w : Reading Character Kind) →
-      wordsFrom kind start at (opened j c w) ≡ tokenWords kind start at ++ wordsFrom (kindNumber j) at (at + c .width) w
-  unfolding wordsFrom
-  words-begin j c w =
-      let z = add-zero at in
-      let e = add-assoc at (c .width) (widthOf (w .run)) in
-      rw (numbered j (at + c .width + widthOf (w .run)), z, e)
-
--- the tokens before the place `at` are written in the first `w` words, but for the one under way, which began at `start`
-pub record Writing (s text out₀ out : List ℕ) (kind start at w : ℕ) : Type 0 where
-  pub within : at ≤ length text
-  pub began : start ≤ at
-  pub long : length out ≡ length out₀
-  pub room : w + length (wordsFrom kind start at (restOf s text kind at)) ≤ length out
-  pub same : laid out w (wordsFrom kind start at (restOf s text kind at)) ≡ laid out₀ 0 (listedWords (readingOf s text .tokens))
-
--- there is room for the words of a token from word w on
-pub record Room (out : List ℕ) (w kind start end : ℕ) : Type 0 where
-  pub fits : w + length (tokenWords kind start end) ≤ length out
-
--- they were written there
-pub record Put (out out′ : List ℕ) (w kind start end : ℕ) : Type 0 where
-  pub fits : w + length (tokenWords kind start end) ≤ length out
-  pub same : out′ ≡ laid out w (tokenWords kind start end)
-
--- a call that was lent it wrote the token's words at its front
-pub put-lent : {out : List ℕ} {w kind start end : ℕ} → Room out w kind start end → (ys : List ℕ)
-    → ys ≡ laid (take (length out - w) (drop w out)) 0 (tokenWords kind start end) → Put out (putMid w (length out - w) out ys) w kind start end
-put-lent {out} {w} {kind} {start} {end} h ys e = record { fits = h .fits; same = lent out (tokenWords kind start end) w (h .fits) ys e }
-
--- a token's three words at a buffer's front
-pub three-words : (out : List ℕ) (k a b : ℕ) → 3 ≤ length out → set (set (set out 0 k) 1 a) 2 b ≡ laid out 0 (k ∷ a ∷ b ∷ [])
+-- a record's words at a buffer's front
+pub three-words : (out : List ℕ) (k a b : ℕ) → recordSize ≤ length out → set (set (set out 0 k) 1 a) 2 b ≡ laid out 0 (tokenWords k a b)
 three-words [] k a b h = absurd (omega arith)
 three-words (x ∷ []) k a b h = absurd (omega arith)
 three-words (x ∷ y ∷ []) k a b h = absurd (omega arith)
 three-words (x ∷ y ∷ z ∷ out) k a b h = refl
 
-pub words-some : (kind start end : ℕ) → (kind ≡ 0 → ⊥) → tokenWords kind start end ≡ kind ∷ start ∷ end ∷ []
-words-some zero start end h = absurd (h refl)
-words-some (suc k) start end h = refl
+-- values laid where no more others were laid before
+laid-again : (out xs ys : List ℕ) (at : ℕ) → at + length ys ≤ length out → length xs ≤ length ys → laid (laid out at xs) at ys ≡ laid out at ys
+laid-again out xs ys at fits few =
+    let n = length ys - length xs in
+    let d = drop (at + length xs) out in
+    let x : List ℕ = laid out at xs in
+    let t : take at x ≡ take at out = ap (take at) (append-assoc (take at out) xs d) ∙ take-at (take at out) (xs ++ d) at (simp length-take (omega arith)) in
+    let l : length (take at out ++ xs) ≡ at + length xs = simp (length-append, length-take) (omega arith) in
+    let m : n + (at + length xs) ≡ at + length ys = omega arith in
+    let k : at + length xs + n ≡ at + length ys = omega arith in
+    let u : drop (at + length ys) x ≡ drop (at + length ys) out =
+    ap (λ (j : ℕ). drop j x) (sym k) ∙ sym (drop-drop n (at + length xs) x) ∙ ap (drop n) (drop-at (take at out ++ xs) d (at + length xs) l)
+    ∙ drop-drop n (at + length xs) out ∙ ap (λ (j : ℕ). drop j out) k in
+    (λ i. (t i ++ ys) ++ u i)
 
-pub written-some : (out : List ℕ) (kind start end : ℕ) → (kind ≡ 0 → ⊥) → 3 ≤ length out → set (set (set out 0 kind) 1 start) 2 end ≡ laid out 0 (tokenWords kind start end)
-written-some out kind start end h l = three-words out kind start end l ∙ ap (laid out 0) (sym (words-some kind start end h))
+-- after values xs, others in place of ys
+laid-over : (out xs ys zs : List ℕ) → length xs + length zs ≤ length out → length ys ≤ length zs →
+    laid (laid out 0 (xs ++ ys)) (length xs) zs ≡ laid out 0 (xs ++ zs)
+laid-over out xs ys zs fits few =
+    let o : List ℕ = laid out 0 xs in
+    let l : length o ≡ length out = length-laid out xs 0 (omega arith) in
+    let z : 0 + length xs ≡ length xs = omega arith in
+    ap (λ (b : List ℕ). laid b (length xs) zs) (laid-step out xs 0 (omega arith) ys ∙ ap (λ (n : ℕ). laid o n ys) z)
+    ∙ laid-again o ys zs (length xs) (omega arith) few
+    ∙ ap (λ (n : ℕ). laid o n zs) (sym z) ∙ sym (laid-step out xs 0 (omega arith) zs)
 
--- values laid where as many others were laid before
-module _ (out xs ys : List ℕ) (at : ℕ) (fits : at + length xs ≤ length out) (same : length xs ≡ length ys) where
-  laid-again : laid (laid out at xs) at ys ≡ laid out at ys
-  laid-again =
-      let d = drop (at + length xs) out in
-      let x : List ℕ = laid out at xs in
-      let t : take at x ≡ take at out = ap (take at) (append-assoc (take at out) xs d) ∙ take-at (take at out) (xs ++ d) at (simp length-take (omega arith)) in
-      let l : length (take at out ++ xs) ≡ at + length xs = simp (length-append, length-take) (omega arith) in
-      let u : drop (at + length ys) x ≡ drop (at + length ys) out =
-      ap (λ (n : ℕ). drop (at + n) x) (sym same) ∙ drop-at (take at out ++ xs) d (at + length xs) l ∙ ap (λ (n : ℕ). drop (at + n) out) same in
-      (λ i. (t i ++ ys) ++ u i)
+length-from : (p : ℕ) (ts : Tokens) → length (wordsOf (recordsFrom p ts)) ≡ recordSize * length ts
+length-from p ts = length-words (recordsFrom p ts) ∙ ap (λ (n : ℕ). recordSize * n) (length-records p ts)
 
-  laid-over : (more : List ℕ) → laid (laid out at xs) at (ys ++ more) ≡ laid out at (ys ++ more)
-  laid-over more =
-      let n = length-laid out xs at fits in
-      laid-step (laid out at xs) ys at (omega arith) more ∙ ap (λ (z : List ℕ). laid z (at + length ys) more) laid-again ∙ sym (laid-step out ys at (omega arith) more)
+one-under : (q : Under) → length (underWay q) ≤ 1
+one-under idle = omega arith
+one-under (under k u) = omega arith
+one-under (held k u d) = omega arith
 
-pub writing-begins : (s text out : List ℕ) → 3 * length (readingOf s text .tokens) ≤ length out → Writing s text out out 0 0 0 0
-unfolding wordsFrom
-writing-begins s text out h =
-    let r = rest-begins s text in
-    let l = length-listed (readingOf s text .tokens) in
-    record {
-      within = omega arith;
-      began = omega arith;
-      long = refl;
-      room = rw (r, reading-run s text) (omega arith);
-      same = rw (r, reading-run s text);
-    }
+going-one : (q : Under) → Going q → length (underWay q) ≡ 1
+going-one (under k u) g = refl
+going-one idle g = absurd g
+going-one (held k u d) g = absurd g
 
-module _ (s text out₀ out : List ℕ) where
-  module _ (kind start at w : ℕ) (i : Writing s text out₀ out kind start at w) where
-    -- a token that has ended has room
-    pub ended-fits : restOf s text kind at .run ≡ [] → Room out w kind start at
-    unfolding wordsFrom
-    ended-fits e =
-        let z = add-zero at in
-        let h = rw (length-append, e, z) at (i .room) in
-        record { fits = omega arith }
+pub waits-some : (state mid at : ℕ) → waiting < state → waitingWords state mid at ≡ tokenWords (state - waiting) mid at
+unfolding waitingWords
+waits-some state mid at h = go (state - waiting) (omega arith)
+  where
+    go : (n : ℕ) → 0 < n → waitingBy n mid at ≡ tokenWords n mid at
+    go zero l = absurd (omega arith)
+    go (suc n) l = refl
 
-    -- all is written
-    written : (out′ : List ℕ) → wordsFrom kind start at (restOf s text kind at) ≡ tokenWords kind start at → Put out out′ w kind start at →
-        out′ ≡ laid out₀ 0 (listedWords (readingOf s text .tokens))
-    written out′ e p = p .same ∙ ap (laid out w) (sym e) ∙ i .same
+pub none-waits : (state mid at : ℕ) → state ≤ waiting → [] ≡ waitingWords state mid at
+unfolding waitingWords
+none-waits state mid at h = let z : state - waiting ≡ 0 = omega arith in rw z
 
-    pub writes-none : (out′ : List ℕ) → NoCharacter text at → Put out out′ w kind start at →
-        out′ ≡ laid out₀ 0 (listedWords (readingOf s text .tokens))
-    writes-none out′ e p = written out′ (ap (wordsFrom kind start at) (rest-none s text kind at e) ∙ words-stop kind start at []) p
+-- what is written of a medial that waits
+module _ (out : List ℕ) (v state mid at : ℕ) where
+  pub none-put : state ≤ waiting → out ≡ laid out v (waitingWords state mid at)
+  none-put h = sym (ap (laid out v) (sym (none-waits state mid at h)) ∙ laid-none out v)
 
-  module _ (accepted : refusalOf s ≡ none) (kind start at len traits w : ℕ) (i : Writing s text out₀ out kind start at w) (t : Turn s text at len traits) where
-    pub writes-more : goesOn kind traits (continuesAt s text (at + len)) ≡ true → Writing s text out₀ out kind start (at + len) w
-    writes-more e =
-        let r = ap (wordsFrom kind start at) (rest-more s text accepted at len traits t kind e) ∙ words-more kind start at _ (restOf s text kind (at + len)) in
-        record {
-          within = t .within;
-          began = omega (arith, i .began);
+  pub some-put : waiting < state → v + recordSize ≤ length out → (ys : List ℕ) →
+      ys ≡ laid (take (length out - v) (drop v out)) 0 (tokenWords (state - waiting) mid at) →
+      putMid v (length out - v) out ys ≡ laid out v (waitingWords state mid at)
+  some-put h l ys e = lent out (tokenWords (state - waiting) mid at) v l ys e ∙ ap (laid out v) (sym (waits-some state mid at h))
+
+pub part-long : (out : List ℕ) (v : ℕ) → v + recordSize ≤ length out → recordSize ≤ length (take (length out - v) (drop v out))
+part-long out v h = simp (length-take, length-drop) (omega arith)
+
+module _ (s : List ℕ) (state start mid at : ℕ) where
+  -- the words of the token under way
+  pub going-words : (q : Under) → Going q → Stands s q state start mid at → wordsOf (recordsFrom start (underWay q)) ≡ tokenWords state start at
+  going-words (under k u) g i = let w : start + (widthOf u) ≡ at = omega (arith, i .1) in (λ j. tokenWords (sym (i .0) j) start (w j))
+  going-words idle g i = absurd g
+  going-words (held k u d) g i = absurd g
+
+  some-waits : (k : Kind) → state ≡ waiting + kindNumber k → tokenWords (kindNumber k) mid at ≡ waitingWords state mid at
+  some-waits k e = let z : kindNumber k ≡ state - waiting = omega arith in ap (λ (n : ℕ). tokenWords n mid at) z
+      ∙ sym (waits-some state mid at (omega (arith, kind-less k)))
+
+  pub held-one : (q : Under) → Stands s q state start mid at → waiting < state → length (underWay q) ≡ 1
+  held-one idle i h = absurd (omega (arith, i .0))
+  held-one (under k u) i h = refl
+  held-one (held k u d) i h = refl
+
+  pub began-before : (q : Under) → Stands s q state start mid at → start ≤ at
+  began-before idle i = omega (arith, i .1)
+  began-before (under k u) i = omega (arith, i .1)
+  began-before (held k u d) i = omega (arith, i .1, i .2)
+
+  -- where nothing follows, the last tokens are the one under way and a medial that waits
+  pub finish-words : (q : Under) → Stands s q state start mid at →
+      wordsOf (recordsFrom start (finish (L s) q .tokens)) ≡ wordsOf (recordsFrom start (underWay q)) ++ waitingWords state mid at
+  unfolding finish settle
+  finish-words idle i = none-waits state mid at (omega (arith, i .0))
+  finish-words (under k u) i = ap (λ ws. wordsOf (recordsFrom start (underWay (under k u))) ++ ws) (none-waits state mid at (omega (arith, i .0, kind-less k)))
+  finish-words (held k u d) i = go (kindOf (meaningOf s) d) refl
+    where
+      go : (o : Option Kind) → kindOf (meaningOf s) d ≡ o →
+          wordsOf (recordsFrom start (finish (L s) (held k u d) .tokens)) ≡ wordsOf (recordsFrom start (underWay (held k u d))) ++ waitingWords state mid at
+      go none g = rw g (ap (λ ws. wordsOf (recordsFrom start (underWay (held k u d))) ++ ws) (none-waits state mid at (omega (arith, i .0 ∙ ap (λ (o : Option Kind). waiting + numberBy o) g))))
+      go (some j) g =
+          let n = i .0 ∙ ap (λ (o : Option Kind). waiting + numberBy o) g in
+          let m : start + widthOf u ≡ mid = sym (i .1) in
+          let e : start + widthOf u + (d .width + 0) ≡ at = omega (arith, i .1, i .2) in
+          rw g (ap (λ ws. wordsOf (recordsFrom start (underWay (held k u d))) ++ ws) ((λ x. tokenWords (kindNumber j) (m x) (e x)) ∙ some-waits j n))
+
+module _ (s text out₀ : List ℕ) where
+  -- the tokens that are complete, and the one under way up to the place `at`, are in the buffer; w is the word after the complete ones
+  pub record Writing (out : List ℕ) (state start mid at w : ℕ) : Type 0 where
+    pub tokens : Tokens
+    pub under-way : Under
+    pub reached : Reached s text state mid at tokens under-way
+    pub began : start ≡ tokensWidth tokens
+    pub placed : w ≡ recordSize * length tokens
+    pub long : length out ≡ length out₀
+    pub same : out ≡ laid out₀ 0 (listedWords (tokens ++ underWay under-way))
+
+  -- the words of the one under way are yet to be written from word w on
+  pub record Due (out : List ℕ) (state start mid at w : ℕ) : Type 0 where
+    pub tokens : Tokens
+    pub under-way : Under
+    pub reached : Reached s text state mid at tokens under-way
+    pub going : Going under-way
+    pub began : start ≡ tokensWidth tokens
+    pub placed : w ≡ recordSize * length tokens
+    pub old : List ℕ
+    pub few : length old ≤ recordSize
+    pub long : length out ≡ length out₀
+    pub same : out ≡ laid out₀ 0 (listedWords tokens ++ old)
+
+pub writing-begins : (s text out : List ℕ) → Writing s text out out 0 0 0 0 0
+writing-begins s text out = record { tokens = []; under-way = idle; reached = reached-begins s text; began = refl; placed = refl; long = refl; same = sym (laid-none out 0) }
+
+-- the tokens that are complete and the one under way have room
+shown-fits : {s text : List ℕ} {state mid at : ℕ} {ts : Tokens} {q : Under} (n : ℕ) → recordSize * length (tokensOf s text) ≤ n →
+    Reached s text state mid at ts q →
+    recordSize * (length ts + length (underWay q)) ≤ n
+shown-fits {s} {text} {at = at} {ts} {q} n room i =
+    let f = first-comes (L s) q (charactersAt text at) in
+    omega (arith, ap length (tokens-come i), length-append ts (readFrom (L s) q (charactersAt text at) .tokens))
+
+module _ {s text out₀ out : List ℕ} {state start mid at w : ℕ} (i : Due s text out₀ out state start mid at w) (room : recordSize * length (tokensOf s text) ≤ length out₀) where
+  pub due-fits : w + recordSize ≤ length out₀
+  due-fits = omega (arith, shown-fits (length out₀) room (i .reached), going-one (i .under-way) (i .going), i .placed)
+
+  pub due-bounds : (start ≤ length text) × (at ≤ length text)
+  due-bounds =
+      let b = began-before s state (tokensWidth (i .tokens)) mid at (i .under-way) (i .reached .stands) in
+      (omega (arith, b, i .began, i .reached .place .within), i .reached .place .within)
+
+  pub due-room : w + recordSize ≤ length out
+  due-room = omega (arith, due-fits, i .long)
+
+  pub due-part : recordSize ≤ length (take (length out - w) (drop w out))
+  due-part = part-long out w due-room
+
+  -- a call that was lent the buffer from there on wrote them
+  pub due-put : (ys : List ℕ) → ys ≡ laid (take (length out - w) (drop w out)) 0 (tokenWords state start at) →
+      Writing s text out₀ (putMid w (length out - w) out ys) state start mid at w
+  due-put ys e =
+      let xs = listedWords (i .tokens) in
+      let zs = tokenWords state start at in
+      let l = length-listed (i .tokens) in
+      let n : w ≡ length xs = i .placed ∙ sym l in
+      let g = going-words s state (tokensWidth (i .tokens)) mid at (i .under-way) (i .going) (i .reached .stands)
+      ∙ ap (λ (p : ℕ). tokenWords state p at) (sym (i .began)) in
+      let ws = listedWords (i .tokens ++ underWay (i .under-way)) in
+      let m : putMid w (length out - w) out ys ≡ laid out₀ 0 ws =
+      lent out zs w due-room ys e ∙ (λ j. laid (i .same j) (n j) zs) ∙ laid-over out₀ xs (i .old) zs (omega (arith, due-fits, n)) (i .few)
+      ∙ ap (laid out₀ 0) (sym (listed-append (i .tokens) (underWay (i .under-way)) ∙ ap (λ (ws : List ℕ). xs ++ ws) g)) in
+      let o = going-one (i .under-way) (i .going) in
+      let f : 0 + length ws ≤ length out₀ = omega (arith, length-listed (i .tokens ++ underWay (i .under-way)), length-append (i .tokens) (underWay (i .under-way)), o, i .placed, due-fits) in
+      record { tokens = i .tokens; under-way = i .under-way; reached = i .reached; began = i .began; placed = i .placed; long = ap length m ∙ length-laid out₀ ws 0 f; same = m }
+
+module _ {s text out₀ out : List ℕ} {state start mid at w : ℕ} (i : Writing s text out₀ out state start mid at w) where
+  pub writing-less : state < states
+  writing-less = stands-less s state (tokensWidth (i .tokens)) mid at (i .under-way) (i .reached .stands)
+
+  -- what is shown of the token under way
+  shown : List ℕ
+  shown = wordsOf (recordsFrom (tokensWidth (i .tokens)) (underWay (i .under-way)))
+
+  shown-few : length shown ≤ recordSize
+  unfolding shown
+  shown-few = omega (arith, length-from (tokensWidth (i .tokens)) (underWay (i .under-way)), one-under (i .under-way))
+
+  abbrev Old : ℕ → Type 0
+  Old r = (ys : List ℕ) × (length ys ≤ recordSize) × (listedWords (i .tokens ++ underWay (i .under-way)) ≡ listedWords (i .tokens ++ doneBy r (i .under-way)) ++ ys)
+
+  old-words : (r : ℕ) → Old r
+  unfolding shown
+  old-words zero = (shown, shown-few, listed-append (i .tokens) (underWay (i .under-way)) ∙ ap (λ (ts : Tokens). listedWords ts ++ shown) (sym (append-nil (i .tokens))))
+  old-words (suc r) = ([], omega arith, sym (append-nil (listedWords (i .tokens ++ underWay (i .under-way)))))
+
+  pub due-after : {r state′ start′ mid′ at′ : ℕ} → After s text (i .tokens) (i .under-way) r state′ start′ mid′ at′ → (w′ : ℕ) → w′ ≡ w + recordSize * r →
+      Due s text out₀ out state′ start′ mid′ at′ w′
+  due-after {r} a w′ e =
+      let o = old-words r in
+      record {
+        tokens = i .tokens ++ doneBy r (i .under-way);
+        under-way = a .next;
+        reached = a .reached;
+        going = a .going;
+        began = a .began;
+        placed = omega (arith, i .placed, length-append (i .tokens) (doneBy r (i .under-way)), a .size);
+        old = o .0;
+        few = o .1;
+        long = i .long;
+        same = i .same ∙ ap (laid out₀ 0) (o .2);
+      }
+
+  -- the tokens in the buffer are all
+  all-shown : tokensOf s text ≡ i .tokens ++ underWay (i .under-way) → out ≡ laid out₀ 0 (listedWords (tokensOf s text))
+  all-shown e = i .same ∙ ap (λ (ts : Tokens). laid out₀ 0 (listedWords ts)) (sym e)
+
+  module _ (h : Settles (L s) (i .under-way) (charactersAt text at)) where
+    pub due-settles : waiting ≤ state → (state ≡ waiting → ⊥) → (w′ : ℕ) → w′ ≡ w + recordSize → Due s text out₀ out (state - waiting) mid mid at w′
+    due-settles g n w′ e = due-after (after-settling (i .reached) h g n) w′ (omega arith)
+
+    pub writes-left : state ≡ waiting → out ≡ laid out₀ 0 (listedWords (tokensOf s text))
+    writes-left n = all-shown (all-settled (i .reached) h n)
+
+  -- nothing follows
+  module _ (room : recordSize * length (tokensOf s text) ≤ length out₀) (e : NoCharacter text at) where
+    last-tokens : tokensOf s text ≡ i .tokens ++ finish (L s) (i .under-way) .tokens
+    last-tokens = sym (ap (λ x. x .tokens) (read-end (i .reached) e))
+
+    last-words : listedWords (tokensOf s text) ≡ listedWords (i .tokens ++ underWay (i .under-way)) ++ waitingWords state mid at
+    last-words =
+        let xs = listedWords (i .tokens) in
+        ap listedWords last-tokens ∙ listed-append (i .tokens) (finish (L s) (i .under-way) .tokens)
+        ∙ ap (λ (ws : List ℕ). xs ++ ws) (finish-words s state (tokensWidth (i .tokens)) mid at (i .under-way) (i .reached .stands))
+        ∙ sym (append-assoc xs (wordsOf (recordsFrom (tokensWidth (i .tokens)) (underWay (i .under-way)))) (waitingWords state mid at))
+        ∙ ap (λ (ws : List ℕ). ws ++ waitingWords state mid at) (sym (listed-append (i .tokens) (underWay (i .under-way))))
+
+    shown-size : length (listedWords (i .tokens ++ underWay (i .under-way))) + length (waitingWords state mid at) ≤ length out₀
+    shown-size = omega (arith, ap length last-words, length-append (listedWords (i .tokens ++ underWay (i .under-way))) (waitingWords state mid at), length-listed (tokensOf s text))
+
+    waits-one : waiting < state → (length (underWay (i .under-way)) ≡ 1) × (length (waitingWords state mid at) ≡ recordSize)
+    waits-one h = (held-one s state (tokensWidth (i .tokens)) mid at (i .under-way) (i .reached .stands) h, ap length (waits-some state mid at h))
+
+    pub last-fits : waiting < state → w + recordSize + recordSize ≤ length out
+    last-fits h =
+        let n = waits-one h in
+        omega (arith, shown-size, i .long, i .placed, length-listed (i .tokens ++ underWay (i .under-way)), length-append (i .tokens) (underWay (i .under-way)), n .0, n .1)
+
+    pub writes-last : (out′ : List ℕ) → out′ ≡ laid out (w + recordSize) (waitingWords state mid at) → out′ ≡ laid out₀ 0 (listedWords (tokensOf s text))
+    writes-last out′ f = f ∙ go (decLt waiting state) ∙ ap (laid out₀ 0) (sym last-words)
+      where
+        xs : List ℕ
+        xs = listedWords (i .tokens ++ underWay (i .under-way))
+
+        ws : List ℕ
+        ws = waitingWords state mid at
+
+        go : Dec (waiting < state) → laid out (w + recordSize) ws ≡ laid out₀ 0 (xs ++ ws)
+        go (no n) =
+            let z : ws ≡ [] = sym (none-waits state mid at (omega arith)) in
+            ap (laid out (w + recordSize)) z ∙ laid-none out (w + recordSize) ∙ i .same ∙ ap (laid out₀ 0) (sym (append-nil xs))
+            ∙ ap (λ (ys : List ℕ). laid out₀ 0 (xs ++ ys)) (sym z)
+        go (yes h) =
+            let n = waits-one h in
+            let l : w + recordSize ≡ 0 + length xs = omega (arith, i .placed, length-listed (i .tokens ++ underWay (i .under-way)), length-append (i .tokens) (underWay (i .under-way)), n .0) in
+            (λ j. laid (i .same j) (l j) ws) ∙ sym (laid-step out₀ xs 0 (omega (arith, shown-size)) ws)
+
+  -- a character stands here
+  module _ {len traits turn : ℕ} (k : Look s text state at len traits turn) where
+    pub due-turn : turn ≤ 1 → (n : ℕ) → n ≡ afterOf traits → (p : ℕ) → p ≡ startBy turn start at →
+        Due s text out₀ out n p mid (at + len) (w + recordSize * turn)
+    due-turn h n e p f =
+        subst (λ (n : ℕ). Due s text out₀ out n p mid (at + len) (w + recordSize * turn)) (sym e)
+        (subst (λ (p : ℕ). Due s text out₀ out (afterOf traits) p mid (at + len) (w + recordSize * turn)) (sym (f ∙ ap (λ (p : ℕ). startBy turn p at) (i .began)))
+        (due-after (after-turn (i .reached) k turn refl h) (w + recordSize * turn) refl))
+
+    pub writing-waits : turn ≡ 2 → (n : ℕ) → n ≡ waitingOf traits → Writing s text out₀ out n start at (at + len) w
+    writing-waits h n e =
+        let x = after-waiting (i .reached) k h in
+        subst (λ (n : ℕ). Writing s text out₀ out n start at (at + len) w) (sym e)
+        (record {
+          tokens = i .tokens;
+          under-way = x .0;
+          reached = x .2;
+          began = i .began;
+          placed = i .placed;
           long = i .long;
-          room = rw r at (i .room);
-          same = rw r at (i .same);
-        }
+          same = i .same ∙ ap (λ (us : Tokens). laid out₀ 0 (listedWords (i .tokens ++ us))) (sym (x .1));
+        })
 
-    -- the token under way has ended
-    module _ (e : goesOn kind traits (continuesAt s text (at + len)) ≡ false) (out′ : List ℕ) where
-      pub writes-begin : (k : ℕ) → k ≡ kindFor traits → (k ≡ 0 → ⊥) → Put out out′ w kind start at →
-          (n : ℕ) → n ≡ length (tokenWords kind start at) → Writing s text out₀ out′ k at (at + len) (w + n)
-      writes-begin k q h p n m =
-          let b = rest-begin s text accepted at len traits t kind e k q h in
-          let ws = tokenWords kind start at in
-          let more = wordsFrom k at (at + len) (restOf s text k (at + len)) in
-          let r : wordsFrom kind start at (restOf s text kind at) ≡ ws ++ more =
-          ap (wordsFrom kind start at) (b .rest) ∙ words-begin kind start at (b .kind) _ (restOf s text k (at + len))
-          ∙ ap (λ (n : ℕ). ws ++ wordsFrom n at (at + len) (restOf s text k (at + len))) (sym (b .number)) in
-          let l = ap length (p .same) ∙ length-laid out ws w (p .fits) in
-          let room = rw (r, length-append ws more) at (i .room) in
-          record {
-            within = t .within;
-            began = omega arith;
-            long = l ∙ i .long;
-            room = omega arith;
-            same = (λ d. laid (p .same d) (w + m d) more) ∙ sym (laid-step out ws w (p .fits) more) ∙ ap (laid out w) (sym r) ∙ i .same;
-          }
+    pub waits-here : turn ≡ 3 → (waiting ≤ state) × Settles (L s) (i .under-way) (charactersAt text at)
+    waits-here h = settles-here (i .reached) k h
 
-      -- and no other begins
-      pub writes-stop : kindFor traits ≡ 0 → Put out out′ w kind start at → out′ ≡ laid out₀ 0 (listedWords (readingOf s text .tokens))
-      writes-stop z p = written kind start at w i out′ (ap (wordsFrom kind start at) (rest-stop s text accepted at len traits t kind e z) ∙ words-stop kind start at _) p
-
--- the words of the token under way are the last before word w, and end at the place `at`
-pub record Listed (s text out₀ out : List ℕ) (kind start at w : ℕ) : Type 0 where
-  pub before : ℕ
-  pub writing : Writing s text out₀ out kind start at before
-  pub placed : w ≡ before + length (tokenWords kind start at)
-  pub same : out ≡ laid out before (tokenWords kind start at)
-
--- .. and are yet to be written there
-pub record Pending (s text out₀ out : List ℕ) (kind start at w : ℕ) : Type 0 where
-  pub before : ℕ
-  pub writing : Writing s text out₀ out kind start at before
-  pub placed : w ≡ before + 3
-  pub some-kind : kind ≡ 0 → ⊥
-
-pub listed-begins : (s text out : List ℕ) → 3 * length (readingOf s text .tokens) ≤ length out → Listed s text out out 0 0 0 0
-listed-begins s text out h = record { before = 0; writing = writing-begins s text out h; placed = refl; same = sym (laid-none out 0) }
-
-no-kind : (kind traits : ℕ) (follows : Bool) → goesOn kind traits follows ≡ true → kind ≡ 0 → ⊥
-unfolding goesOn
-no-kind zero traits follows e z = impossible (cc)
-no-kind (suc kind) traits follows e z = absurd (omega arith)
-
-module _ (s text out₀ out : List ℕ) where
-  module _ (kind start at w : ℕ) (p : Pending s text out₀ out kind start at w) where
-    pub pending-fits : (3 ≤ w) × (w ≤ length out)
-    unfolding wordsFrom
-    pending-fits =
-        let l = p .placed in
-        let h = rw (words-some kind start (at + widthOf (restOf s text kind at .run)) (p .some-kind), length-append) at (p .writing .room) in
-        (omega arith, omega arith)
-
-    pub pending-room : Room out (w - 3) kind start at
-    pending-room =
-        let f = pending-fits in
-        let l = ap length (words-some kind start at (p .some-kind)) in
-        record { fits = omega arith }
-
-    -- the part of the buffer that is lent has room for a record
-    pub pending-part : 3 ≤ length (take (length out - (w - 3)) (drop (w - 3) out))
-    pending-part = let f = pending-fits in simp (length-take, length-drop) (omega arith)
-
-    -- the token's words are written
-    pub listed-put : (out′ : List ℕ) → Put out out′ (w - 3) kind start at → Listed s text out₀ out′ kind start at w
-    unfolding wordsFrom
-    listed-put out′ q =
-        let v = p .before in
-        let f = pending-fits in
-        let z : w - 3 ≡ v = omega (arith, p .placed) in
-        let ws = tokenWords kind start at in
-        let end = at + widthOf (restOf s text kind at .run) in
-        let l = ap length (words-some kind start at (p .some-kind)) in
-        let m : length ws ≡ length (tokenWords kind start end) = l ∙ sym (ap length (words-some kind start end (p .some-kind))) in
-        let e : out′ ≡ laid out v ws = q .same ∙ ap (λ (n : ℕ). laid out n ws) z in
-        let fits : v + length ws ≤ length out = omega (arith, p .placed) in
-        let n : length out′ ≡ length out = ap length e ∙ length-laid out ws v fits in
-        record {
-          before = v;
-          writing =
-              record {
-                within = p .writing .within;
-                began = p .writing .began;
-                long = n ∙ p .writing .long;
-                room = omega (arith, p .writing .room);
-                same = ap (λ (o : List ℕ). laid o v (wordsFrom kind start at (restOf s text kind at))) e ∙ laid-over out ws (tokenWords kind start end) v fits m _ ∙ p .writing .same;
-              };
-          placed = p .placed ∙ ap (λ (k : ℕ). v + k) (sym l);
-          same = e ∙ sym (laid-again out ws ws v fits refl) ∙ ap (λ (o : List ℕ). laid o v ws) (sym e);
-        }
-
-  module _ (kind start at w : ℕ) (i : Listed s text out₀ out kind start at w) where
-    done : restOf s text kind at .run ≡ [] → Put out out (i .before) kind start at
-    done e = record { fits = ended-fits s text out₀ out kind start at (i .before) (i .writing) e .fits; same = i .same }
-
-    pub listed-none : NoCharacter text at → out ≡ laid out₀ 0 (listedWords (readingOf s text .tokens))
-    listed-none e = writes-none s text out₀ out kind start at (i .before) (i .writing) out e (done (ap (λ r. r .run) (rest-none s text kind at e)))
-
-    module _ (accepted : refusalOf s ≡ none) (len traits : ℕ) (t : Turn s text at len traits) where
-      pub pending-more : goesOn kind traits (continuesAt s text (at + len)) ≡ true → Pending s text out₀ out kind start (at + len) w
-      pending-more e =
-          let h = no-kind kind traits (continuesAt s text (at + len)) e in
-          record {
-            before = i .before;
-            writing = writes-more s text out₀ out accepted kind start at len traits (i .before) (i .writing) t e;
-            placed = i .placed ∙ ap (λ (ws : List ℕ). i .before + length ws) (words-some kind start at h);
-            some-kind = h;
-          }
-
-      module _ (e : goesOn kind traits (continuesAt s text (at + len)) ≡ false) where
-        ended : Put out out (i .before) kind start at
-        ended = done (rest-ends s text accepted at len traits t kind e)
-
-        pub listed-stop : kindFor traits ≡ 0 → out ≡ laid out₀ 0 (listedWords (readingOf s text .tokens))
-        listed-stop z = writes-stop s text out₀ out accepted kind start at len traits (i .before) (i .writing) t e out z ended
-
-        pub pending-begin : (k : ℕ) → k ≡ kindFor traits → (k ≡ 0 → ⊥) → Pending s text out₀ out k at (at + len) (w + 3)
-        pending-begin k q h =
-            record {
-              before = w;
-              writing = subst (λ (v : ℕ). Writing s text out₀ out k at (at + len) v) (sym (i .placed)) (writes-begin s text out₀ out accepted kind start at len traits (i .before) (i .writing) t e out k q h ended _ refl);
-              placed = refl;
-              some-kind = h;
-            }
-
-      -- the same, where the turn is known without a closer look
-      pub pending-turn : (r : ℕ) → r ≡ turnOf kind traits → r < 2 → (k : ℕ) → k ≡ afterOf traits → (b : ℕ) → b ≡ startBy r start at → Pending s text out₀ out k b (at + len) (w + 3 * r)
-      pending-turn zero e h k q b o =
-          let g = turn-goes kind traits (sym e) (continuesAt s text (at + len)) in
-          let z : w + 3 * 0 ≡ w = omega arith in
-          subst (λ (j : ℕ). Pending s text out₀ out j b (at + len) (w + 3 * 0)) (sym (q ∙ g .after)) (subst (λ (j : ℕ). Pending s text out₀ out kind j (at + len) (w + 3 * 0)) (sym o) (subst (λ (n : ℕ). Pending s text out₀ out kind start (at + len) n) (sym z) (pending-more (g .on))))
-      pending-turn (suc zero) e h k q b o =
-          let g = turn-begins kind traits (sym e) (continuesAt s text (at + len)) in
-          subst (λ (j : ℕ). Pending s text out₀ out k j (at + len) (w + 3)) (sym o) (pending-begin (g .ended) k (q ∙ g .after) (λ z. g .some-kind (sym (q ∙ g .after) ∙ z)))
-      pending-turn (suc (suc r)) e h k q b o = absurd (omega arith)
+    pub writes-stop : 4 ≤ turn → out ≡ laid out₀ 0 (listedWords (tokensOf s text))
+    writes-stop h = all-shown (sym (ap (λ x. x .tokens) (left-here (i .reached) k h .1)))

@@ -1,5 +1,4 @@
-pub mod Traits
-pub mod Rest
+pub mod Turns
 pub mod Counted
 pub mod Words
 pub mod First

@@ -1,20 +1,18 @@
--- The words still to be written, where a token may be under way (docs/RULES.md, "Tokens").
-use Prim.Native.Nat.{ℕ, zero, suc, _+_}
-use mathlib.Core.List.{List, [], _∷_, _++_}
-use Rattle.utf8.specs.Text.{Character, widthOf}
-use Rattle.grammar.specs.Scan.{Reading}
-use Rattle.grammar.specs.Grammar.{Kind}
-use Rattle.grammar.specs.Record.{recordsFrom, wordsOf}
+-- The words of the token under way (docs/RULES.md, "Tokens").
+use Prim.Native.Nat.{ℕ, zero, suc, _-_}
+use mathlib.Core.List.{List, [], _∷_}
+use Rattle.scan.specs.Turns.{waiting}
 
--- the words of a token: none where there is none
 abbrev pub tokenWords : ℕ → ℕ → ℕ → List ℕ
-tokenWords zero start end = []
-tokenWords (suc k) start end = suc k ∷ start ∷ end ∷ []
+tokenWords kind start end = kind ∷ start ∷ end ∷ []
 
--- the words of the token under way, which began at `start`, and of those after it, from the place `at` on
-unfoldable pub wordsFrom : ℕ → ℕ → ℕ → Reading Character Kind → List ℕ
-wordsFrom kind start at w =
-    tokenWords kind start (at + widthOf (w .run)) ++ wordsOf (recordsFrom (at + widthOf (w .run)) (w .tokens))
+-- the words of a medial that waits, where nothing follows: none where none waits, or where it begins no token
+abbrev pub waitingBy : ℕ → ℕ → ℕ → List ℕ
+waitingBy zero mid at = []
+waitingBy (suc j) mid at = tokenWords (suc j) mid at
+
+unfoldable pub waitingWords : ℕ → ℕ → ℕ → List ℕ
+waitingWords state mid at = waitingBy (state - waiting) mid at
 
 -- where the token under way after a turn began: where it began before, or at this place
 abbrev pub startBy : ℕ → ℕ → ℕ → ℕ

@@ -1,53 +1,61 @@
-// The one-pass reader of tokens under a checked image: counting, writing, and the first token.
+// The one-pass reader of tokens under a checked image: counting, writing, and the first token. Each goes through the text by one step:
+// the state and the next character give the turn.
 ghost use mathlib.Core.Path.{_≡_};
-ghost use mathlib.Core.Bool.{false};
 ghost use mathlib.Core.Option.{none};
-ghost use Prim.Native.Nat.{_+_, _*_, _≤_, _<_};
+ghost use Prim.Native.Nat.{_+_, _-_, _*_, _≤_, _<_};
 ghost use lib.ListN.{length, drop};
-ghost use Rattle.image.specs.Check.{refusalOf};
-ghost use Rattle.character.specs.Read.{TableOf};
-ghost use Rattle.scan.specs.Traits.{continueIn, kindFor, goesOn, turnOf, afterOf, turnTable, kindTable};
-ghost use Rattle.scan.specs.Rest.{continuesAt, endFrom};
-ghost use Rattle.scan.specs.Counted.{stopRefusal, countThrough};
-ghost use Rattle.scan.specs.Words.{tokenWords, startBy};
-ghost use Rattle.scan.specs.First.{firstOf};
 ghost use Rattle.lists.specs.Laid.{laid};
 ghost use Rattle.utf8.specs.Text.{textOf};
+ghost use Rattle.image.specs.Check.{refusalOf};
+ghost use Rattle.character.specs.Read.{TableOf};
 ghost use Rattle.grammar.specs.Record.{recordSize, listedWords};
 ghost use Rattle.grammar.specs.Reading.{maxText, readingOf};
+ghost use Rattle.scan.specs.Turns.{states, waiting, waitingOf, turnOf, afterOf, pendingOf, turnTable, afterTable};
+ghost use Rattle.scan.specs.Counted.{stopRefusal, countThrough};
+ghost use Rattle.scan.specs.Words.{tokenWords, waitingWords, startBy};
+ghost use Rattle.scan.specs.First.{firstOf, pendingFirst};
 use refusal::Refusal;
 use utf8::Text;
 
 // The words of a token's record.
 pub const RECORD_WORDS: usize = 3;
 
-// What a character does to the token under way, by its kind and the character's traits: the token goes on (0), a token begins (1),
-// or it takes a closer look (2).
-const TURNS: [usize; 64] = [
-    2,
-    1,
-    2,
-    1,
-    1,
-    2,
-    2,
-    2,
-    2,
-    1,
-    2,
-    1,
-    1,
-    2,
-    2,
-    2,
-    2,
+// The state of a reader: nothing yet; a token of this kind, 1 to 3; an identifier with a medial after it that waits for the next character:
+// WAITING, and the kind of token that the medial itself begins.
+const NOTHING: u32 = 0;
+
+const IDENTIFIER: u32 = 1;
+
+const WAITING: u32 = 4;
+
+// What a character does, by the state and its traits. No token is complete, since the one under way goes on or the first begins: GOES_ON.
+// The one under way is complete, and another begins: BEGINS. A medial waits: WAITS. The one that waits is settled, and the character comes
+// again: SETTLES. No token begins: any other.
+const TURNS: [u8; 128] = [
+    4,
+    0,
+    4,
+    0,
+    0,
+    4,
+    4,
+    4,
+    4,
+    0,
+    4,
+    0,
+    0,
+    4,
+    4,
+    4,
+    4,
     0,
     0,
     1,
     1,
-    2,
-    2,
-    2,
+    4,
+    4,
+    4,
     2,
     0,
     0,
@@ -56,42 +64,117 @@ const TURNS: [usize; 64] = [
     2,
     2,
     2,
-    2,
+    4,
     1,
-    2,
-    1,
-    1,
-    2,
-    2,
-    2,
-    2,
-    1,
-    2,
+    4,
     1,
     1,
-    2,
-    2,
-    2,
-    2,
+    4,
+    4,
+    4,
+    4,
     1,
-    2,
+    4,
     1,
-    0,
-    2,
-    2,
-    2,
-    2,
     1,
-    2,
+    4,
+    4,
+    4,
+    4,
+    1,
+    4,
     1,
     0,
-    2,
-    2,
-    2,
+    4,
+    4,
+    4,
+    4,
+    1,
+    4,
+    1,
+    0,
+    4,
+    4,
+    4,
+    3,
+    0,
+    0,
+    3,
+    3,
+    3,
+    3,
+    3,
+    3,
+    0,
+    0,
+    3,
+    3,
+    3,
+    3,
+    3,
+    3,
+    0,
+    0,
+    3,
+    3,
+    3,
+    3,
+    3,
+    3,
+    0,
+    0,
+    3,
+    3,
+    3,
+    3,
+    3,
+    3,
+    0,
+    0,
+    3,
+    3,
+    3,
+    3,
+    3,
+    3,
+    0,
+    0,
+    3,
+    3,
+    3,
+    3,
+    3,
+    3,
+    0,
+    0,
+    3,
+    3,
+    3,
+    3,
+    3,
+    3,
+    0,
+    0,
+    3,
+    3,
+    3,
+    3,
+    3,
 ];
 
-// The kind of the token that a character of these traits is in, where it takes no closer look.
-const KINDS: [u32; 16] = [0, 1, 1, 2, 3, 0, 0, 0, 0, 1, 1, 2, 3, 0, 0, 0];
+const GOES_ON: usize = 0;
+
+const BEGINS: usize = 1;
+
+const WAITS: usize = 2;
+
+const SETTLES: usize = 3;
+
+// The state after a character, by its traits, where a token goes on or begins.
+const AFTER: [u32; 16] = [0, 1, 1, 2, 3, 0, 0, 0, 0, 1, 1, 2, 3, 0, 0, 0];
+
+// The state after a medial that waits, by its traits.
+const WAITING_AFTER: [u32; 16] = [4, 5, 4, 6, 7, 4, 4, 4, 4, 5, 4, 6, 7, 4, 4, 4];
 
 // How many tokens, or why not.
 pub enum Counted {
@@ -111,86 +194,50 @@ pub enum First {
     Token { kind: u32, end: usize },
 }
 
-// Whether a character is Continue.
-fn is_continue(traits: u32) -> bool
-    ensures { λ r. ⌜ r ≡ continueIn traits ⌝ }
+fn widen(x: u8) -> usize
+    ensures { λ r. ⌜ r ≡ x ⌝ }
 {
-    let class = traits % 8;
-    if class == 1 {
-        return true;
-    }
-    class == 2
+    x as usize
 }
 
-// The kind of token that a character begins, or 0.
-fn kind_begun(traits: u32) -> u32
-    ensures { λ r. ⌜ r ≡ kindFor traits ⌝ }
-{
-    let class = traits % 8;
-    if class == 1 {
-        return 1;
-    }
-    if class == 3 {
-        return 2;
-    }
-    if class == 4 {
-        return 3;
-    }
-    0
-}
-
-// What a character does to the token under way: 0, it goes on; 1, another begins; 2, it takes a closer look.
-fn find_turn(turns: &[usize; 64], kind: u32, traits: u32) -> usize
+// What a character of these traits does in a state.
+fn find_turn(turns: &[u8; 128], state: u32, traits: u32) -> usize
     requires { ⌜ now turns ≡ turnTable ⌝ }
-    requires { ⌜ (kind < 4) × (traits < 16) ⌝ }
-    ensures { λ r. ⌜ r ≡ turnOf kind traits ⌝ }
+    requires { ⌜ (state < states) × (traits < 16) ⌝ }
+    ensures { λ r. ⌜ r ≡ turnOf state traits ⌝ }
 {
-    turns[(kind * 16 + traits) as usize]
+    widen(turns[(state * 16 + traits) as usize])
 }
 
-// The kind of the token that a character is in, where it takes no closer look.
-fn kind_after(kinds: &[u32; 16], traits: u32) -> u32
-    requires { ⌜ now kinds ≡ kindTable ⌝ }
+// The state after a character, where a token goes on or begins.
+fn state_after(after: &[u32; 16], traits: u32) -> u32
+    requires { ⌜ now after ≡ afterTable ⌝ }
     requires { ⌜ traits < 16 ⌝ }
     ensures { λ r. ⌜ r ≡ afterOf traits ⌝ }
 {
-    kinds[traits as usize]
+    after[traits as usize]
 }
 
-// Whether a Continue stands at a place.
-fn continues_at<'a>(image: &'a [u8], text: &'a [u8], at: usize) -> bool
-    requires { ⌜ refusalOf (now image) ≡ none ⌝ }
-    ensures { λ r. ⌜ r ≡ continuesAt (now (image .entry)) (now (text .entry)) at ⌝ }
+// The state after a medial that waits.
+fn waiting_after(traits: u32) -> u32
+    requires { ⌜ traits < 16 ⌝ }
+    ensures { λ r. ⌜ r ≡ waitingOf traits ⌝ }
 {
-    if text.len() <= at {
-        return false;
-    }
-    let memo = character::no_memo();
-    let c = character::read_decoded(image, memo, text, at);
-    if c.len == 0 {
-        return false;
-    }
-    is_continue(c.traits)
+    let after = WAITING_AFTER;
+    after[traits as usize]
 }
 
-// Whether a token of this kind goes on with a character of these traits, before the place `next`.
-fn goes_on<'a>(kind: u32, traits: u32, image: &'a [u8], text: &'a [u8], next: usize) -> bool
-    requires { ⌜ refusalOf (now image) ≡ none ⌝ }
-    ensures { λ r. ⌜ r ≡ goesOn kind traits (continuesAt (now (image .entry)) (now (text .entry)) next) ⌝ }
+// How many tokens are pending in a state, where nothing follows.
+fn count_pending(state: u32) -> usize
+    ensures { λ r. ⌜ r ≡ pendingOf state ⌝ }
 {
-    if kind == 1 {
-        if is_continue(traits) {
-            return true;
-        }
-        if traits < 8 {
-            return false;
-        }
-        return continues_at(image, text, next);
+    if state == NOTHING {
+        return 0;
     }
-    if kind == 3 {
-        return traits % 8 == 4;
+    if state < WAITING {
+        return 1;
     }
-    false
+    2
 }
 
 // The refusal where no token begins at a place: the text from there on is first checked as UTF-8.
@@ -212,10 +259,11 @@ pub fn count_tokens<'a>(image: &'a [u8], table: &'a [u8; 128], text: &'a [u8]) -
     ensures { λ r. ⌜ r ≡ countThrough (now (image .entry)) (now (text .entry)) ⌝ }
 {
     let turns = TURNS;
-    let kinds = KINDS;
+    let after = AFTER;
     let mut memo = character::no_memo();
-    let mut kind = 0;
+    let mut state = NOTHING;
     let mut count: usize = 0;
+    let mut mid = 0;
     let mut at = 0;
     while at < text.len() {
         let c = character::read(image, table, memo, text, at);
@@ -225,31 +273,40 @@ pub fn count_tokens<'a>(image: &'a [u8], table: &'a [u8; 128], text: &'a [u8]) -
         }
         memo = c.memo;
         let next = at + len;
-        let turn = find_turn(&turns, kind, c.traits);
-        if turn < 2 {
+        let turn = find_turn(&turns, state, c.traits);
+        if turn <= BEGINS {
             count += turn;
-            kind = kind_after(&kinds, c.traits);
+            state = state_after(&after, c.traits);
             at = next;
             continue;
         }
-        if goes_on(kind, c.traits, image, text, next) {
+        if turn == WAITS {
+            state = waiting_after(c.traits);
+            mid = at;
             at = next;
             continue;
         }
-        kind = kind_begun(c.traits);
-        if kind == 0 {
-            return Counted::Refused(refuse_at(text, at));
+        if turn == SETTLES {
+            if state == WAITING {
+                return Counted::Refused(refuse_at(text, mid));
+            }
+            count += 1;
+            state -= WAITING;
+            continue;
         }
-        count += 1;
-        at = next;
+        return Counted::Refused(refuse_at(text, at));
     }
-    Counted::Tokens(count)
+    if state == WAITING {
+        return Counted::Refused(refuse_at(text, mid));
+    }
+    let all = count + count_pending(state);
+    Counted::Tokens(all)
 }
 
 // The words of a token at the front of a part of the buffer.
 fn put_token(out: &mut [u32], kind: u32, start: usize, end: usize)
     requires { ⌜ (start ≤ maxText) × (end ≤ maxText) ⌝ }
-    requires { ⌜ (kind ≡ 0 → ⊥) × (3 ≤ length (now out)) ⌝ }
+    requires { ⌜ recordSize ≤ length (now out) ⌝ }
     ensures { λ _. ⌜ now (out .exit) ≡ laid (now (out .entry)) 0 (tokenWords kind start end) ⌝ }
 {
     out[0] = kind;
@@ -257,18 +314,31 @@ fn put_token(out: &mut [u32], kind: u32, start: usize, end: usize)
     out[2] = end as u32;
 }
 
+// The words of a medial that waits, where nothing follows: the token after the one at word `w`.
+fn put_waiting(out: &mut [u32], w: usize, state: u32, mid: usize, at: usize)
+    requires { ⌜ (mid ≤ maxText) × (at ≤ maxText) ⌝ }
+    requires { ⌜ (waiting < state → w + recordSize + recordSize ≤ length (now out)) ⌝ }
+    ensures { λ _. ⌜ now (out .exit) ≡ laid (now (out .entry)) (w + recordSize) (waitingWords state mid at) ⌝ }
+{
+    if state <= WAITING {
+        return;
+    }
+    put_token(&mut out[w + RECORD_WORDS..], state - WAITING, mid, at);
+}
+
 // Where the token began that is under way after a turn at a place: there, or where it began before.
 fn pick_start(turn: usize, start: usize, at: usize) -> usize
     ensures { λ r. ⌜ r ≡ startBy turn start at ⌝ }
 {
-    if turn == 0 {
+    if turn == GOES_ON {
         return start;
     }
     at
 }
 
-// The words of all tokens up to where no token begins or the text is ill-formed. After each character the record of the token that
-// it is in ends there: the loop has no test for where tokens end.
+// The words of all tokens up to where no token begins or the text is ill-formed. `w` is the first word after the tokens that are complete.
+// After each character the record of the token that it is in is written there, up to that character: the loop has no test for where
+// tokens end.
 pub fn write_tokens<'a>(image: &'a [u8], table: &'a [u8; 128], text: &'a [u8], out: &mut [u32])
     requires { ⌜ refusalOf (now image) ≡ none ⌝ }
     requires { ⌜ TableOf (now image) (now table) ⌝ }
@@ -277,74 +347,69 @@ pub fn write_tokens<'a>(image: &'a [u8], table: &'a [u8; 128], text: &'a [u8], o
     ensures { λ _. ⌜ now (out .exit) ≡ laid (now (out .entry)) 0 (listedWords (readingOf (now (image .entry)) (now (text .entry)) .tokens)) ⌝ }
 {
     let turns = TURNS;
-    let kinds = KINDS;
+    let after = AFTER;
     let mut memo = character::no_memo();
-    let mut kind = 0;
+    let mut state = NOTHING;
     let mut start = 0;
+    let mut mid = 0;
     let mut at = 0;
     let mut w = 0;
     while at < text.len() {
         let c = character::read(image, table, memo, text, at);
         let len = c.len;
         if len == 0 {
+            put_waiting(out, w, state, mid, at);
             return;
         }
         memo = c.memo;
         let next = at + len;
-        let turn = find_turn(&turns, kind, c.traits);
-        if turn < 2 {
-            kind = kind_after(&kinds, c.traits);
+        let turn = find_turn(&turns, state, c.traits);
+        if turn <= BEGINS {
+            state = state_after(&after, c.traits);
             start = pick_start(turn, start, at);
             w += RECORD_WORDS * turn;
-            put_token(&mut out[w - RECORD_WORDS..], kind, start, next);
+            put_token(&mut out[w..], state, start, next);
             at = next;
             continue;
         }
-        if goes_on(kind, c.traits, image, text, next) {
-            put_token(&mut out[w - RECORD_WORDS..], kind, start, next);
+        if turn == WAITS {
+            state = waiting_after(c.traits);
+            mid = at;
             at = next;
             continue;
         }
-        kind = kind_begun(c.traits);
-        if kind == 0 {
-            return;
+        if turn == SETTLES {
+            if state == WAITING {
+                return;
+            }
+            state -= WAITING;
+            start = mid;
+            w += RECORD_WORDS;
+            put_token(&mut out[w..], state, start, at);
+            continue;
         }
-        w += RECORD_WORDS;
-        put_token(&mut out[w - RECORD_WORDS..], kind, at, next);
-        start = at;
-        at = next;
+        return;
     }
+    put_waiting(out, w, state, mid, at);
 }
 
-// Where the token of this kind that is under way at a place ends.
-fn find_end<'a>(
-    image: &'a [u8],
-    table: &'a [u8; 128],
-    text: &'a [u8],
-    kind: u32,
-    from: usize,
-) -> usize
-    requires { ⌜ refusalOf (now image) ≡ none ⌝ }
-    requires { ⌜ TableOf (now image) (now table) ⌝ }
-    ensures { λ r. ⌜ r ≡ endFrom (now (image .entry)) (now (text .entry)) kind from ⌝ }
+// The first token, where it is complete at a place.
+fn end_first(state: u32, mid: usize, at: usize) -> First
+    ensures { λ r. ⌜ r ≡ pendingFirst state mid at ⌝ }
 {
-    let mut memo = character::no_memo();
-    let mut at = from;
-    while at < text.len() {
-        let c = character::read(image, table, memo, text, at);
-        let len = c.len;
-        if len == 0 {
-            return at;
-        }
-        memo = c.memo;
-        let next = at + len;
-        if goes_on(kind, c.traits, image, text, next) {
-            at = next;
-            continue;
-        }
-        return at;
+    if state == NOTHING {
+        return First::NoToken;
     }
-    at
+    if state < WAITING {
+        return First::Token {
+            kind: state,
+            end: at,
+        };
+    }
+    First::Token {
+        kind: IDENTIFIER,
+        end: mid,
+    }
 }
 
 // The first token of a text.
@@ -353,20 +418,39 @@ pub fn first_token<'a>(image: &'a [u8], table: &'a [u8; 128], text: &'a [u8]) ->
     requires { ⌜ TableOf (now image) (now table) ⌝ }
     ensures { λ r. ⌜ r ≡ firstOf (now (image .entry)) (now (text .entry)) ⌝ }
 {
-    if text.len() == 0 {
+    let turns = TURNS;
+    let after = AFTER;
+    let mut memo = character::no_memo();
+    let mut state = NOTHING;
+    let mut mid = 0;
+    let mut at = 0;
+    while at < text.len() {
+        let c = character::read(image, table, memo, text, at);
+        let len = c.len;
+        if len == 0 {
+            if at == 0 {
+                return First::IllFormed;
+            }
+            return end_first(state, mid, at);
+        }
+        memo = c.memo;
+        let next = at + len;
+        let turn = find_turn(&turns, state, c.traits);
+        if turn == GOES_ON {
+            state = state_after(&after, c.traits);
+            at = next;
+            continue;
+        }
+        if turn == WAITS {
+            state = waiting_after(c.traits);
+            mid = at;
+            at = next;
+            continue;
+        }
+        return end_first(state, mid, at);
+    }
+    if at == 0 {
         return First::Nothing;
     }
-    let c = character::read(image, table, character::no_memo(), text, 0);
-    let len = c.len;
-    if len == 0 {
-        return First::IllFormed;
-    }
-    let kind = kind_begun(c.traits);
-    if kind == 0 {
-        return First::NoToken;
-    }
-    First::Token {
-        kind,
-        end: find_end(image, table, text, kind, len),
-    }
+    end_first(state, mid, at)
 }

@@ -1,14 +1,16 @@
--- What taking one token says (docs/RULES.md, "Tokens", one token at a place; demand 2).
+-- What each answer of taking one token at a place says: one constructor for each that can be
+-- (docs/RULES.md, "Tokens", one token at a place, and "Named refusals"; demands 1 and 2). `proofs/MeansLaws.antt` joins this to the call's answer, both ways.
 use Prim.Native.Nat.{ℕ, _+_, _≤_, _<_}
 use mathlib.Core.Path.{_≡_}
-use mathlib.Core.List.{List}
-use mathlib.Core.Option.{none, some}
+use mathlib.Core.List.{List, _∷_}
+use mathlib.Core.Option.{some}
 use lib.ListN.{length, drop}
+use Rattle.refusal.specs.declared.Refusal.{Refusal}
 use Rattle.refusal.specs.declared.Refusal.the-variants as refusal
-use Rattle.utf8.specs.declared.Step.the-variants.{Scalar}
-use Rattle.utf8.specs.Head.{stepOf, NoSequence}
+use Rattle.utf8.specs.Head.{NoSequence}
 use Rattle.utf8.specs.Text.{Character, Encoded, widthOf}
-use Rattle.image.specs.Check.{refusalOf}
+use Rattle.image.specs.Accepted.{Accepted}
+use Rattle.image.specs.Means.{RefusalMeans}
 use Rattle.grammar.specs.Division.{Longest, NoToken}
 use Rattle.grammar.specs.Grammar.{Kind, Token as TokenOf}
 use Rattle.grammar.specs.Kinds.{kindNumber}
@@ -16,48 +18,28 @@ use Rattle.grammar.specs.Reading.{maxText, meaningOf}
 use Rattle.token.specs.declared.Taken.{Taken}
 use Rattle.token.specs.declared.Taken.the-variants.{Refused, Done, Token}
 
--- of the characters from a place up to the first ill-formed place, the longest token that begins them; it ends at a byte
-pub record TokenThere (s text : List ℕ) (place number end : ℕ) : Type 0 where
-  pub characters : List Character
-  pub rest : List ℕ
-  pub encoded : Encoded (drop place text) characters rest
-  pub kind : Kind
-  pub units : List Character
-  pub after : List Character
-  pub longest : Longest (TokenOf (meaningOf s)) characters kind units after
-  pub numbered : number ≡ kindNumber kind
-  pub ends : end ≡ place + widthOf units
-
--- a character stands at the place, and no token begins the characters from there on
-pub record NoTokenThere (s text : List ℕ) (place : ℕ) : Type 0 where
-  pub code : ℕ
-  pub width : ℕ
-  pub stands : stepOf (drop place text) ≡ Scalar code width
-  pub characters : List Character
-  pub rest : List ℕ
-  pub encoded : Encoded (drop place text) characters rest
-  pub none : NoToken (TokenOf (meaningOf s)) characters
-
 -- none of 1 to 5 and 13 applies
 pub record Placed (s text : List ℕ) (place : ℕ) : Type 0 where
-  pub accepted : refusalOf s ≡ none
+  pub image : Accepted s
   pub short : length text ≤ maxText
   pub within : place ≤ length text
 
--- what is so exactly where taking a token at a place gives this answer
-abbrev pub Means : List ℕ → List ℕ → ℕ → Taken → Type 0
-Means s text place (Refused refusal.Length) = refusalOf s ≡ some refusal.Length
-Means s text place (Refused refusal.Header) = refusalOf s ≡ some refusal.Header
-Means s text place (Refused (refusal.Range i)) = refusalOf s ≡ some (refusal.Range i)
-Means s text place (Refused (refusal.Entry i)) = refusalOf s ≡ some (refusal.Entry i)
-Means s text place (Refused refusal.TextLength) = (refusalOf s ≡ none) × (maxText < length text)
-Means s text place (Refused refusal.Shape) = (refusalOf s ≡ none) × (length text ≤ maxText) × (length text < place)
-Means s text place (Refused (refusal.IllFormed p)) = Placed s text place × (p ≡ place) × (place < length text) × NoSequence (drop place text)
-Means s text place (Refused (refusal.Characters p)) = Placed s text place × (p ≡ place) × NoTokenThere s text place
-Means s text place (Refused (refusal.Room n)) = ⊥
-Means s text place (Refused (refusal.NotScalar x)) = ⊥
-Means s text place (Refused (refusal.Change x)) = ⊥
-Means s text place (Refused refusal.Profiles) = ⊥
-Means s text place (Refused (refusal.Buffer n)) = ⊥
-Means s text place Done = Placed s text place × (place ≡ length text)
-Means s text place (Token n a e) = Placed s text place × (a ≡ place) × TokenThere s text place n e
+pub data TakenMeans (s text : List ℕ) (place : ℕ) : Taken → Type 0 where
+  -- 1 to 4: those of the image
+  of-image : {r : Refusal} → RefusalMeans s (some r) → TakenMeans s text place (Refused r)
+  -- 5: the text is too long
+  too-long : Accepted s → maxText < length text → TakenMeans s text place (Refused refusal.TextLength)
+  -- 13: the place lies past the text's end
+  past-end : Accepted s → length text ≤ maxText → length text < place → TakenMeans s text place (Refused refusal.Shape)
+  -- 6: no well-formed sequence begins at the place, and it isn't the end
+  ill-formed : Placed s text place → place < length text → NoSequence (drop place text) → TakenMeans s text place (Refused (refusal.IllFormed place))
+  -- 7: no token begins the characters from the place up to the first ill-formed place, and there is one
+  no-token :
+      {c : Character} {cs : List Character} {rest : List ℕ} → Placed s text place → Encoded (drop place text) (c ∷ cs) rest →
+      NoToken (TokenOf (meaningOf s)) (c ∷ cs) → TakenMeans s text place (Refused (refusal.Characters place))
+  -- the place is the text's end
+  done : Placed s text place → place ≡ length text → TakenMeans s text place Done
+  -- the longest token that begins the characters from the place up to the first ill-formed place: its kind, and its places in the whole text
+  token :
+      {cs us after : List Character} {rest : List ℕ} {k : Kind} → Placed s text place → Encoded (drop place text) cs rest →
+      Longest (TokenOf (meaningOf s)) cs k us after → TakenMeans s text place (Token (kindNumber k) place (place + widthOf us))

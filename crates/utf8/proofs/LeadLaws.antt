@@ -1,58 +1,48 @@
 -- The lead of a byte is its row of Table 3-7, and the sequence at the head of a text is the one that its lead asks for.
 -- Assumes nothing.
-use Prim.Native.Nat.{ℕ, suc, _+_, _*_, _≤_, _<_}
+use Prim.Native.Nat.{ℕ, zero, suc, _+_, _*_, _≤_, _<_}
 use mathlib.Core.Path.{_≡_, refl, sym, ap, _∙_}
 use mathlib.Core.Bool.{Bool, true, false, _&&_, cond}
 use mathlib.Core.List.{List, [], _∷_, _++_, append-assoc}
 use native.Mathlib.Omega.{arith}
-use lib.Dec.{leb, ltb}
-use lib.ListN.{length, take, drop, getD, take-append-drop}
-use borrow.Author.Tests.{leb-true, ltb-true}
+use native.Mathlib.Decide.{decLt}
+use lib.Dec.{leb, eqb}
+use lib.ListN.{length, take, drop, getD}
+use borrow.Author.Tests.{leb-true, eqb-true}
 use Rattle.lists.proofs.BoolLaws.{and-left, and-right, impossible}
 use Rattle.utf8.specs.declared.Lead.{Lead}
 use Rattle.utf8.specs.declared.Step.the-variants.{Scalar, IllFormed, End}
 use Rattle.utf8.specs.Table.{Bytes, _to_, Row, table, inside, fits, codePoint}
 use Rattle.utf8.specs.Head.{stepIn, stepOf}
 use Rattle.utf8.specs.Lead.{leadOfRow, leads, leadIn, leadOf, trailOf, stepAs, stepBy, byteFits, packed}
-use Rattle.utf8.proofs.TableLaws.{inside-in, inside-out, inside-above, inside-below, byte-there, fits-in, fits-out, bytesAt, bytes-at}
+use Rattle.utf8.proofs.TableLaws.{inside-out, inside-below, byte-there, fits-in, fits-out, bytesAt, bytes-at}
 
--- every row's first byte is below k; at k or above
-abbrev pub below : ℕ → List Row → Bool
-below k [] = true
-below k ([] ∷ rs) = false
-below k ((g ∷ gs) ∷ rs) = (leb (g .low) (g .high) && ltb (g .high) k) && below k rs
+-- n numbers from i on have the lead l, by a computed test
+abbrev sameLead : Lead → Lead → Bool
+sameLead k l = eqb (k .len) (l .len) && (eqb (k .low) (l .low) && eqb (k .high) (l .high))
 
-abbrev pub above : ℕ → List Row → Bool
-above k [] = true
-above k ([] ∷ rs) = false
-above k ((g ∷ gs) ∷ rs) = leb k (g .low) && above k rs
+abbrev allLead : Lead → ℕ → ℕ → Bool
+allLead l i zero = true
+allLead l i (suc n) = sameLead (leadIn table i) l && allLead l (suc i) n
 
-skip : (rs ss : List Row) (k b : ℕ) → below k rs ≡ true → k ≤ b → leadIn (rs ++ ss) b ≡ leadIn ss b
-unfolding leadIn
-skip [] ss k b t h = refl
-skip ((g ∷ gs) ∷ rs) ss k b t h =
-    let u = and-left (leb (g .low) (g .high) && ltb (g .high) k) (below k rs) t in
-    let l = leb-true (g .low) (g .high) (and-left (leb (g .low) (g .high)) (ltb (g .high) k) u) in
-    let m = ltb-true (g .high) k (and-right (leb (g .low) (g .high)) (ltb (g .high) k) u) in
-    simp (inside-above g b l (omega arith)) (skip rs ss k b (and-right (leb (g .low) (g .high) && ltb (g .high) k) (below k rs) t) h)
-skip ([] ∷ rs) ss k b t h = impossible (cc)
+same-lead : (k l : Lead) → sameLead k l ≡ true → k ≡ l
+same-lead k l t =
+    let u = and-right (eqb (k .len) (l .len)) _ t in
+    let a = eqb-true _ _ (and-left (eqb (k .len) (l .len)) _ t) in
+    let b = eqb-true _ _ (and-left (eqb (k .low) (l .low)) _ u) in
+    let c = eqb-true _ _ (and-right (eqb (k .low) (l .low)) _ u) in
+    (λ i. record { len = a i; low = b i; high = c i })
 
--- a byte from k on is looked for from row i on, where the rows before end below k
-pub past : (i k b : ℕ) → below k (take i table) ≡ true → k ≤ b → leadOf b ≡ leadIn (drop i table) b
+pub lead-there : (l : Lead) (i n b : ℕ) → allLead l i n ≡ true → i ≤ b → b < i + n → leadOf b ≡ l
 unfolding leadOf
-past i k b t h = ap (λ (l : List Row). leadIn l b) (sym (take-append-drop i table)) ∙ skip (take i table) (drop i table) k b t h
-
-pub here : (g : Bytes) (gs : Row) (rs : List Row) (b : ℕ) → g .low ≤ b → b ≤ g .high → leadIn ((g ∷ gs) ∷ rs) b ≡ leadOfRow (g ∷ gs)
-unfolding leadIn
-here g gs rs b l h = simp (inside-in g b l h)
-
-pub nowhere : (rs : List Row) (k b : ℕ) → above k rs ≡ true → b < k → leadIn rs b ≡ leadOfRow []
-unfolding leadIn
-nowhere [] k b t h = refl
-nowhere ((g ∷ gs) ∷ rs) k b t h =
-    let l = leb-true k (g .low) (and-left (leb k (g .low)) (above k rs) t) in
-    simp (inside-below g b (omega arith)) (nowhere rs k b (and-right (leb k (g .low)) (above k rs) t) h)
-nowhere ([] ∷ rs) k b t h = impossible (cc)
+lead-there l i zero b t h k = absurd (omega arith)
+lead-there l i (suc n) b t h k = go (decLt i b) (lead-there l (suc i) n b (and-right (sameLead (leadIn table i) l) (allLead l (suc i) n) t))
+  where
+    go : Dec (i < b) → (suc i ≤ b → b < suc i + n → leadOf b ≡ l) → leadOf b ≡ l
+    go (yes m) f = f (omega arith) (omega arith)
+    go (no m) f =
+        let e : b ≡ i = omega arith in
+        ap leadOf e ∙ same-lead (leadIn table i) l (and-left (sameLead (leadIn table i) l) (allLead l (suc i) n) t)
 
 -- the rows' first bytes rise from m on
 abbrev pub rising : ℕ → List Row → Bool
@@ -76,7 +66,9 @@ Short [] = Unit {0}
 Short (r ∷ rs) = (leadOfRow r .len ≤ 4) × Short rs
 
 -- no row begins with a byte below the rows' first bytes
-pub rising-parts : (m : ℕ) (g : Bytes) (gs : Row) (rs : List Row) → rising m ((g ∷ gs) ∷ rs) ≡ true → (m ≤ g .low) × (g .low ≤ g .high) × (rising (suc (g .high)) rs ≡ true)
+pub rising-parts :
+    (m : ℕ) (g : Bytes) (gs : Row) (rs : List Row) → rising m ((g ∷ gs) ∷ rs) ≡ true
+    → (m ≤ g .low) × (g .low ≤ g .high) × (rising (suc (g .high)) rs ≡ true)
 rising-parts m g gs rs t =
     let u = and-left (leb m (g .low) && leb (g .low) (g .high)) (rising (suc (g .high)) rs) t in (
       leb-true m (g .low) (and-left (leb m (g .low)) (leb (g .low) (g .high)) u),
@@ -101,14 +93,16 @@ row-here g (h ∷ gs) rs b s e f a =
     simp (e, f) (ap (λ (r : Row). cond (fits r s) (Scalar (codePoint q) (suc (suc (length gs)))) IllFormed) a)
 
 by-rows : (rs : List Row) (m b : ℕ) (s : List ℕ) → rising m rs ≡ true → Shaped rs → stepIn rs (b ∷ s) ≡ stepBy (leadIn rs b) (b ∷ s)
-unfolding leadIn stepBy
+unfolding stepBy
 by-rows [] m b s t a = refl
 by-rows ([] ∷ rs) m b s t a = impossible (cc)
 by-rows ((g ∷ gs) ∷ rs) m b s t a =
     let p = rising-parts m g gs rs t in
     go (by-rows rs (suc (g .high)) b s (p .2) (a .1)) (inside g b) refl
   where
-    go : stepIn rs (b ∷ s) ≡ stepBy (leadIn rs b) (b ∷ s) → (i : Bool) → inside g b ≡ i → stepIn ((g ∷ gs) ∷ rs) (b ∷ s) ≡ stepBy (leadIn ((g ∷ gs) ∷ rs) b) (b ∷ s)
+    go :
+        stepIn rs (b ∷ s) ≡ stepBy (leadIn rs b) (b ∷ s) → (i : Bool) → inside g b ≡ i
+        → stepIn ((g ∷ gs) ∷ rs) (b ∷ s) ≡ stepBy (leadIn ((g ∷ gs) ∷ rs) b) (b ∷ s)
     go ih true e =
         let p = rising-parts m g gs rs t in
         let o = inside-out g b e in
@@ -116,17 +110,12 @@ by-rows ((g ∷ gs) ∷ rs) m b s t a =
     go ih false e = simp e ih
 
 -- the sequence at the head of a text is the one that the lead of its first byte asks for
-pub by-lead : (b : ℕ) (s : List ℕ) → stepOf (b ∷ s) ≡ stepBy (leadOf b) (b ∷ s)
+by-first : (s : List ℕ) → 0 < length s → stepOf s ≡ stepBy (leadOf (getD s 0 0)) s
 unfolding stepOf leadOf
-by-lead b s = by-rows table 0 b s refl table-shaped
-
--- the same of a text that is not taken apart
-pub by-first : (s : List ℕ) → 0 < length s → stepOf s ≡ stepBy (leadOf (getD s 0 0)) s
 by-first [] h = absurd (omega arith)
-by-first (b ∷ s) h = by-lead b s
+by-first (b ∷ s) h = by-rows table 0 b s refl table-shaped
 
 lead-short : (rs : List Row) (b : ℕ) → Short rs → leadIn rs b .len ≤ 4
-unfolding leadIn
 lead-short [] b h = omega arith
 lead-short (r ∷ rs) b h = go (leads r b) (lead-short rs b (h .1))
   where
@@ -150,7 +139,9 @@ begins s l e h = record { lead = e; within = h; left = λ gs. refl }
 module _ {s : List ℕ} {l : Lead} {p : Row} {n : ℕ} (d : Begun s l p n) where
   asked : (k : ℕ) → l .len ≡ k → stepOf s ≡ stepAs k (trailOf k (l .low) (l .high)) s
   unfolding stepBy
-  asked k e = by-first s (let h = d .within in omega arith) ∙ ap (λ (m : Lead). stepBy m s) (sym (d .lead)) ∙ ap (λ (k : ℕ). stepAs k (trailOf k (l .low) (l .high)) s) e
+  asked k e =
+      by-first s (let h = d .within in omega arith)
+      ∙ ap (λ (m : Lead). stepBy m s) (sym (d .lead)) ∙ ap (λ (k : ℕ). stepAs k (trailOf k (l .low) (l .high)) s) e
 
   judged : (k : ℕ) (gs : Row) (t : Bool) → l .len ≡ suc k → trailOf (suc k) (l .low) (l .high) ≡ p ++ gs → fits gs (drop (suc n) s) ≡ t →
       packed (stepOf s) ≡ packed (cond t (Scalar (codePoint (take (suc k) s)) (suc k)) IllFormed)
@@ -171,17 +162,21 @@ module _ {s : List ℕ} {l : Lead} {p : Row} {n : ℕ} (d : Begun s l p n) where
   }
 
   -- it isn't: no sequence begins
-  pub next-out : (g : Bytes) (gs : Row) (k : ℕ) → l .len ≡ suc k → trailOf (suc k) (l .low) (l .high) ≡ p ++ (g ∷ gs) → byteFits g s (suc n) ≡ false → 0 ≡ packed (stepOf s)
+  pub next-out :
+      (g : Bytes) (gs : Row) (k : ℕ) → l .len ≡ suc k → trailOf (suc k) (l .low) (l .high) ≡ p ++ (g ∷ gs)
+      → byteFits g s (suc n) ≡ false → 0 ≡ packed (stepOf s)
   next-out g gs k e r f = sym (judged k (g ∷ gs) false e r (fits-out g gs s (suc n) f))
 
   -- the row ends here
   pub whole : l .len ≡ suc n → trailOf (suc n) (l .low) (l .high) ≡ p ++ [] → codePoint (bytesAt (suc n) 0 s) * 8 + suc n ≡ packed (stepOf s)
-  whole e r = ap (λ (q : List ℕ). codePoint q * 8 + suc n) (sym (bytes-at s 0 (suc n) (let h = d .within in omega arith))) ∙ sym (judged n [] true e r refl)
+  whole e r =
+      ap (λ (q : List ℕ). codePoint q * 8 + suc n) (sym (bytes-at s 0 (suc n) (let h = d .within in omega arith)))
+      ∙ sym (judged n [] true e r refl)
 
 -- a byte below 80 is a sequence by itself
 pub ascii : (s : List ℕ) → 0 < length s → getD s 0 0 < 0x80 → Scalar (codePoint (getD s 0 0 ∷ [])) 1 ≡ stepOf s
 ascii s h b =
-    let e : leadOf (getD s 0 0) ≡ leadOfRow (0x00 to 0x7F ∷ []) = past 0 0 (getD s 0 0) refl (omega arith) ∙ here _ _ _ (getD s 0 0) (omega arith) (omega arith) in
+    let e = lead-there (leadOfRow (0x00 to 0x7F ∷ [])) 0 0x80 (getD s 0 0) refl (omega arith) (omega arith) in
     ap (λ (q : List ℕ). Scalar (codePoint q) 1) (sym (bytes-at s 0 1 (omega arith))) ∙ sym (asked (begins s _ (sym e) h) 1 refl)
 
 pub at-end : (s : List ℕ) → length s ≡ 0 → End ≡ stepOf s

@@ -2,5 +2,5 @@ pub mod ScalarLaws
 pub mod TableLaws
 pub mod LeadLaws
 pub mod SequenceLaws
-pub mod TextLaws
 pub mod EncodedLaws
+pub mod TextLaws

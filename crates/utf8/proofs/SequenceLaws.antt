@@ -12,141 +12,10 @@ use Rattle.utf8.specs.declared.Step.{Step}
 use Rattle.utf8.specs.declared.Step.the-variants.{Scalar, IllFormed, End}
 use Rattle.utf8.specs.Scalar.{isScalar, below-surrogates, above-surrogates}
 use Rattle.utf8.specs.Table.{Bytes, _to_, Row, table, inside, fits, Fills, FillsOne, Sequence, codePoint}
-use Rattle.utf8.specs.Head.{stepIn, stepOf, NoSequence, StepMeans, sequence, no-sequence, empty}
+use Rattle.utf8.specs.Head.{stepIn, stepOf, IllHead, NoSequence, StepMeans, sequence, no-sequence, empty}
 use Rattle.utf8.proofs.ScalarLaws.{means-scalar}
 use Rattle.utf8.proofs.TableLaws.{inside-in, inside-out, inside-above}
-use Rattle.utf8.proofs.LeadLaws.{rising, rising-parts}
-
--- a row and the bytes that fill it
-fills-fits : (gs : Row) (q t : List ℕ) → Fills gs q → (fits gs (q ++ t) ≡ true) × (length gs ≡ length q) × (take (length gs) (q ++ t) ≡ q)
-fills-fits [] [] t f = (refl, refl, refl)
-fills-fits (g ∷ gs) (b ∷ q) t f =
-    let h = fills-fits gs q t (f .2) in
-    (rw (inside-in g b (f .0) (f .1), h .0), ap suc (h .1), ap (λ (l : List ℕ). b ∷ l) (h .2))
-
-fits-fills : (gs : Row) (s : List ℕ) → fits gs s ≡ true → Fills gs (take (length gs) s) × (length gs ≡ length (take (length gs) s))
-fits-fills [] s e = (tt, refl)
-fits-fills (g ∷ gs) [] e = absurd (false≢true e)
-fits-fills (g ∷ gs) (b ∷ s) e =
-    let o = inside-out g b (and-left (inside g b) (fits gs s) e) in
-    let h = fits-fills gs s (and-right (inside g b) (fits gs s) e) in
-    ((o .0, o .1, h .0), ap suc (h .1))
-
--- what a step says of the bytes at the head
-abbrev Found : List Row → List ℕ → Step → Type 0
-Found rs s (Scalar x n) = FillsOne rs (take n s) × (x ≡ codePoint (take n s)) × (n ≡ length (take n s))
-Found rs s IllFormed = Unit {0}
-Found rs s End = Unit {0}
-
-later-row : (r : Row) (rs : List Row) (s : List ℕ) (t : Step) → Found rs s t → Found (r ∷ rs) s t
-later-row r rs s (Scalar x n) f = (inr (f .0), f .1, f .2)
-later-row r rs s IllFormed f = tt
-later-row r rs s End f = tt
-
-found : (rs : List Row) (s : List ℕ) → Found rs s (stepIn rs s)
-found [] s = tt
-found (r ∷ rs) s = go (found rs s) (fits r s) refl
-  where
-    go : Found rs s (stepIn rs s) → (t : Bool) → fits r s ≡ t → Found (r ∷ rs) s (cond t (Scalar (codePoint (take (length r) s)) (length r)) (stepIn rs s))
-    go ih true e = let h = fits-fills r s e in (inl (h .0), refl, h .1)
-    go ih false e = later-row r rs s (stepIn rs s) ih
-
--- the first byte of what fills a later row is above this row's first bytes
-rises : (rs : List Row) (m b : ℕ) (q : List ℕ) → rising m rs ≡ true → FillsOne rs (b ∷ q) → m ≤ b
-rises ([] ∷ rs) m b q t f = impossible (cc)
-rises ((g ∷ gs) ∷ rs) m b q t (inl f) = let p = rising-parts m g gs rs t in omega arith
-rises ((g ∷ gs) ∷ rs) m b q t (inr f) = let p = rising-parts m g gs rs t in omega (arith, rises rs (suc (g .high)) b q (p .2) f)
-
-finds : (rs : List Row) (m b : ℕ) (q t : List ℕ) → rising m rs ≡ true → FillsOne rs (b ∷ q) → stepIn rs (b ∷ (q ++ t)) ≡ Scalar (codePoint (b ∷ q)) (length (b ∷ q))
-finds ([] ∷ rs) m b q t r f = impossible (cc)
-finds ((g ∷ gs) ∷ rs) m b q t r (inl f) =
-    let h = fills-fits (g ∷ gs) (b ∷ q) t f in
-    rw (h .0) (λ i. Scalar (codePoint (b ∷ take (length gs) (q ++ t))) (suc (length gs))) ∙ (λ i. Scalar (codePoint (h .2 i)) (h .1 i))
-finds ((g ∷ gs) ∷ rs) m b q t r (inr f) =
-    let p = rising-parts m g gs rs r in
-    rw (inside-above g b (p .1) (rises rs (suc (g .high)) b q (p .2) f)) (finds rs (suc (g .high)) b q t (p .2) f)
-
-nothing-fills : (rs : List Row) (m : ℕ) → rising m rs ≡ true → FillsOne rs [] → ⊥
-nothing-fills ([] ∷ rs) m r f = impossible (cc)
-nothing-fills ((g ∷ gs) ∷ rs) m r (inl f) = f
-nothing-fills ((g ∷ gs) ∷ rs) m r (inr f) = let p = rising-parts m g gs rs r in nothing-fills rs (suc (g .high)) (p .2) f
-
-pub not-empty : Sequence [] → ⊥
-unfolding Sequence
-not-empty f = nothing-fills table 0 refl f
-
--- a sequence is found wherever it stands at the head, whatever follows
-pub step-of-sequence : (q t : List ℕ) → Sequence q → stepOf (q ++ t) ≡ Scalar (codePoint q) (length q)
-unfolding stepOf Sequence
-step-of-sequence [] t f = absurd (not-empty f)
-step-of-sequence (b ∷ q) t f = finds table 0 b q t refl f
-
--- what is found is the sequence of the bytes taken
-pub record IsSequence (s : List ℕ) (x n : ℕ) : Type 0 where
-  pub sequence : Sequence (take n s)
-  pub code : x ≡ codePoint (take n s)
-  pub long : n ≡ length (take n s)
-
-sequence-found : (s : List ℕ) (x n : ℕ) → stepIn table s ≡ Scalar x n → IsSequence s x n
-unfolding Sequence
-sequence-found s x n e = let f : Found table s (Scalar x n) = rw e at (found table s) in record { sequence = f .0; code = f .1; long = f .2 }
-
-pub sequence-of-step : (s : List ℕ) (x n : ℕ) → stepOf s ≡ Scalar x n → IsSequence s x n
-unfolding stepOf
-sequence-of-step [] x n e = impossible (cc)
-sequence-of-step (b ∷ s) x n e = sequence-found (b ∷ s) x n e
-
--- decoding looks at no more bytes than it takes
-pub looks-no-further : (s t : List ℕ) (x n : ℕ) → stepOf s ≡ Scalar x n → stepOf (take n s ++ t) ≡ Scalar x n
-looks-no-further s t x n e =
-    let f = sequence-of-step s x n e in
-    step-of-sequence (take n s) t (f .sequence) ∙ (λ i. Scalar (sym (f .code) i) (sym (f .long) i))
-
--- where the head is ill-formed no sequence begins
-pub no-sequence-at : (s : List ℕ) → stepOf s ≡ IllFormed → NoSequence s
-no-sequence-at s e q r p f =
-    let g = step-of-sequence q r f in
-    let h = ap stepOf p in
-    impossible (cc)
-
-pub end-empty : (s : List ℕ) → stepOf s ≡ End → s ≡ []
-unfolding stepOf
-end-empty [] e = refl
-end-empty (b ∷ s) e = absurd (go table e)
-  where
-    go : (rs : List Row) → stepIn rs (b ∷ s) ≡ End → ⊥
-    go [] f = impossible (cc)
-    go (r ∷ rs) f = pick (go rs) (fits r (b ∷ s)) refl
-      where
-        pick : (stepIn rs (b ∷ s) ≡ End → ⊥) → (t : Bool) → fits r (b ∷ s) ≡ t → ⊥
-        pick ih true g = let h : Scalar (codePoint (take (length r) (b ∷ s))) (length r) ≡ End = rw (g, stepIn) at f in impossible (cc)
-        pick ih false g = ih (rw (g, stepIn) at f)
-
-pub step-empty : stepOf [] ≡ End
-unfolding stepOf
-step-empty = refl
-
-pub ill-not-empty : (s : List ℕ) → stepOf s ≡ IllFormed → 0 < length s
-ill-not-empty [] e = let f = step-empty in impossible (cc)
-ill-not-empty (b ∷ s) e = omega arith
-
--- each step, exactly when
-pub step-means : (s : List ℕ) (t : Step) → stepOf s ≡ t → StepMeans s t
-step-means s (Scalar x n) e =
-    let f = sequence-of-step s x n e in
-    sequence (take n s) (drop n s) (sym (take-append-drop n s)) (f .sequence) (f .code) (f .long)
-step-means s IllFormed e = no-sequence (ill-not-empty s e) (no-sequence-at s e)
-step-means s End e = empty (end-empty s e)
-
-pub means-step : (s : List ℕ) (t : Step) → StepMeans s t → stepOf s ≡ t
-means-step s t (sequence q r p f c l) = ap stepOf p ∙ step-of-sequence q r f ∙ (λ i. Scalar (sym c i) (sym l i))
-means-step s t (no-sequence h n) = go (stepOf s) (step-means s (stepOf s) refl)
-  where
-    go : (u : Step) → StepMeans s u → u ≡ IllFormed
-    go u (sequence q r p f c l) = absurd (n q r p f)
-    go u (no-sequence k m) = refl
-    go u (empty e) = let l = ap length e in absurd (omega arith)
-means-step s t (empty e) = ap stepOf e ∙ step-empty
+use Rattle.utf8.proofs.LeadLaws.{rising, rising-parts, at-end}
 
 -- every sequence has one to four bytes and stands for a scalar value
 low : (x : ℕ) → x < 0xD800 → isScalar x ≡ true
@@ -186,7 +55,8 @@ row-4 : (g h : Bytes) → ((b c d e : ℕ) → within g b → within h c → lat
 row-4 g h k (b ∷ []) f = absurd (f .2)
 row-4 g h k (b ∷ c ∷ []) f = absurd (f .2 .2)
 row-4 g h k (b ∷ c ∷ d ∷ []) f = absurd (f .2 .2 .2)
-row-4 g h k (b ∷ c ∷ d ∷ e ∷ []) f = (omega arith, omega arith, k b c d e (f .0, f .1) (f .2 .0, f .2 .1) (f .2 .2 .0, f .2 .2 .1) (f .2 .2 .2 .0, f .2 .2 .2 .1))
+row-4 g h k (b ∷ c ∷ d ∷ e ∷ []) f =
+    (omega arith, omega arith, k b c d e (f .0, f .1) (f .2 .0, f .2 .1) (f .2 .2 .0, f .2 .2 .1) (f .2 .2 .2 .0, f .2 .2 .2 .1))
 row-4 g h k (b ∷ c ∷ d ∷ e ∷ x ∷ q) f = absurd (f .2 .2 .2 .2)
 
 -- one line for each row of the table
@@ -208,3 +78,119 @@ sequence-length q f = let r = right q f in (r .0, r .1)
 pub sequence-scalar : (q : List ℕ) → Sequence q → isScalar (codePoint q) ≡ true
 unfolding Sequence
 sequence-scalar q f = (right q f) .2
+
+pub not-empty : Sequence [] → ⊥
+not-empty f = let l = sequence-length [] f in omega arith
+
+-- a row and the bytes that fill it
+fills-fits : (gs : Row) (q t : List ℕ) → Fills gs q → (fits gs (q ++ t) ≡ true) × (length gs ≡ length q) × (take (length gs) (q ++ t) ≡ q)
+fills-fits [] [] t f = (refl, refl, refl)
+fills-fits (g ∷ gs) (b ∷ q) t f =
+    let h = fills-fits gs q t (f .2) in
+    (rw (inside-in g b (f .0) (f .1), h .0), ap suc (h .1), ap (λ (l : List ℕ). b ∷ l) (h .2))
+
+fits-fills : (gs : Row) (s : List ℕ) → fits gs s ≡ true → Fills gs (take (length gs) s) × (length gs ≡ length (take (length gs) s))
+fits-fills [] s e = (tt, refl)
+fits-fills (g ∷ gs) [] e = absurd (false≢true e)
+fits-fills (g ∷ gs) (b ∷ s) e =
+    let o = inside-out g b (and-left (inside g b) (fits gs s) e) in
+    let h = fits-fills gs s (and-right (inside g b) (fits gs s) e) in
+    ((o .0, o .1, h .0), ap suc (h .1))
+
+-- what a step says of the bytes at the head; it never says that nothing is left
+abbrev Found : List Row → List ℕ → Step → Type 0
+Found rs s (Scalar x n) = FillsOne rs (take n s) × (x ≡ codePoint (take n s)) × (n ≡ length (take n s))
+Found rs s IllFormed = Unit {0}
+Found rs s End = ⊥
+
+later-row : (r : Row) (rs : List Row) (s : List ℕ) (t : Step) → Found rs s t → Found (r ∷ rs) s t
+later-row r rs s (Scalar x n) f = (inr (f .0), f .1, f .2)
+later-row r rs s IllFormed f = tt
+
+found : (rs : List Row) (s : List ℕ) → Found rs s (stepIn rs s)
+found [] s = tt
+found (r ∷ rs) s = go (found rs s) (fits r s) refl
+  where
+    go :
+        Found rs s (stepIn rs s) → (t : Bool) → fits r s ≡ t
+        → Found (r ∷ rs) s (cond t (Scalar (codePoint (take (length r) s)) (length r)) (stepIn rs s))
+    go ih true e = let h = fits-fills r s e in (inl (h .0), refl, h .1)
+    go ih false e = later-row r rs s (stepIn rs s) ih
+
+-- the first byte of what fills a later row is above this row's first bytes
+rises : (rs : List Row) (m b : ℕ) (q : List ℕ) → rising m rs ≡ true → FillsOne rs (b ∷ q) → m ≤ b
+rises ([] ∷ rs) m b q t f = impossible (cc)
+rises ((g ∷ gs) ∷ rs) m b q t (inl f) = let p = rising-parts m g gs rs t in omega arith
+rises ((g ∷ gs) ∷ rs) m b q t (inr f) = let p = rising-parts m g gs rs t in omega (arith, rises rs (suc (g .high)) b q (p .2) f)
+
+finds :
+    (rs : List Row) (m b : ℕ) (q t : List ℕ) → rising m rs ≡ true → FillsOne rs (b ∷ q)
+    → stepIn rs (b ∷ (q ++ t)) ≡ Scalar (codePoint (b ∷ q)) (length (b ∷ q))
+finds ([] ∷ rs) m b q t r f = impossible (cc)
+finds ((g ∷ gs) ∷ rs) m b q t r (inl f) =
+    let h = fills-fits (g ∷ gs) (b ∷ q) t f in
+    rw (h .0) (λ i. Scalar (codePoint (b ∷ take (length gs) (q ++ t))) (suc (length gs))) ∙ (λ i. Scalar (codePoint (h .2 i)) (h .1 i))
+finds ((g ∷ gs) ∷ rs) m b q t r (inr f) =
+    let p = rising-parts m g gs rs r in
+    rw (inside-above g b (p .1) (rises rs (suc (g .high)) b q (p .2) f)) (finds rs (suc (g .high)) b q t (p .2) f)
+
+-- no sequence begins where nothing is left
+pub none-empty : (s : List ℕ) → s ≡ [] → NoSequence s
+none-empty s e [] r p f = not-empty f
+none-empty s e (b ∷ q) r p f = impossible (cc)
+
+-- a sequence is found wherever it stands at the head, whatever follows
+pub step-of-sequence : (q t : List ℕ) → Sequence q → stepOf (q ++ t) ≡ Scalar (codePoint q) (length q)
+unfolding stepOf Sequence
+step-of-sequence [] t f = absurd (not-empty f)
+step-of-sequence (b ∷ q) t f = finds table 0 b q t refl f
+
+-- what is found is the sequence of the bytes taken
+pub record IsSequence (s : List ℕ) (x n : ℕ) : Type 0 where
+  pub sequence : Sequence (take n s)
+  pub code : x ≡ codePoint (take n s)
+  pub long : n ≡ length (take n s)
+
+pub sequence-of-step : (s : List ℕ) (x n : ℕ) → stepOf s ≡ Scalar x n → IsSequence s x n
+unfolding stepOf Sequence
+sequence-of-step [] x n e = impossible (cc)
+sequence-of-step (b ∷ s) x n e =
+    let f : Found table (b ∷ s) (Scalar x n) = rw e at (found table (b ∷ s)) in
+    record { sequence = f .0; code = f .1; long = f .2 }
+
+-- where the head is ill-formed no sequence begins
+pub no-sequence-at : (s : List ℕ) → IllHead s → NoSequence s
+no-sequence-at s e q r p f =
+    let g = step-of-sequence q r f in
+    let h = ap stepOf p in
+    impossible (cc)
+
+pub end-empty : (s : List ℕ) → stepOf s ≡ End → s ≡ []
+unfolding stepOf
+end-empty [] e = refl
+end-empty (b ∷ s) e = absurd (rw e at (found table (b ∷ s)))
+
+pub step-empty : stepOf [] ≡ End
+step-empty = sym (at-end [] refl)
+
+pub ill-not-empty : (s : List ℕ) → IllHead s → 0 < length s
+ill-not-empty [] e = let f = step-empty in impossible (cc)
+ill-not-empty (b ∷ s) e = omega arith
+
+-- each step, exactly when
+pub step-means : (s : List ℕ) (t : Step) → stepOf s ≡ t → StepMeans s t
+step-means s (Scalar x n) e =
+    let f = sequence-of-step s x n e in
+    sequence (take n s) (drop n s) (sym (take-append-drop n s)) (f .sequence) (f .code) (f .long)
+step-means s IllFormed e = no-sequence (ill-not-empty s e) (no-sequence-at s e)
+step-means s End e = empty (end-empty s e)
+
+pub means-step : (s : List ℕ) (t : Step) → StepMeans s t → stepOf s ≡ t
+means-step s t (sequence q r p f c l) = ap stepOf p ∙ step-of-sequence q r f ∙ (λ i. Scalar (sym c i) (sym l i))
+means-step s t (no-sequence h n) = go (stepOf s) (step-means s (stepOf s) refl)
+  where
+    go : (u : Step) → StepMeans s u → u ≡ IllFormed
+    go u (sequence q r p f c l) = absurd (n q r p f)
+    go u (no-sequence k m) = refl
+    go u (empty e) = let l = ap length e in absurd (omega arith)
+means-step s t (empty e) = ap stepOf e ∙ step-empty

@@ -36,11 +36,7 @@ ltb-not a b =
 
 -- byte i of a text, and the row from byte i on
 module _ (g : Bytes) (gs : Row) (s : List ℕ) (i : ℕ) where
-  pub byte-past : length s ≤ i → byteFits g s i ≡ false
-  unfolding byteFits
-  byte-past h = rw (le-ltb i (length s) h)
-
-  pub byte-here : i < length s → byteFits g s i ≡ inside g (getD s i 0)
+  byte-here : i < length s → byteFits g s i ≡ inside g (getD s i 0)
   unfolding byteFits
   byte-here h = rw (lt-ltb i (length s) h)
 

@@ -1,7 +1,7 @@
 -- What stands at the head of a text, by the rows of Table 3-7.
 use Prim.Native.Nat.{ℕ, _<_}
 use mathlib.Core.Path.{_≡_}
-use mathlib.Core.Bool.{Bool, true, false, cond}
+use mathlib.Core.Bool.{cond}
 use mathlib.Core.List.{List, [], _∷_, _++_}
 use lib.ListN.{length, take}
 use Rattle.utf8.specs.declared.Step.{Step}
@@ -17,6 +17,10 @@ stepIn (r ∷ rs) s = cond (fits r s) (Scalar (codePoint (take (length r) s)) (l
 unfoldable pub stepOf : List ℕ → Step
 stepOf [] = End
 stepOf (b ∷ s) = stepIn table (b ∷ s)
+
+-- ill-formed at the head
+abbrev pub IllHead : List ℕ → Type 0
+IllHead s = stepOf s ≡ IllFormed
 
 -- no well-formed sequence begins the text
 abbrev pub NoSequence : List ℕ → Type 0

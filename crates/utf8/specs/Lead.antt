@@ -1,6 +1,6 @@
 -- What the first byte of a sequence decides: the reader's form of Table 3-7. `proofs/LeadLaws.antt` joins the two.
 use Prim.Native.Nat.{ℕ, zero, suc, _+_, _*_}
-use mathlib.Core.Bool.{Bool, true, false, _&&_, cond}
+use mathlib.Core.Bool.{Bool, false, _&&_, cond}
 use mathlib.Core.List.{List, [], _∷_}
 use lib.Dec.{ltb}
 use lib.ListN.{length, take, drop, getD, replicate}
@@ -21,7 +21,7 @@ leads [] b = false
 leads (g ∷ gs) b = inside g b
 
 -- the row whose first range has the byte; length 0 where no row has it
-unfoldable pub leadIn : List Row → ℕ → Lead
+abbrev pub leadIn : List Row → ℕ → Lead
 leadIn [] b = leadOfRow []
 leadIn (r ∷ rs) b = cond (leads r b) (leadOfRow r) (leadIn rs b)
 

@@ -9,8 +9,8 @@ use luffinarc_reader::{kind, list, Refusal};
 const IMAGE: &str = concat!(env!("CARGO_MANIFEST_DIR"), "/../data/images/unicode-16.0.img");
 
 fn tables(image: &Image) -> Tables {
-    let profile: Vec<(u32, Role)> = image.profile().entries().collect();
-    Tables::new(&image.ranges(), &profile)
+    let entries: Vec<(u32, Role)> = image.profile().entries().collect();
+    Tables::new(&image.ranges(), &entries)
 }
 
 /// The 16.0 image with a profile.

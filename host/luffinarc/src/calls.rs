@@ -1,5 +1,6 @@
 //! The calls of the static library as they are: a number for an answer, 0 where it is no refusal, and an array of
-//! four numbers for what is answered or carried. They take any arguments, and check the image in each call.
+//! four numbers for what is answered or carried. They take any arguments and check the image in each call, save those
+//! whose names end in `_checked`: these take an image that was checked before, and are not safe with another.
 //!
 //! `include/luffinarc.h` says what the numbers mean. [`Image`](crate::Image) and the functions beside it are the
 //! usual way to make these calls.
@@ -51,6 +52,15 @@ pub fn lookup(image: &[u8], number: u32, answer: &mut Answer) -> u32 {
     unsafe { ffi::luffinarc_lookup(image.as_ptr(), image.len(), number, answer) }
 }
 
+/// As [`lookup`], in an image that is not checked again.
+///
+/// # Safety
+///
+/// [`check`] or [`read`] accepted the image.
+pub unsafe fn lookup_checked(image: &[u8], number: u32, answer: &mut Answer) -> u32 {
+    ffi::luffinarc_lookup_checked(image.as_ptr(), image.len(), number, answer)
+}
+
 /// Checks that the newer image differs from the older only by permitted changes.
 pub fn pair(older: &[u8], newer: &[u8], answer: &mut Answer) -> u32 {
     unsafe {
@@ -70,6 +80,16 @@ pub fn count(image: &[u8], text: &[u8], answer: &mut Answer) -> u32 {
     }
 }
 
+/// As [`count`], under an image that is not checked again.
+///
+/// # Safety
+///
+/// [`check`] or [`read`] accepted the image.
+pub unsafe fn count_checked(image: &[u8], text: &[u8], answer: &mut Answer) -> u32 {
+    let (text, text_len) = (text.as_ptr(), text.len());
+    ffi::luffinarc_count_checked(image.as_ptr(), image.len(), text, text_len, answer)
+}
+
 /// Writes the list of a text's tokens to `words`, three each: kind, start byte, end byte.
 pub fn list(image: &[u8], text: &[u8], words: &mut [u32], answer: &mut Answer) -> u32 {
     unsafe {
@@ -80,12 +100,39 @@ pub fn list(image: &[u8], text: &[u8], words: &mut [u32], answer: &mut Answer) -
     }
 }
 
+/// As [`list`], under an image that is not checked again.
+///
+/// # Safety
+///
+/// [`check`] or [`read`] accepted the image.
+pub unsafe fn list_checked(
+    image: &[u8],
+    text: &[u8],
+    words: &mut [u32],
+    answer: &mut Answer,
+) -> u32 {
+    let (image, image_len) = (image.as_ptr(), image.len());
+    let (text, text_len) = (text.as_ptr(), text.len());
+    let (words, words_len) = (words.as_mut_ptr(), words.len());
+    ffi::luffinarc_list_checked(image, image_len, text, text_len, words, words_len, answer)
+}
+
 /// Takes the token at a place of a text.
 pub fn token(image: &[u8], text: &[u8], place: usize, answer: &mut Answer) -> u32 {
     unsafe {
         let (text, text_len) = (text.as_ptr(), text.len());
         ffi::luffinarc_token(image.as_ptr(), image.len(), text, text_len, place, answer)
     }
+}
+
+/// As [`token`], under an image that is not checked again.
+///
+/// # Safety
+///
+/// [`check`] or [`read`] accepted the image.
+pub unsafe fn token_checked(image: &[u8], text: &[u8], place: usize, answer: &mut Answer) -> u32 {
+    let (text, text_len) = (text.as_ptr(), text.len());
+    ffi::luffinarc_token_checked(image.as_ptr(), image.len(), text, text_len, place, answer)
 }
 
 /// Hands back a part of a text, as its first byte and its number of bytes.

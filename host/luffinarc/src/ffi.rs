@@ -47,10 +47,6 @@ extern "C" {
     pub fn luffinarc_lookup_checked(
         image: *const u8,
         image_len: usize,
-        ranges: usize,
-        points: *const Entries,
-        roles: *const Entries,
-        used: usize,
         number: u32,
         answer: *mut Answer,
     ) -> u32;
@@ -74,10 +70,6 @@ extern "C" {
     pub fn luffinarc_count_checked(
         image: *const u8,
         image_len: usize,
-        ranges: usize,
-        points: *const Entries,
-        roles: *const Entries,
-        used: usize,
         text: *const u8,
         text_len: usize,
         answer: *mut Answer,
@@ -96,10 +88,6 @@ extern "C" {
     pub fn luffinarc_list_checked(
         image: *const u8,
         image_len: usize,
-        ranges: usize,
-        points: *const Entries,
-        roles: *const Entries,
-        used: usize,
         text: *const u8,
         text_len: usize,
         words: *mut u32,
@@ -119,10 +107,6 @@ extern "C" {
     pub fn luffinarc_token_checked(
         image: *const u8,
         image_len: usize,
-        ranges: usize,
-        points: *const Entries,
-        roles: *const Entries,
-        used: usize,
         text: *const u8,
         text_len: usize,
         place: usize,

@@ -1,7 +1,6 @@
 //! Class images: an accepted image, its parts, writing one, and the pair check.
 
 use crate::calls::{self, Answer, Entries};
-use crate::ffi;
 use crate::names::{Class, Role};
 use crate::refusal::{result, PairRefusal, Refusal};
 
@@ -85,39 +84,21 @@ pub struct Found {
     pub looked_at: u32,
 }
 
-/// An accepted image as the library takes it.
-pub(crate) struct Parts {
-    pub image: *const u8,
-    pub image_len: usize,
-    pub ranges: usize,
-    pub points: *const Entries,
-    pub roles: *const Entries,
-    pub used: usize,
+/// An accepted image: bytes that were checked once, and are not checked again by the calls on it.
+#[derive(Clone, Copy, Debug)]
+pub struct Image<'a> {
+    // Accepted by the check, and borrowed, so that nothing changes them: the calls on a checked image ask for that.
+    bytes: &'a [u8],
 }
 
-/// An accepted image: bytes that were checked once, and are not checked again by the calls on it.
-#[derive(Clone, Debug)]
-pub struct Image<'a> {
-    // What the check gave for these bytes, which stay borrowed: the calls with `_checked` in their name ask for that.
-    bytes: &'a [u8],
+/// All that an image holds.
+struct Contents {
     version: u32,
-    ranges: usize,
+    words: Vec<u32>,
     profile: Profile,
 }
 
 impl<'a> Image<'a> {
-    /// What the calls with `_checked` in their name are given first.
-    pub(crate) fn parts(&self) -> Parts {
-        Parts {
-            image: self.bytes.as_ptr(),
-            image_len: self.bytes.len(),
-            ranges: self.ranges,
-            points: &self.profile.points,
-            roles: &self.profile.roles,
-            used: self.profile.used,
-        }
-    }
-
     /// Checks an image.
     ///
     /// # Errors
@@ -125,12 +106,9 @@ impl<'a> Image<'a> {
     /// [`Refusal::Length`], [`Refusal::Header`], [`Refusal::Range`] or [`Refusal::Entry`], the first that
     /// applies.
     pub fn check(bytes: &'a [u8]) -> Result<Image<'a>, Refusal> {
-        let mut answer = Answer::default();
-        let mut profile = Profile::default();
+        let (mut profile, mut answer) = (Profile::default(), Answer::default());
         let number = calls::check(bytes, &mut profile.points, &mut profile.roles, &mut answer);
-        let [version, ranges, used, _] = result(number, answer)?;
-        profile.used = used as usize;
-        Ok(Image { bytes, version: version as u32, ranges: ranges as usize, profile })
+        result(number, answer).map(|_| Image { bytes })
     }
 
     /// The image's bytes.
@@ -138,26 +116,34 @@ impl<'a> Image<'a> {
         self.bytes
     }
 
-    /// The version word.
+    /// Reads the image.
+    fn read(&self) -> Contents {
+        let mut words = vec![0; RANGE_WORDS * MAX_RANGES];
+        let (mut profile, mut answer) = (Profile::default(), Answer::default());
+        let (points, roles) = (&mut profile.points, &mut profile.roles);
+        let number = calls::read(self.bytes, &mut words, points, roles, &mut answer);
+        assert_eq!(number, 0, "an accepted image is read, and its ranges have room");
+        let [version, ranges, used, _] = answer;
+        words.truncate(RANGE_WORDS * ranges as usize);
+        profile.used = used as usize;
+        Contents { version: version as u32, words, profile }
+    }
+
+    /// The version word. As [`profile`](Image::profile) and [`ranges`](Image::ranges), it is read from the bytes when it
+    /// is asked for.
     pub fn version(&self) -> u32 {
-        self.version
+        self.read().version
     }
 
     /// The profile.
-    pub fn profile(&self) -> &Profile {
-        &self.profile
+    pub fn profile(&self) -> Profile {
+        self.read().profile
     }
 
     /// The ranges, rising.
     pub fn ranges(&self) -> Vec<Range> {
-        let mut words = vec![0; RANGE_WORDS * self.ranges];
-        let mut profile = Profile::default();
-        let mut answer = Answer::default();
-        let (points, roles) = (&mut profile.points, &mut profile.roles);
-        let number = calls::read(self.bytes, &mut words, points, roles, &mut answer);
-        assert_eq!(number, 0, "an accepted image is read, and its ranges have room");
         let range = |w: &[u32]| Range { first: w[0], last: w[1], class: given_class(w[2]) };
-        words.chunks_exact(RANGE_WORDS).map(range).collect()
+        self.read().words.chunks_exact(RANGE_WORDS).map(range).collect()
     }
 
     /// The class of a number after the profile, and how many ranges were looked at.
@@ -167,20 +153,8 @@ impl<'a> Image<'a> {
     /// [`Refusal::NotScalar`] for a number that is no scalar value.
     pub fn lookup(&self, number: u32) -> Result<Found, Refusal> {
         let mut answer = Answer::default();
-        let Parts { image, image_len, ranges, points, roles, used } = self.parts();
-        // Safety: the bytes and what their check gave are together in `self`.
-        let refused = unsafe {
-            ffi::luffinarc_lookup_checked(
-                image,
-                image_len,
-                ranges,
-                points,
-                roles,
-                used,
-                number,
-                &mut answer,
-            )
-        };
+        // Safety: the image was accepted.
+        let refused = unsafe { calls::lookup_checked(self.bytes, number, &mut answer) };
         let [class, looked_at, _, _] = result(refused, answer)?;
         Ok(Found { class: given_class(class as u32), looked_at: looked_at as u32 })
     }

@@ -1,8 +1,7 @@
 //! Tokens of a text under an accepted image.
 
 use crate::calls::{self, Answer};
-use crate::ffi;
-use crate::image::{Image, Parts};
+use crate::image::Image;
 use crate::names::Kind;
 use crate::refusal::{result, Refusal};
 use std::iter::FusedIterator;
@@ -61,23 +60,9 @@ impl Image<'_> {
     ///
     /// [`Refusal::TextLength`], [`Refusal::IllFormed`] or [`Refusal::Characters`], the first that applies.
     pub fn count<T: AsRef<[u8]> + ?Sized>(&self, text: &T) -> Result<usize, Refusal> {
-        let text = text.as_ref();
-        let mut answer = Answer::default();
-        let Parts { image, image_len, ranges, points, roles, used } = self.parts();
-        // Safety: the image was checked; the text and its length are of one slice.
-        let number = unsafe {
-            ffi::luffinarc_count_checked(
-                image,
-                image_len,
-                ranges,
-                points,
-                roles,
-                used,
-                text.as_ptr(),
-                text.len(),
-                &mut answer,
-            )
-        };
+        let (text, mut answer) = (text.as_ref(), Answer::default());
+        // Safety: the image was accepted.
+        let number = unsafe { calls::count_checked(self.as_bytes(), text, &mut answer) };
         result(number, answer).map(|[count, ..]| count as usize)
     }
 
@@ -92,25 +77,9 @@ impl Image<'_> {
         text: &T,
         words: &mut [u32],
     ) -> Result<usize, Refusal> {
-        let text = text.as_ref();
-        let mut answer = Answer::default();
-        let Parts { image, image_len, ranges, points, roles, used } = self.parts();
-        // Safety: the image was checked; each pointer stands with the length of its slice.
-        let number = unsafe {
-            ffi::luffinarc_list_checked(
-                image,
-                image_len,
-                ranges,
-                points,
-                roles,
-                used,
-                text.as_ptr(),
-                text.len(),
-                words.as_mut_ptr(),
-                words.len(),
-                &mut answer,
-            )
-        };
+        let (text, mut answer) = (text.as_ref(), Answer::default());
+        // Safety: the image was accepted.
+        let number = unsafe { calls::list_checked(self.as_bytes(), text, words, &mut answer) };
         result(number, answer).map(|[count, ..]| count as usize)
     }
 
@@ -146,24 +115,9 @@ impl Image<'_> {
         text: &T,
         place: usize,
     ) -> Result<Option<Token>, Refusal> {
-        let text = text.as_ref();
-        let mut answer = Answer::default();
-        let Parts { image, image_len, ranges, points, roles, used } = self.parts();
-        // Safety: the image was checked; the text and its length are of one slice.
-        let number = unsafe {
-            ffi::luffinarc_token_checked(
-                image,
-                image_len,
-                ranges,
-                points,
-                roles,
-                used,
-                text.as_ptr(),
-                text.len(),
-                place,
-                &mut answer,
-            )
-        };
+        let (text, mut answer) = (text.as_ref(), Answer::default());
+        // Safety: the image was accepted.
+        let number = unsafe { calls::token_checked(self.as_bytes(), text, place, &mut answer) };
         if number == calls::DONE {
             return Ok(None);
         }

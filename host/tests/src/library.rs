@@ -39,7 +39,14 @@ fn profile(number: u32, points: Entries, roles: Entries, answer: Answer) -> Prof
     Profile { points, roles, used: answer[2] as u32 }
 }
 
-/// The calls of the static library that take any image.
+/// Whether the call with this result accepted the image: 1 to 4 are the refusals of an image. It is then made again as
+/// a call on a checked image, which is safe.
+fn accepted(number: u32) -> bool {
+    !(1..=4).contains(&number)
+}
+
+/// The calls of the static library that take any image. Where it is accepted, the calls on a checked image give the
+/// same.
 pub struct Library;
 
 impl Calls for Library {
@@ -95,6 +102,11 @@ impl Calls for Library {
         let image = Lent::new(image, 0xAA);
         let mut answer = OLD;
         let refused = calls::lookup(image.slice(), number, &mut answer);
+        if accepted(refused) {
+            let mut again = OLD;
+            let number = unsafe { calls::lookup_checked(image.slice(), number, &mut again) };
+            assert_eq!((number, again), (refused, answer));
+        }
         image.same();
         let [class, looked] = values(refused, answer)?;
         Ok((class as u32, looked as u32))
@@ -125,6 +137,11 @@ impl Calls for Library {
         let (image, text) = (Lent::new(image, 0xAA), Lent::new(text, 0xAA));
         let mut answer = OLD;
         let number = calls::count(image.slice(), text.slice(), &mut answer);
+        if accepted(number) {
+            let mut again = OLD;
+            let same = unsafe { calls::count_checked(image.slice(), text.slice(), &mut again) };
+            assert_eq!((same, again), (number, answer));
+        }
         image.same();
         text.same();
         let [count] = values(number, answer)?;
@@ -136,6 +153,14 @@ impl Calls for Library {
         let mut lent = Lent::new(words, 0xAA);
         let mut answer = OLD;
         let number = calls::list(image.slice(), text.slice(), lent.slice_mut(), &mut answer);
+        if accepted(number) {
+            let (mut other, mut again) = (Lent::new(words, 0xAA), OLD);
+            let (image, text) = (image.slice(), text.slice());
+            let same = unsafe { calls::list_checked(image, text, other.slice_mut(), &mut again) };
+            assert_eq!((same, again), (number, answer));
+            assert!(other.slice() == lent.slice());
+            other.back(words);
+        }
         image.same();
         text.same();
         lent.back(words);
@@ -147,6 +172,12 @@ impl Calls for Library {
         let (image, text) = (Lent::new(image, 0xAA), Lent::new(text, 0xAA));
         let mut answer = OLD;
         let number = calls::token(image.slice(), text.slice(), place, &mut answer);
+        if accepted(number) {
+            let mut again = OLD;
+            let same =
+                unsafe { calls::token_checked(image.slice(), text.slice(), place, &mut again) };
+            assert_eq!((same, again), (number, answer));
+        }
         image.same();
         text.same();
         if number == calls::DONE {

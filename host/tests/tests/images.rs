@@ -113,13 +113,14 @@ fn accepted_images() {
         let bytes = image_of(&made);
         let image = Image::check(&bytes).unwrap();
         assert_eq!(image.version(), made.version);
-        let entries = image.profile().entries().map(|(point, role)| (point, role.number()));
+        let profile = image.profile();
+        let entries = profile.entries().map(|(point, role)| (point, role.number()));
         assert!(entries.eq(made.profile.entries()));
         let ranges = image.ranges();
         let words = |r: &luffinarc::Range| (r.first, r.last, r.class.number());
         let expected = made.ranges.iter().map(|r| (r.first, r.last, r.class));
         assert!(ranges.iter().map(words).eq(expected));
-        let again = luffinarc::write_image(image.version(), &ranges, image.profile()).unwrap();
+        let again = luffinarc::write_image(image.version(), &ranges, &profile).unwrap();
         assert!(again == bytes);
     }
 }

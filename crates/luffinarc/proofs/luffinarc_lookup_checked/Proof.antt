@@ -6,14 +6,14 @@ use borrow.Author.Needs.{needs}
 use Rattle.luffinarc.proofs.luffinarc_lookup_checked.Statement.{statement}
 use Rattle.luffinarc.proofs.luffinarc_lookup_checked.Tie as tie
 
-look-up-requires : tie.Need-look-up-requires
-look-up-requires c κs = search needs
+lookup-checked-requires : tie.Need-lookup-checked-requires
+lookup-checked-requires c κs = search needs
 
 tell-found-requires : tie.Need-tell-found-requires
 tell-found-requires c κs = search needs
 
 returns : tie.Need-returns
-returns c = told foundReply (sym (c .before .before .look-up .ensures)) (c .tell-found .ensures)
+returns c = told foundReply (sym (c .before .before .lookup-checked .ensures)) (c .tell-found .ensures)
 
 pub luffinarc-lookup-checked-spec : {M : Type 1} → statement M
-luffinarc-lookup-checked-spec = tie.close (tie.spec look-up-requires tell-found-requires returns)
+luffinarc-lookup-checked-spec = tie.close (tie.spec lookup-checked-requires tell-found-requires returns)

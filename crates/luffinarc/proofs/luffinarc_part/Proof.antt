@@ -1,6 +1,7 @@
 -- `luffinarc::luffinarc_part` meets its contract. Assumes nothing.
 use mathlib.Core.Path.{sym, _∙_}
-use Rattle.luffinarc.proofs.PartLaws.{lies, part-refused, part-lies}
+use Rattle.part.proofs.PartLaws.{part-within}
+use Rattle.luffinarc.proofs.PartLaws.{part-refused, part-told}
 use borrow.Author.Needs.{needs}
 use Rattle.luffinarc.proofs.luffinarc_part.Statement.{statement}
 use Rattle.luffinarc.proofs.luffinarc_part.Tie as tie
@@ -12,16 +13,16 @@ put-requires : tie.Need-put-requires
 put-requires c κs = search needs
 
 returns : tie.Need-returns
-returns c = part-refused _ _ _ _ _ (c .before .before .before .check .ensures) (c .before .before .if1 .taken) (c .put .ensures)
+returns c = part-refused _ _ _ _ (c .before .before .before .check .ensures) _ (c .before .before .if1 .taken) (c .put .ensures)
 
 sub-put : tie.Need-sub-put
-sub-put c = lies _ _ _ (sym (c .before .before .check .ensures) ∙ c .before .if1 .left) .1
+sub-put c = part-within _ _ _ (sym (c .before .before .check .ensures) ∙ c .before .if1 .left) .0
 
 put-requires-2 : tie.Need-put-requires-2
 put-requires-2 c κs = search needs
 
 returns-2 : tie.Need-returns-2
-returns-2 c = part-lies _ _ _ _ _ (c .before .before .before .check .ensures) (c .before .before .if1 .left) (c .put2 .ensures)
+returns-2 c = part-told _ _ _ _ (c .before .before .before .check .ensures) _ (c .before .before .if1 .left) (c .put2 .ensures)
 
 pub luffinarc-part-spec : {M : Type 1} → statement M
 luffinarc-part-spec =

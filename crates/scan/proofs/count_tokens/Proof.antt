@@ -1,98 +1,201 @@
--- `scan::count_tokens` meets its contract. The loop's invariant: what was counted and the reading of the rest are the whole.
+-- `scan::count_tokens` meets its contract. The loop's invariant: the count is that of the tokens that are complete.
 -- Assumes nothing.
-use Prim.Native.Nat.{ℕ, _-_, _<_}
-use mathlib.Core.Path.{_≡_, refl, sym, ap, _∙_}
+use Prim.Native.Nat.{ℕ, _+_, _-_, _*_, _/_}
+use mathlib.Core.Path.{refl, ap, _∙_}
 use native.Mathlib.Omega.{arith}
 use borrow.Author.Needs.{needs}
 use lib.ListN.{length}
 use Rattle.character.specs.Read.{MemoOf}
-use Rattle.character.proofs.CharacterLaws.{traits-small}
-use Rattle.scan.specs.declared.Counted.the-variants.{Refused}
-use Rattle.scan.proofs.TurnLaws.{kind-less, after-less}
-use Rattle.scan.proofs.RestLaws.{Turn, turn}
-use Rattle.scan.proofs.CountLaws.{Counting, counting-begins, counts-more, counts-begin, counts-turn, counts-stop, counts-ill, counts-end}
+use Rattle.scan.specs.declared.Counted.the-variants.{Refused, Tokens}
+use Rattle.scan.specs.Turns.{waiting}
+use Rattle.scan.proofs.ReachLaws.{Here, here, here-small, Look}
+use Rattle.scan.proofs.CountLaws.{
+  Counting,
+  counting-begins,
+  counting-few,
+  counting-less,
+  counts-ill,
+  counting-settles,
+  counts-left,
+  settles-end,
+  pending-few,
+  counts-end,
+  counting-turn,
+  counting-waits,
+  waits-here,
+  counts-stop,
+}
 use Rattle.scan.proofs.count_tokens.Statement.{statement}
 use Rattle.scan.proofs.count_tokens.Tie as tie
 
 abbrev Inv-loop : tie.InvT-loop
-Inv-loop image table text turns kinds memo₀ kind₀ count₀ at₀ memo kind count at = Counting image text kind count at × (kind < 4) × MemoOf image memo
+Inv-loop image table text turns after memo₀ state₀ count₀ mid₀ at₀ memo state count mid at = Counting image text state count mid at × MemoOf image memo
 
+-- a medial that is settled reads no byte
 abbrev μ-loop : tie.MeasureT-loop
-μ-loop image table text turns kinds memo₀ kind₀ count₀ at₀ memo kind count at = length text - at
+μ-loop image table text turns after memo₀ state₀ count₀ mid₀ at₀ memo state count mid at = 2 * (length text - at) + state / waiting
 
--- the character that was read stands at the place, and its traits are below 16
-turned :
+-- the character that was read stands at the place
+stands :
     (c : tie.After-memo Inv-loop μ-loop)
-    → Turn (c .before .before .before .before .before .before .before .before .args .image .now) (c .before .before .before .before .before .before .before .before .args .text .now) (c .before .before .before .before .loop .at) (c .before .before .read .result .len) (c .before .before .read .result .traits)
-turned c = turn _ _ _ _ (c .before .before .before .loop-test .taken) (c .before .before .read .ensures) (omega arith)
+    → let a = c .before .before .before .before .before .before .before .before .args in
+    let r = c .before .before .read .result in
+    Here (a .image .now) (a .text .now) (c .before .before .before .before .loop .at) (r .len) (r .traits)
+stands c = here _ _ _ _ (c .before .before .before .loop-test .taken) (c .before .before .read .ensures) (omega arith)
 
-small : (c : tie.After-memo Inv-loop μ-loop) → c .before .before .read .result .traits < 16
-small c = let t = turned c in omega (arith, t .known, traits-small _ (t .code) (c .before .before .before .before .before .before .before .before .pre .0))
+looked :
+    (c : tie.After-find-turn Inv-loop μ-loop)
+    → let a = c .before .before .before .before .before .before .before .before .before .before .args in
+    let l = c .before .before .before .before .before .before .loop in
+    let r = c .before .before .before .before .read .result in
+    Look (a .image .now) (a .text .now) (l .state) (l .at) (r .len) (r .traits) (c .find-turn .result)
+looked c =
+    let k = c .before .before .before .before .before .before .before .before .before .before in
+    record { accepted = k .pre .0; here = stands (c .before .before); known = c .find-turn .ensures }
+
+-- what is counted after each turn
+turned :
+    (c : tie.After-state-after Inv-loop μ-loop)
+    → let a = c .before .before .before .before .before .before .before .before .before .before .before .before .before .args in
+    let l = c .before .before .before .before .before .before .before .before .before .loop in
+    let r = c .before .before .before .before .before .before .before .read .result in
+    Counting (a .image .now) (a .text .now) (c .state-after .result) (l .count + c .before .before .before .find-turn .result) (l .mid) (l .at + r .len)
+turned c =
+    let i = c .before .before .before .before .before .before .before .before .before .loop .inv .0 in
+    counting-turn i (looked (c .before .before .before)) (c .before .before .if2 .taken) _ (c .state-after .ensures)
+
+waited :
+    (c : tie.After-waiting-after Inv-loop μ-loop)
+    → let a = c .before .before .before .before .before .before .before .before .before .before .before .before .before .args in
+    let l = c .before .before .before .before .before .before .before .before .before .loop in
+    let r = c .before .before .before .before .before .before .before .read .result in
+    Counting (a .image .now) (a .text .now) (c .waiting-after .result) (l .count) (l .at) (l .at + r .len)
+waited c =
+    let i = c .before .before .before .before .before .before .before .before .before .loop .inv .0 in
+    counting-waits i (looked (c .before .before .before)) (c .before .if3 .taken) _ (c .waiting-after .ensures)
+
+settled :
+    (c : tie.Else5 Inv-loop μ-loop)
+    → let a = c .before .before .before .before .before .before .before .before .before .before .before .before .before .before .args in
+    let l = c .before .before .before .before .before .before .before .before .before .before .loop in
+    Counting (a .image .now) (a .text .now) (l .state - waiting) (l .count + 1) (l .mid) (l .at)
+settled c =
+    let i = c .before .before .before .before .before .before .before .before .before .before .loop .inv .0 in
+    let s = waits-here i (looked (c .before .before .before .before)) (c .before .if4 .taken) in
+    counting-settles i (s .1) (s .0) (c .if5 .left)
 
 no-memo-requires : tie.Need-no-memo-requires Inv-loop μ-loop
 no-memo-requires c κs = search needs
 
 loop-holds : tie.Need-loop-holds Inv-loop μ-loop
-loop-holds c = (counting-begins _ _, omega arith, c .no-memo .ensures _)
+loop-holds c = (counting-begins _ _, c .no-memo .ensures _)
 
 read-requires : tie.Need-read-requires Inv-loop μ-loop
-read-requires c κs = (c .before .before .before .before .before .pre .0, (c .before .before .before .before .before .pre .1, (c .before .loop .inv .2, c .loop-test .taken)))
+read-requires c κs =
+    let p = c .before .before .before .before .before .pre in
+    (p .0, (p .1, (c .before .loop .inv .1, c .loop-test .taken)))
 
 returns : tie.Need-returns Inv-loop μ-loop
-returns c = counts-ill _ _ _ _ _ (c .before .before .before .loop .inv .0) (c .before .read .ensures .none (c .if1 .taken))
+returns c = counts-ill (c .before .before .before .loop .inv .0) (c .before .read .ensures .none (c .if1 .taken))
 
 add-next : tie.Need-add-next Inv-loop μ-loop
-add-next c = let t = turned c in omega arith
+add-next c =
+    let t = stands c in
+    omega (arith, t .within, c .before .before .before .before .before .before .before .before)
 
 find-turn-requires : tie.Need-find-turn-requires Inv-loop μ-loop
-find-turn-requires c κs = (refl, (c .before .before .before .before .before .loop .inv .1, small (c .before)))
+find-turn-requires c κs =
+    let k = c .before .before .before .before .before in
+    (refl, (counting-less (k .loop .inv .0), here-small (k .before .before .before .before .pre .0) (stands (c .before))))
 
 add-count : tie.Need-add-count Inv-loop μ-loop
-add-count c = let t = turned (c .before .before .before) in omega (arith, c .if2 .taken, c .before .before .before .before .before .before .before .loop .inv .0 .few, c .before .before .before .before .before .before .before .before .before .before .before)
+add-count c =
+    let i = counting-turn (c .before .before .before .before .before .before .before .loop .inv .0) (looked (c .before)) (c .if2 .taken) _ refl in
+    omega (arith, counting-few i, c .before .before .before .before .before .before .before .before .before .before .before)
 
-kind-after-requires : tie.Need-kind-after-requires Inv-loop μ-loop
-kind-after-requires c κs = (refl, small (c .before .before .before .before))
+state-after-requires : tie.Need-state-after-requires Inv-loop μ-loop
+state-after-requires c κs =
+    let k = c .before .before .before .before .before .before .before .before .before .before .before .before in
+    (refl, here-small (k .pre .0) (stands (c .before .before .before .before)))
 
 loop-less : tie.Need-loop-less Inv-loop μ-loop
-loop-less c = let t = turned (c .before .before .before .before .before) in omega arith
+loop-less c =
+    let t = stands (c .before .before .before .before .before) in
+    omega (arith, t .some-bytes, t .within, counting-less (turned c))
 
 loop-again : tie.Need-loop-again Inv-loop μ-loop
-loop-again c =
-    (counts-turn _ _ (c .before .before .before .before .before .before .before .before .before .before .before .before .before .pre .0) _ _ _ _ _ (c .before .before .before .before .before .before .before .before .before .loop .inv .0) (turned (c .before .before .before .before .before)) _ (c .before .before .before .find-turn .ensures) (c .before .before .if2 .taken) _ (c .kind-after .ensures), omega (arith, c .kind-after .ensures, after-less (c .before .before .before .before .before .before .before .read .result .traits)), c .before .before .before .before .before .before .before .read .ensures .memo)
+loop-again c = (turned c, c .before .before .before .before .before .before .before .read .ensures .memo)
 
-goes-on-requires : tie.Need-goes-on-requires Inv-loop μ-loop
-goes-on-requires c κs = search needs
+waiting-after-requires : tie.Need-waiting-after-requires Inv-loop μ-loop
+waiting-after-requires c κs =
+    let k = c .before .before .before .before .before .before .before .before .before .before .before .before in
+    here-small (k .pre .0) (stands (c .before .before .before .before))
 
 loop-less-2 : tie.Need-loop-less-2 Inv-loop μ-loop
-loop-less-2 c = let t = turned (c .before .before .before .before .before) in omega arith
+loop-less-2 c =
+    let t = stands (c .before .before .before .before .before) in
+    omega (arith, t .some-bytes, t .within, counting-less (waited c))
 
 loop-again-2 : tie.Need-loop-again-2 Inv-loop μ-loop
-loop-again-2 c =
-    (counts-more _ _ (c .before .before .before .before .before .before .before .before .before .before .before .before .before .pre .0) _ _ _ _ _ (c .before .before .before .before .before .before .before .before .before .loop .inv .0) (turned (c .before .before .before .before .before)) (sym (c .before .goes-on .ensures) ∙ c .if3 .taken), c .before .before .before .before .before .before .before .before .before .loop .inv .1, c .before .before .before .before .before .before .before .read .ensures .memo)
-
-kind-begun-requires : tie.Need-kind-begun-requires Inv-loop μ-loop
-kind-begun-requires c κs = search needs
+loop-again-2 c = (waited c, c .before .before .before .before .before .before .before .read .ensures .memo)
 
 refuse-at-requires : tie.Need-refuse-at-requires Inv-loop μ-loop
-refuse-at-requires c κs = search needs
+refuse-at-requires c κs = c .before .before .before .before .before .before .before .before .before .before .loop .inv .0 .reached .medial .within
 
 returns-2 : tie.Need-returns-2 Inv-loop μ-loop
 returns-2 c =
-    ap Refused (c .refuse-at .ensures)
-    ∙ counts-stop _ _ (c .before .before .before .before .before .before .before .before .before .before .before .before .before .before .before .before .pre .0) _ _ _ _ _ (c .before .before .before .before .before .before .before .before .before .before .before .before .loop .inv .0) (turned (c .before .before .before .before .before .before .before .before)) (sym (c .before .before .before .before .goes-on .ensures) ∙ c .before .before .before .if3 .left) (sym (c .before .before .kind-begun .ensures) ∙ c .before .if4 .taken)
+    let k = c .before .before .before .before .before in
+    let i = k .before .before .before .before .before .before .loop .inv .0 in
+    ap Refused (c .refuse-at .ensures) ∙ counts-left i (waits-here i (looked (k)) (c .before .before .if4 .taken) .1) (c .before .if5 .taken)
 
 add-count-2 : tie.Need-add-count-2 Inv-loop μ-loop
-add-count-2 c = let t = turned (c .before .before .before .before .before .before .before) in omega (arith, c .before .before .before .before .before .before .before .before .before .before .before .loop .inv .0 .few, c .before .before .before .before .before .before .before .before .before .before .before .before .before .before .before)
+add-count-2 c =
+    let k = c .before .before .before .before .before .before .before .before .before .before .before .before .before .before in
+    omega (arith, counting-few (settled c), k)
+
+sub-state : tie.Need-sub-state Inv-loop μ-loop
+sub-state c =
+    let k = c .before .before .before .before .before .before .before .before .before .before in
+    waits-here (k .loop .inv .0) (looked (c .before .before .before .before)) (c .before .if4 .taken) .0
 
 loop-less-3 : tie.Need-loop-less-3 Inv-loop μ-loop
-loop-less-3 c = let t = turned (c .before .before .before .before .before .before .before) in omega arith
+loop-less-3 c =
+    let i = c .before .before .before .before .before .before .before .before .before .before .loop .inv .0 in
+    omega (arith, waits-here i (looked (c .before .before .before .before)) (c .before .if4 .taken) .0, counting-less i)
 
 loop-again-3 : tie.Need-loop-again-3 Inv-loop μ-loop
-loop-again-3 c =
-    (counts-begin _ _ (c .before .before .before .before .before .before .before .before .before .before .before .before .before .before .before .pre .0) _ _ _ _ _ (c .before .before .before .before .before .before .before .before .before .before .before .loop .inv .0) (turned (c .before .before .before .before .before .before .before)) (sym (c .before .before .before .goes-on .ensures) ∙ c .before .before .if3 .left) _ (c .before .kind-begun .ensures) (c .if4 .left), omega (arith, c .before .kind-begun .ensures, kind-less (c .before .before .before .before .before .before .before .before .before .read .result .traits)), c .before .before .before .before .before .before .before .before .before .read .ensures .memo)
+loop-again-3 c = (settled c, c .before .before .before .before .before .before .before .before .read .ensures .memo)
+
+refuse-at-requires-2 : tie.Need-refuse-at-requires-2 Inv-loop μ-loop
+refuse-at-requires-2 c κs = c .before .before .before .before .before .before .before .before .before .loop .inv .0 .reached .place .within
 
 returns-3 : tie.Need-returns-3 Inv-loop μ-loop
-returns-3 c = counts-end _ _ _ _ _ (c .before .loop .inv .0) (c .loop-test .left)
+returns-3 c =
+    let k = c .before .before .before .before .before .before .before .before .before .before in
+    ap Refused (c .refuse-at2 .ensures)
+    ∙ counts-stop (k .loop .inv .0) (looked (c .before .before .before .before)) (omega (arith, c .before .before .before .if2 .left, c .before .before .if3 .left, c .before .if4 .left))
+
+refuse-at-requires-3 : tie.Need-refuse-at-requires-3 Inv-loop μ-loop
+refuse-at-requires-3 c κs = c .before .before .loop .inv .0 .reached .medial .within
+
+returns-4 : tie.Need-returns-4 Inv-loop μ-loop
+returns-4 c =
+    let i = c .before .before .before .loop .inv .0 in
+    ap Refused (c .refuse-at3 .ensures) ∙ counts-left i (settles-end i (c .before .before .loop-test .left)) (c .before .if6 .taken)
+
+count-pending-requires : tie.Need-count-pending-requires Inv-loop μ-loop
+count-pending-requires c κs = search needs
+
+add-all : tie.Need-add-all Inv-loop μ-loop
+add-all c =
+    let f = pending-few (c .before .before .before .loop .inv .0) (c .before .before .loop-test .left) (c .before .if6 .left) in
+    omega (arith, c .count-pending .ensures, f, c .before .before .before .before .before .before .before)
+
+returns-5 : tie.Need-returns-5 Inv-loop μ-loop
+returns-5 c =
+    let l = c .before .before .before .loop in
+    ap (λ (n : ℕ). Tokens (l .count + n)) (c .count-pending .ensures)
+    ∙ counts-end (l .inv .0) (c .before .before .loop-test .left) (c .before .if6 .left)
 
 pub count-tokens-spec : {M : Type 1} → statement M
 count-tokens-spec =
@@ -107,16 +210,22 @@ count-tokens-spec =
     add-next
     find-turn-requires
     add-count
-    kind-after-requires
+    state-after-requires
     loop-less
     loop-again
-    goes-on-requires
+    waiting-after-requires
     loop-less-2
     loop-again-2
-    kind-begun-requires
     refuse-at-requires
     returns-2
     add-count-2
+    sub-state
     loop-less-3
     loop-again-3
-    returns-3)
+    refuse-at-requires-2
+    returns-3
+    refuse-at-requires-3
+    returns-4
+    count-pending-requires
+    add-all
+    returns-5)

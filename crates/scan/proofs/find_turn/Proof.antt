@@ -1,33 +1,32 @@
 -- `scan::find_turn` meets its contract, by the table's rule. Assumes nothing.
 use Prim.Native.Nat.{ℕ, _+_, _*_}
-use mathlib.Core.Path.{_≡_, ap, _∙_}
+use mathlib.Core.Path.{ap, _∙_}
 use mathlib.Core.List.{List}
-use native.Mathlib.Omega.{arith}
 use lib.ListN.{getD}
-use Rattle.scan.proofs.TurnLaws.{turn-at}
+use Rattle.scan.proofs.TableLaws.{turn-at}
 use borrow.Author.Needs.{needs}
 use Rattle.scan.proofs.find_turn.Statement.{statement}
 use Rattle.scan.proofs.find_turn.Tie as tie
 
-mul-result : tie.Need-mul-result
-mul-result c = omega arith
+mul-widen : tie.Need-mul-widen
+mul-widen c = search needs
 
-add-result : tie.Need-add-result
-add-result c = omega arith
+add-widen : tie.Need-add-widen
+add-widen c = search needs
 
-cast-result : tie.Need-cast-result
-cast-result c = omega arith
+cast-widen : tie.Need-cast-widen
+cast-widen c = search needs
 
-mul-result-2 : tie.Need-mul-result-2
-mul-result-2 c = search needs
+element-copy-out-widen : tie.Need-element-copy-out-widen
+element-copy-out-widen c = search needs
 
-element-copy-out-result : tie.Need-element-copy-out-result
-element-copy-out-result c = omega arith
+widen-requires : tie.Need-widen-requires
+widen-requires c κs = search needs
 
 returns : tie.Need-returns
-returns c = ap (λ (xs : List ℕ). getD xs (c .before .args .kind * 16 + c .before .args .traits) 0) (c .before .pre .0) ∙ turn-at _ _ (c .before .pre .1 .0) (c .before .pre .1 .1)
+returns c = c .widen .ensures ∙ ap (λ (xs : List ℕ). getD xs (c .before .before .args .state * 16 + c .before .before .args .traits) 0) (c .before .before .pre .0) ∙ turn-at _ _ (c .before .before .pre .1 .0) (c .before .before .pre .1 .1)
 
 pub find-turn-spec : {M : Type 1} → statement M
 find-turn-spec =
     tie.close
-    (tie.spec mul-result add-result cast-result mul-result-2 element-copy-out-result returns)
+    (tie.spec mul-widen add-widen cast-widen element-copy-out-widen widen-requires returns)

@@ -1,7 +1,7 @@
 -- `scan::put_token` meets its contract. Assumes nothing.
 use native.Mathlib.Omega.{arith}
 use lib.ListN.{length-set}
-use Rattle.scan.proofs.WriteLaws.{written-some}
+use Rattle.scan.proofs.WriteLaws.{three-words}
 use borrow.Author.Needs.{needs}
 use Rattle.scan.proofs.put_token.Statement.{statement}
 use Rattle.scan.proofs.put_token.Tie as tie
@@ -25,7 +25,7 @@ same-length : tie.Need-same-length
 same-length c = search needs
 
 returns : tie.Need-returns
-returns c = written-some _ _ _ _ (c .pre .1 .0) (c .pre .1 .1)
+returns c = three-words (c .args .out .now) _ _ _ (c .pre .1)
 
 pub put-token-spec : {M : Type 1} → statement M
 put-token-spec =

@@ -1,14 +1,13 @@
 -- `scan::refuse_at` meets its contract. Assumes nothing.
-use Prim.Native.Nat.{ℕ}
 use mathlib.Core.Path.{_≡_, sym, ap, _∙_}
 use native.Mathlib.Omega.{arith}
 use borrow.Author.Needs.{needs}
-use lib.ListN.{length, drop, length-drop}
+use lib.ListN.{drop, length-drop}
 use Rattle.lists.proofs.LaidLaws.{rest}
 use Rattle.utf8.specs.declared.Text.{Text}
 use Rattle.utf8.specs.Text.{textOf}
 use Rattle.scan.specs.Counted.{stopRefusal}
-use Rattle.scan.proofs.CountLaws.{ill-within}
+use Rattle.utf8.proofs.TextLaws.{ill-within}
 use Rattle.scan.proofs.refuse_at.Statement.{statement}
 use Rattle.scan.proofs.refuse_at.Tie as tie
 

@@ -1,6 +1,6 @@
 -- `utf8::check_text` meets its contract: what is said of the rest of the text, moved by the place reached, is said of the whole.
 -- Assumes nothing.
-use Prim.Native.Nat.{ℕ, _≤_, _-_, _%_}
+use Prim.Native.Nat.{_≤_, _-_, _%_}
 use mathlib.Core.Path.{_≡_, sym, _∙_}
 use native.Mathlib.Omega.{arith}
 use borrow.Author.Needs.{needs}
@@ -22,14 +22,14 @@ stands :
     → Unpacked (drop (c .before .before .before .before .loop .at) (c .before .before .before .before .before .before .args .s .now)) (c .decode-packed .result)
 stands c =
     let s = c .before .before .before .before .before .before .args .s .now in
-    let at = c .before .before .before .before .loop .at in
-    unpacked (drop at s) _ (c .decode-packed .ensures) (let l = length-drop at s in omega (arith, c .before .before .before .loop-test .taken))
+    let l = length-drop (c .before .before .before .before .loop .at) s in
+    unpacked _ _ (c .decode-packed .ensures) (omega (arith, c .before .before .before .loop-test .taken))
 
-moves : (c : tie.Else2 Inv-loop μ-loop) → Turn (c .before .before .before .before .before .before .before .args .s .now) (c .before .before .before .before .before .loop .at) (c .before .decode-packed .result % 8)
-moves c =
-    let s = c .before .before .before .before .before .before .before .args .s .now in
-    let at = c .before .before .before .before .before .loop .at in
-    turn s at _ _ (c .before .before .before .before .before .loop .inv .0) (stands (c .before) .some (omega (arith, c .if2 .left)))
+moves :
+    (c : tie.Else2 Inv-loop μ-loop)
+    → Turn (c .before .before .before .before .before .before .before .args .s .now) (c .before .before .before .before .before .loop .at)
+    (c .before .decode-packed .result % 8)
+moves c = turn _ _ _ _ (c .before .before .before .before .before .loop .inv .0) (stands (c .before) .some (omega (arith, c .if2 .left)))
 
 loop-holds : tie.Need-loop-holds Inv-loop μ-loop
 loop-holds c = (omega arith, shift-zero _)

@@ -1,21 +1,17 @@
+-- `utf8::is_scalar` meets its contract. Assumes nothing.
 use Rattle.utf8.specs.Scalar.{isScalar}
 use borrow.Author.Tests.{lt-ltb, le-ltb}
 use Rattle.utf8.proofs.is_scalar.Statement.{statement}
 use Rattle.utf8.proofs.is_scalar.Tie as tie
-use Rattle.utf8.proofs.is_scalar.Reads as reads
-use Rattle.utf8.proofs.is_scalar.Lts as lts
 
--- src/lib.rt:152:9
 returns : tie.Need-returns
 unfolding isScalar
 returns c = simp (lt-ltb _ _ (c .if1 .taken))
 
--- src/lib.rt:155:9
 returns-2 : tie.Need-returns-2
 unfolding isScalar
 returns-2 c = simp (le-ltb _ _ (c .before .if1 .left), lt-ltb _ _ (c .if2 .taken))
 
--- src/lib.rt:148:1
 returns-3 : tie.Need-returns-3
 unfolding isScalar
 returns-3 c = simp (le-ltb _ _ (c .before .if1 .left), le-ltb _ _ (c .if2 .left))

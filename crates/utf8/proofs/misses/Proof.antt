@@ -20,7 +20,9 @@ returns-2 c = simp (lt-ltb _ _ (c .before .before .if1 .left), lt-leb _ _ (c .if
 
 returns-3 : tie.Need-returns-3
 unfolding byteFits
-returns-3 c = simp (lt-ltb _ _ (c .before .before .if1 .left), le-leb _ _ (c .if2 .left)) (ltb-not (c .before .before .before .args .high) (getD (c .before .before .before .args .s .now) (c .before .before .before .args .i) 0))
+returns-3 c =
+    let a = c .before .before .before .args in
+    simp (lt-ltb _ _ (c .before .before .if1 .left), le-leb _ _ (c .if2 .left)) (ltb-not (a .high) (getD (a .s .now) (a .i) 0))
 
 pub misses-spec : {M : Type 1} → statement M
 misses-spec = tie.close (tie.spec returns shared-slice-read-b returns-2 returns-3)

@@ -22,37 +22,37 @@ lead c = c .read-lead .result
 abbrev range : tie.After-read-lead → Bytes
 range c = lead c .low to lead c .high
 
--- what is known after each byte
+-- what is known after each byte; `led` is the place where the lead was read
 first : (c : tie.After-read-lead) → Begun (text c) (lead c) [] 0
 first c = begins _ _ (c .read-lead .ensures) (omega arith)
 
-abbrev led : tie.Else4 → tie.After-read-lead
-led c = c .before .before .before .before
+abbrev led-2 : tie.Else4 → tie.After-read-lead
+led-2 c = c .before .before .before .before
 
-second : (c : tie.Else4) → Begun (text (led c)) (lead (led c)) (range (led c) ∷ []) 1
-second c = next-in (first (led c)) _ (not-false _ (sym (c .before .misses .ensures) ∙ c .if4 .left))
+second : (c : tie.Else4) → Begun (text (led-2 c)) (lead (led-2 c)) (range (led-2 c) ∷ []) 1
+second c = next-in (first (led-2 c)) _ (not-false _ (sym (c .before .misses .ensures) ∙ c .if4 .left))
 
-abbrev led2 : tie.Else6 → tie.After-read-lead
-led2 c = led (c .before .before .before .before)
+abbrev led-3 : tie.Else6 → tie.After-read-lead
+led-3 c = led-2 (c .before .before .before .before)
 
-third : (c : tie.Else6) → Begun (text (led2 c)) (lead (led2 c)) (range (led2 c) ∷ later ∷ []) 2
+third : (c : tie.Else6) → Begun (text (led-3 c)) (lead (led-3 c)) (range (led-3 c) ∷ later ∷ []) 2
 third c = next-in (second (c .before .before .before .before)) later (not-false _ (sym (c .before .misses2 .ensures) ∙ c .if6 .left))
 
-abbrev led3 : tie.Else8 → tie.After-read-lead
-led3 c = led2 (c .before .before .before .before)
+abbrev led-4 : tie.Else8 → tie.After-read-lead
+led-4 c = led-3 (c .before .before .before .before)
 
-fourth : (c : tie.Else8) → Begun (text (led3 c)) (lead (led3 c)) (range (led3 c) ∷ later ∷ later ∷ []) 3
+fourth : (c : tie.Else8) → Begun (text (led-4 c)) (lead (led-4 c)) (range (led-4 c) ∷ later ∷ later ∷ []) 3
 fourth c = next-in (third (c .before .before .before .before)) later (not-false _ (sym (c .before .misses3 .ensures) ∙ c .if8 .left))
 
 -- no length but four is left after the tests
 four : (n : ℕ) → n ≤ 4 → n ≢ 0 → n ≢ 1 → n ≢ 2 → n ≢ 3 → n ≡ 4
 four n h a b c d = omega arith
 
-longest : (c : tie.Else7) → lead (led2 (c .before .before)) .len ≡ 4
+longest : (c : tie.Else7) → lead (led-3 (c .before .before)) .len ≡ 4
 longest c =
     let d = c .before .before .before .before .before .before in
     let e = d .before .before in
-    four _ (lead-le _ (led d .read-lead .ensures)) (e .before .if2 .left) (e .if3 .left) (c .before .before .before .before .if5 .left) (c .if7 .left)
+    four _ (lead-le _ (led-2 d .read-lead .ensures)) (e .before .if2 .left) (e .if3 .left) (c .before .before .before .before .if5 .left) (c .if7 .left)
 
 returns : tie.Need-returns
 returns c = ap packed (at-end _ (c .if1 .taken))
@@ -95,7 +95,7 @@ misses-requires-2 c κs = search needs
 returns-6 : tie.Need-returns-6
 returns-6 c =
     let d = c .before .before .before .before in
-    next-out (second d) later _ (suc (suc (lead (led d) .len - 3))) (omega arith) refl (not-true _ (sym (c .before .misses2 .ensures) ∙ c .if6 .taken))
+    next-out (second d) later _ (suc (suc (lead (led-2 d) .len - 3))) (omega arith) refl (not-true _ (sym (c .before .misses2 .ensures) ∙ c .if6 .taken))
 
 shared-slice-read-c : tie.Need-shared-slice-read-c
 shared-slice-read-c c = let d = third (c .before) in omega (arith, d .within)

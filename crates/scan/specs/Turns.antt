@@ -1,0 +1,89 @@
+-- The reader's state and turns on numbers (docs/RULES.md, "Tokens"). `proofs/TurnLaws.antt` joins them to the steps of `grammar`.
+use Prim.Native.Nat.{ℕ, zero, suc, _+_, _%_}
+use mathlib.Core.Bool.{cond}
+use mathlib.Core.List.{List, [], _∷_}
+use mathlib.Core.Option.{Option, none, some}
+use lib.Dec.{leb}
+use Rattle.image.specs.Class.{classNamed}
+use Rattle.grammar.specs.Meaning.{Meaning}
+use Rattle.grammar.specs.Grammar.{Kind, identifier, syntax, whitespace}
+use Rattle.grammar.specs.Kinds.{kindNumber, kindOf, goesWith, linksWith}
+
+-- the number of a kind; 0 is none
+abbrev pub numberBy : Option Kind → ℕ
+numberBy none = 0
+numberBy (some k) = kindNumber k
+
+-- what a character's traits tell of it: its class, and whether it is a medial
+abbrev pub traitMeaning : Meaning ℕ
+traitMeaning = record { class = λ (t : ℕ). classNamed (t % 8); medial = λ (t : ℕ). leb 8 t }
+
+-- The state: nothing is under way yet; a token of a kind; an identifier, and a medial after it that waits
+pub data Phase : Type 0 where
+  nothing : Phase
+  within : Kind → Phase
+  waits : Phase
+
+-- a state's number: 0, the token's kind, or `waiting` and the kind of token that the medial itself begins
+abbrev pub waiting : ℕ
+waiting = 4
+
+abbrev pub states : ℕ
+states = 8
+
+abbrev pub phaseNamed : ℕ → Phase
+phaseNamed zero = nothing
+phaseNamed (suc zero) = within identifier
+phaseNamed (suc (suc zero)) = within syntax
+phaseNamed (suc (suc (suc zero))) = within whitespace
+phaseNamed (suc (suc (suc (suc n)))) = waits
+
+-- a token begins, or none does, 4
+abbrev pub begunBy : ℕ → Option Kind → ℕ
+begunBy r none = 4
+begunBy r (some k) = r
+
+-- the turn of a character: no token is complete, 0; the one under way is, and another begins, 1; a medial waits, 2;
+-- the one that waits is settled, and the character comes again, 3; no token begins, 4
+abbrev pub turnBy : {A : Type 0} → Meaning A → Phase → A → ℕ
+turnBy m nothing c = begunBy 0 (kindOf m c)
+turnBy m (within k) c = cond (goesWith m k c) 0 (cond (linksWith m k c) 2 (begunBy 1 (kindOf m c)))
+turnBy m waits c = cond (goesWith m identifier c) 0 3
+
+unfoldable pub turnOf : ℕ → ℕ → ℕ
+turnOf n t = turnBy traitMeaning (phaseNamed n) t
+
+-- the state after a character with which a token goes on or begins
+unfoldable pub afterOf : ℕ → ℕ
+afterOf t = cond (goesWith traitMeaning identifier t) (kindNumber identifier) (numberBy (kindOf traitMeaning t))
+
+-- the state after a medial that waits
+unfoldable pub waitingOf : ℕ → ℕ
+waitingOf t = waiting + numberBy (kindOf traitMeaning t)
+
+-- how many tokens are pending where nothing follows: the one under way, and a medial that waits
+abbrev pub pendingBy : Phase → ℕ
+pendingBy nothing = 0
+pendingBy (within k) = 1
+pendingBy waits = 2
+
+unfoldable pub pendingOf : ℕ → ℕ
+pendingOf n = pendingBy (phaseNamed n)
+
+-- the code's tables of these: `proofs/TableLaws.antt` shows what they hold
+abbrev pub turnTable : List ℕ
+turnTable =
+    4 ∷ 0 ∷ 4 ∷ 0 ∷ 0 ∷ 4 ∷ 4 ∷ 4 ∷ 4 ∷ 0 ∷ 4 ∷ 0 ∷ 0 ∷ 4 ∷ 4 ∷ 4 ∷
+    4 ∷ 0 ∷ 0 ∷ 1 ∷ 1 ∷ 4 ∷ 4 ∷ 4 ∷ 2 ∷ 0 ∷ 0 ∷ 2 ∷ 2 ∷ 2 ∷ 2 ∷ 2 ∷
+    4 ∷ 1 ∷ 4 ∷ 1 ∷ 1 ∷ 4 ∷ 4 ∷ 4 ∷ 4 ∷ 1 ∷ 4 ∷ 1 ∷ 1 ∷ 4 ∷ 4 ∷ 4 ∷
+    4 ∷ 1 ∷ 4 ∷ 1 ∷ 0 ∷ 4 ∷ 4 ∷ 4 ∷ 4 ∷ 1 ∷ 4 ∷ 1 ∷ 0 ∷ 4 ∷ 4 ∷ 4 ∷
+    3 ∷ 0 ∷ 0 ∷ 3 ∷ 3 ∷ 3 ∷ 3 ∷ 3 ∷ 3 ∷ 0 ∷ 0 ∷ 3 ∷ 3 ∷ 3 ∷ 3 ∷ 3 ∷
+    3 ∷ 0 ∷ 0 ∷ 3 ∷ 3 ∷ 3 ∷ 3 ∷ 3 ∷ 3 ∷ 0 ∷ 0 ∷ 3 ∷ 3 ∷ 3 ∷ 3 ∷ 3 ∷
+    3 ∷ 0 ∷ 0 ∷ 3 ∷ 3 ∷ 3 ∷ 3 ∷ 3 ∷ 3 ∷ 0 ∷ 0 ∷ 3 ∷ 3 ∷ 3 ∷ 3 ∷ 3 ∷
+    3 ∷ 0 ∷ 0 ∷ 3 ∷ 3 ∷ 3 ∷ 3 ∷ 3 ∷ 3 ∷ 0 ∷ 0 ∷ 3 ∷ 3 ∷ 3 ∷ 3 ∷ 3 ∷ []
+
+abbrev pub afterTable : List ℕ
+afterTable = 0 ∷ 1 ∷ 1 ∷ 2 ∷ 3 ∷ 0 ∷ 0 ∷ 0 ∷ 0 ∷ 1 ∷ 1 ∷ 2 ∷ 3 ∷ 0 ∷ 0 ∷ 0 ∷ []
+
+abbrev pub waitingTable : List ℕ
+waitingTable = 4 ∷ 5 ∷ 4 ∷ 6 ∷ 7 ∷ 4 ∷ 4 ∷ 4 ∷ 4 ∷ 5 ∷ 4 ∷ 6 ∷ 7 ∷ 4 ∷ 4 ∷ 4 ∷ []
