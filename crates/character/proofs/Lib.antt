@@ -1,2 +1,3 @@
 pub mod CharacterLaws
 pub mod TraitLaws
+pub mod PlaceLaws

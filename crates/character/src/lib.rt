@@ -104,13 +104,32 @@ fn stretch_at(image: &[u8], section: Section, i: usize, x: u32) -> Stretch
     }
 }
 
+// The place of x in a section of an accepted image, by halving. A loop, for speed: only the place is wanted here, not the steps.
+fn place_of(image: &[u8], section: Section, x: u32) -> usize
+    requires { ⌜ refusalOf (now image) ≡ none ⌝ }
+    ensures { λ r. ⌜ Placed (recordAt (now (image .entry)) section) (recordCount (now (image .entry)) section) r x ⌝ }
+{
+    let mut lo = 0;
+    let mut hi = lookup::count_records(image, section);
+    while lo < hi {
+        let mid = (lo + hi) / 2;
+        let r = lookup::record_at(image, section, mid);
+        if r.last < x {
+            lo = mid + 1;
+            continue;
+        }
+        hi = mid;
+    }
+    lo
+}
+
 // The stretch of x in a section of an accepted image.
 fn find_stretch(image: &[u8], section: Section, x: u32) -> Stretch
     requires { ⌜ refusalOf (now image) ≡ none ⌝ }
     ensures { λ r. ⌜ StretchOf (now (image .entry)) section x r ⌝ }
 {
-    let probe = lookup::find(image, section, x);
-    stretch_at(image, section, probe.place, x)
+    let i = place_of(image, section, x);
+    stretch_at(image, section, i, x)
 }
 
 // The code points around `x` that have its class in the ranges and its role.

@@ -23,9 +23,9 @@ module _ (at : ℕ → Range) (x : ℕ) where
   -- two searches that agree on both halves agree
   look-same : (f g : ℕ → ℕ → Probe) (lo hi m : ℕ) → f lo m ≡ g lo m → f (m + 1) hi ≡ g (m + 1) hi → look f at x lo hi m ≡ look g at x lo hi m
   look-same f g lo hi m p q =
-      λ d. cond (holds (at m) x) (record { class = at m .class; count = 1; place = m }) (cond (ltb x (at m .first)) (more (p d)) (more (q d)))
+      λ d. cond (holds (at m) x) (record { class = at m .class; count = 1 }) (cond (ltb x (at m .first)) (more (p d)) (more (q d)))
 
-  empty : (k lo hi : ℕ) → hi ≤ lo → seekIn k at lo hi x ≡ nothing lo
+  empty : (k lo hi : ℕ) → hi ≤ lo → seekIn k at lo hi x ≡ nothing
   empty zero lo hi h = refl
   empty (suc k) lo hi h = simp (le-leb hi lo h)
 
@@ -35,14 +35,14 @@ module _ (at : ℕ → Range) (x : ℕ) where
   enough (suc k) zero lo hi h i = empty (suc k) lo hi (omega arith)
   enough (suc k) (suc j) lo hi h i =
       let m = (lo + hi) / 2 in
-      pick-same (leb hi lo) (nothing lo) _ _
+      pick-same (leb hi lo) nothing _ _
       (λ e.
       let l : lo < hi = leb-false hi lo e in
       let below = enough k j lo m (omega arith) (omega arith) in
       let above = enough k j (m + 1) hi (omega arith) (omega arith) in
       look-same (λ a b. seekIn k at a b x) (λ a b. seekIn j at a b x) lo hi m below above)
 
-  pub seek-none : (lo hi : ℕ) → hi ≤ lo → seekOf at lo hi x ≡ nothing lo
+  pub seek-none : (lo hi : ℕ) → hi ≤ lo → seekOf at lo hi x ≡ nothing
   unfolding seekOf
   seek-none lo hi h = empty (hi - lo) lo hi h
 
@@ -55,7 +55,7 @@ module _ (at : ℕ → Range) (x : ℕ) where
       let below = enough k (m - lo) lo m (omega arith) (omega arith) in
       let above = enough k (hi - (m + 1)) (m + 1) hi (omega arith) (omega arith) in
       enough k (suc k) lo hi (omega arith) (omega arith)
-      ∙ ap (λ (t : Bool). cond t (nothing lo) (look (λ a b. seekIn k at a b x) at x lo hi m)) (lt-leb hi lo h)
+      ∙ ap (λ (t : Bool). cond t nothing (look (λ a b. seekIn k at a b x) at x lo hi m)) (lt-leb hi lo h)
       ∙ look-same (λ a b. seekIn k at a b x) (λ a b. seekIn (b - a) at a b x) lo hi m below above
 
   -- one step, by the range r that it looks at and the search p in the half that remains
@@ -69,7 +69,7 @@ module _ (at : ℕ → Range) (x : ℕ) where
         let d = rw is at b in
         ap more e ∙ sym (seek-step lo hi some ∙ simp (le-leb _ _ c, lt-leb _ _ d, le-ltb _ _ c))
 
-    pub seek-here : r .first ≤ x → x ≤ r .last → record { class = r .class; count = 1; place = (lo + hi) / 2 } ≡ seekOf at lo hi x
+    pub seek-here : r .first ≤ x → x ≤ r .last → record { class = r .class; count = 1 } ≡ seekOf at lo hi x
     seek-here a b =
         let c = rw is at a in
         let d = rw is at b in
@@ -81,7 +81,7 @@ module _ (at : ℕ → Range) (x : ℕ) where
   steps (suc k) (suc j) lo hi h =
       let m = (lo + hi) / 2 in
       let p = pow-suc 2 j in
-      pick-count (leb hi lo) (nothing lo) _ (suc j) (omega arith)
+      pick-count (leb hi lo) nothing _ (suc j) (omega arith)
       (λ e. let l : lo < hi = leb-false hi lo e in
       let below = steps k j lo m (omega arith) in
       let above = steps k j (m + 1) hi (omega arith) in

@@ -49,8 +49,8 @@ module _ (s : List ℕ) (x : ℕ) (a : refusalOf s ≡ none) where
       (p q : Probe) (c : ℕ) → isScalar x ≡ true → p ≡ seekOf (recordAt s Entries) 0 (recordCount s Entries) x
       → q ≡ seekOf (recordAt s Ranges) 0 (recordCount s Ranges) x → c ≡ afterRole (p .class) (q .class) → found.Class c (q .count) ≡ lookupOf s x
   searched p q c h e f g =
-      let u = ap (λ (z : Probe). z .class) e ∙ found-at s a Entries x .class in
-      let v = ap (λ (z : Probe). z .class) f ∙ found-at s a Ranges x .class in
+      let u = ap (λ (z : Probe). z .class) e ∙ found-at s a Entries x in
+      let v = ap (λ (z : Probe). z .class) f ∙ found-at s a Ranges x in
       let w = g ∙ (λ d. afterRole (u d) (v d)) ∙ sym (class-by-sections s x) in
       (λ d. found.Class (w d) (f d .count)) ∙ sym (scalar-class h)
 

@@ -22,7 +22,7 @@ use Rattle.lookup.specs.declared.Section.the-variants.{Ranges, Entries}
 use Rattle.lookup.specs.Records.{entryRange, recordAt, recordCount, sectionClass}
 use Rattle.lookup.specs.Placed.{Rising}
 use Rattle.lookup.specs.Halving.{seekOf}
-use Rattle.lookup.proofs.RisingLaws.{Sought, seek-all}
+use Rattle.lookup.proofs.RisingLaws.{seek-all}
 use Rattle.lookup.proofs.ClassLaws.{ranges-rise, class-known}
 
 -- the counts of an accepted image, and its length
@@ -77,7 +77,7 @@ module _ (s : List ℕ) (a : refusalOf s ≡ none) where
 
   -- what the search in a section finds
   pub found-at :
-      (section : Section) (x : ℕ) → Sought (recordAt s section) (recordCount s section) x (seekOf (recordAt s section) 0 (recordCount s section) x)
+      (section : Section) (x : ℕ) → seekOf (recordAt s section) 0 (recordCount s section) x .class ≡ classIn (recordAt s section) (recordCount s section) x
   found-at section x = seek-all (recordAt s section) (recordCount s section) (records-rise section) x
 
   -- classes in the ranges go to 5

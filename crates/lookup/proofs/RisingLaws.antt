@@ -1,4 +1,4 @@
--- Ranges that rise: at most one holds a number, its class is the number's, and the halving search finds it and its place.
+-- Ranges that rise: at most one holds a number, its class is the number's, and the halving search finds it.
 -- Good ranges rise, and so do profile entries (`RecordLaws.antt`). Assumes nothing.
 use Prim.Native.Nat.{ℕ, zero, suc, _+_, _-_, _/_, _≤_, _<_}
 use mathlib.Core.Path.{_≡_, refl, sym, subst, _∙_}
@@ -54,11 +54,6 @@ module _ (at : ℕ → Range) (n : ℕ) where
   pub class-cases : (x : ℕ) → HasClass at n x (classIn at n x)
   class-cases x = cases-by x _ refl (decLt _ n)
 
--- a search found the class of x, and its place
-pub record Sought (at : ℕ → Range) (n x : ℕ) (p : Probe) : Type 0 where
-  pub class : p .class ≡ classIn at n x
-  pub placed : Placed at n (p .place) x
-
 module _ (at : ℕ → Range) (n : ℕ) (up : Rising at n) where
   pub rise : (i j : ℕ) → i < j → j < n → at i .last < at j .first
   rise i zero h l = absurd (omega arith)
@@ -101,49 +96,34 @@ module _ (at : ℕ → Range) (n : ℕ) (up : Rising at n) where
       go j l a b (no s) e (yes t) = let r = rise i j t l in let o = up .ordered i (omega arith) in let w = q (omega arith) in omega arith
       go j l a b (no s) e (no t) = let z : j ≡ i = omega arith in let w = q (omega arith) in omega (arith, rw z at a)
 
-  -- the halving search finds the class of x, and its place
+  -- the halving search finds the class of x
   module _ (x : ℕ) where
     abbrev Ends : Probe → Type 0
-    Ends = Sought at n x
+    Ends p = p .class ≡ classIn at n x
 
     -- of any part of at most k ranges, where the range before it ends before x and the one after it begins after x
     abbrev Finds : ℕ → Type 0
     Finds k =
         (lo hi : ℕ) → hi - lo ≤ k → lo ≤ hi → hi ≤ n → (0 < lo → at (lo - 1) .last < x) → (hi < n → x < at hi .first) → Ends (seekOf at lo hi x)
 
-    step : (p : Probe) → Ends p → Ends (more p)
-    step p h = record { class = h .class; placed = h .placed }
-
     finds-none : Finds zero
     finds-none lo hi h l u p q =
         let e : hi ≡ lo = omega arith in
         let g : lo < n → x < at lo .first = rw e at q in
-        subst Ends (sym (seek-none at x lo hi (omega arith)))
-        (record {
-          class = sym (class-gap lo x (omega arith) p g);
-          placed = record { passed = record { within = omega arith; before = p }; reached = λ k. let a = g k in let o = up .ordered lo k in omega arith };
-        })
+        subst Ends (sym (seek-none at x lo hi (omega arith))) (sym (class-gap lo x (omega arith) p g))
 
     finds-step :
         (k : ℕ) → Finds k → (lo hi : ℕ) → hi - lo ≤ suc k → lo < hi → hi ≤ n → (0 < lo → at (lo - 1) .last < x) → (hi < n → x < at hi .first)
         → Dec (x < at ((lo + hi) / 2) .first) → Dec (at ((lo + hi) / 2) .last < x) → Ends (seekOf at lo hi x)
     finds-step k f lo hi h l u p q (yes a) d =
-        subst Ends (seek-low at x lo hi _ refl l _ refl a) (step _ (f lo ((lo + hi) / 2) (omega arith) (omega arith) (omega arith) p (λ _. a)))
+        subst Ends (seek-low at x lo hi _ refl l _ refl a) (f lo ((lo + hi) / 2) (omega arith) (omega arith) (omega arith) p (λ _. a))
     finds-step k f lo hi h l u p q (no a) (yes b) =
         let m = (lo + hi) / 2 in
         let z : m ≡ m + 1 - 1 = omega arith in
-        subst Ends (seek-high at x lo hi _ refl l _ refl (omega arith) b) (step _ (f (m + 1) hi (omega arith) (omega arith) u (λ _. rw z at b) q))
+        subst Ends (seek-high at x lo hi _ refl l _ refl (omega arith) b) (f (m + 1) hi (omega arith) (omega arith) u (λ _. rw z at b) q)
     finds-step k f lo hi h l u p q (no a) (no b) =
         let m = (lo + hi) / 2 in
-        subst Ends (seek-here at x lo hi _ refl l (omega arith) (omega arith))
-        (record {
-          class = sym (class-held m x (omega arith) (omega arith) (omega arith));
-          placed =
-              record {
-                passed = record { within = omega arith; before = λ o. let r = up .after m o (omega arith) in omega arith };
-                reached = λ _. omega arith;
-              };
-        })
+        subst Ends (seek-here at x lo hi _ refl l (omega arith) (omega arith)) (sym (class-held m x (omega arith) (omega arith) (omega arith)))
 
     finds : (k : ℕ) → Finds k
     finds zero lo hi h l u p q = finds-none lo hi h l u p q

@@ -37,12 +37,10 @@ pub enum Section {
     Entries,
 }
 
-// What the search finds: the class of the range that holds the code point, or 0; how many ranges it looked at; and the index
-// of that range or, where none holds the code point, of the first one after it.
+// What the search finds: the class of the range that holds the code point, or 0; and how many ranges it looked at.
 pub struct Probe {
     pub class: u32,
     pub count: usize,
-    pub place: usize,
 }
 
 // The answer of a lookup: the class after the profile, and how many ranges were looked at.
@@ -98,7 +96,6 @@ fn add_step(p: Probe) -> Probe
     Probe {
         class: p.class,
         count: p.count + 1,
-        place: p.place,
     }
 }
 
@@ -112,7 +109,6 @@ fn seek(image: &[u8], section: Section, lo: usize, hi: usize, x: u32) -> Probe
         return Probe {
             class: UNASSIGNED,
             count: 0,
-            place: lo,
         };
     }
     let mid = (lo + hi) / 2;
@@ -126,7 +122,6 @@ fn seek(image: &[u8], section: Section, lo: usize, hi: usize, x: u32) -> Probe
     Probe {
         class: range.class,
         count: 1,
-        place: mid,
     }
 }
 

@@ -1,0 +1,49 @@
+-- The place of a number among ranges, by halving, step by step. Assumes nothing.
+use Prim.Native.Nat.{ℕ, _+_, _-_, _/_, _≤_, _<_}
+use mathlib.Core.Path.{_≡_}
+use native.Mathlib.Omega.{arith}
+use Rattle.image.specs.declared.Range.{Range}
+use Rattle.lookup.specs.Placed.{Passed, Placed}
+
+module _ (at : ℕ → Range) (n x : ℕ) where
+  passed-next : (i : ℕ) (r : Range) → r ≡ at i → i < n → r .last < x → Passed at n (i + 1) x
+  passed-next i r e l h =
+      let z : i ≡ i + 1 - 1 = omega arith in
+      let k : at i .last < x = rw e at h in
+      record { within = omega arith; before = λ _. rw z at k }
+
+  -- the place of x is from lo to hi
+  pub record Between (lo hi : ℕ) : Type 0 where
+    pub ordered : lo ≤ hi
+    pub within : hi ≤ n
+    pub passed : Passed at n lo x
+    pub reached : hi < n → x ≤ at hi .last
+
+  pub between-begins : Between 0 n
+  between-begins =
+      record {
+        ordered = omega arith;
+        within = omega arith;
+        passed = record { within = omega arith; before = λ l. absurd (omega arith) };
+        reached = λ l. absurd (omega arith);
+      }
+
+  module _ (lo hi : ℕ) (b : Between lo hi) where
+    module _ (r : Range) (e : r ≡ at ((lo + hi) / 2)) (l : lo < hi) where
+      pub between-above : r .last < x → Between ((lo + hi) / 2 + 1) hi
+      between-above h =
+          let w = b .within in
+          record { ordered = omega arith; within = w; passed = passed-next ((lo + hi) / 2) r e (omega arith) h; reached = b .reached }
+
+      pub between-below : x ≤ r .last → Between lo ((lo + hi) / 2)
+      between-below h =
+          let k : x ≤ at ((lo + hi) / 2) .last = rw e at h in
+          let w = b .within in
+          record { ordered = omega arith; within = omega arith; passed = b .passed; reached = λ _. k }
+
+    pub between-placed : hi ≤ lo → Placed at n lo x
+    between-placed h =
+        let o = b .ordered in
+        let z : hi ≡ lo = omega arith in
+        let k : lo < n → x ≤ at lo .last = rw z at (b .reached) in
+        record { passed = b .passed; reached = k }
