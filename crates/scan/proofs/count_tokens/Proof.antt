@@ -84,9 +84,6 @@ settled c =
     let s = waits-here i (looked (c .before .before .before .before)) (c .before .if4 .taken) in
     counting-settles i (s .1) (s .0) (c .if5 .left)
 
-no-memo-requires : tie.Need-no-memo-requires Inv-loop μ-loop
-no-memo-requires c κs = search needs
-
 loop-holds : tie.Need-loop-holds Inv-loop μ-loop
 loop-holds c = (counting-begins _ _, c .no-memo .ensures _)
 
@@ -183,9 +180,6 @@ returns-4 c =
     let i = c .before .before .before .loop .inv .0 in
     ap Refused (c .refuse-at3 .ensures) ∙ counts-left i (settles-end i (c .before .before .loop-test .left)) (c .before .if6 .taken)
 
-count-pending-requires : tie.Need-count-pending-requires Inv-loop μ-loop
-count-pending-requires c κs = search needs
-
 add-all : tie.Need-add-all Inv-loop μ-loop
 add-all c =
     let f = pending-few (c .before .before .before .loop .inv .0) (c .before .before .loop-test .left) (c .before .if6 .left) in
@@ -203,7 +197,7 @@ count-tokens-spec =
     (tie.spec
     Inv-loop
     μ-loop
-    no-memo-requires
+    (λ c κs. search needs)
     loop-holds
     read-requires
     returns
@@ -226,6 +220,6 @@ count-tokens-spec =
     returns-3
     refuse-at-requires-3
     returns-4
-    count-pending-requires
+    (λ c κs. search needs)
     add-all
     returns-5)

@@ -1,5 +1,5 @@
 -- `scan::first_token` meets its contract. The loop's invariant: no token is complete. Assumes nothing.
-use Prim.Native.Nat.{_+_, _-_}
+use Prim.Native.Nat.{_-_}
 use mathlib.Core.Path.{refl, _∙_}
 use native.Mathlib.Omega.{arith}
 use borrow.Author.Needs.{needs}
@@ -44,9 +44,6 @@ looked c =
     let k = c .before .before .before .before .before .before .before .before .before .before in
     record { accepted = k .pre .0; here = stands (c .before .before); known = c .find-turn .ensures }
 
-no-memo-requires : tie.Need-no-memo-requires Inv-loop μ-loop
-no-memo-requires c κs = search needs
-
 loop-holds : tie.Need-loop-holds Inv-loop μ-loop
 loop-holds c = (searching-begins _ _, c .no-memo .ensures _)
 
@@ -57,9 +54,6 @@ read-requires c κs =
 
 returns : tie.Need-returns Inv-loop μ-loop
 returns c = first-ill (c .before .before .before .before .loop .inv .0) (c .before .before .read .ensures .none (c .before .if1 .taken)) (c .if2 .taken)
-
-end-first-requires : tie.Need-end-first-requires Inv-loop μ-loop
-end-first-requires c κs = search needs
 
 returns-2 : tie.Need-returns-2 Inv-loop μ-loop
 returns-2 c =
@@ -110,9 +104,6 @@ loop-again-2 c =
       k .read .ensures .memo,
     )
 
-end-first-requires-2 : tie.Need-end-first-requires-2 Inv-loop μ-loop
-end-first-requires-2 c κs = search needs
-
 returns-3 : tie.Need-returns-3 Inv-loop μ-loop
 returns-3 c =
     let k = c .before .before .before .before .before .before .before .before .before in
@@ -120,9 +111,6 @@ returns-3 c =
 
 returns-4 : tie.Need-returns-4 Inv-loop μ-loop
 returns-4 c = first-nothing (c .before .before .loop .inv .0) (c .before .loop-test .left) (c .if5 .taken)
-
-end-first-requires-3 : tie.Need-end-first-requires-3 Inv-loop μ-loop
-end-first-requires-3 c κs = search needs
 
 returns-5 : tie.Need-returns-5 Inv-loop μ-loop
 returns-5 c =
@@ -135,11 +123,11 @@ first-token-spec =
     (tie.spec
     Inv-loop
     μ-loop
-    no-memo-requires
+    (λ c κs. search needs)
     loop-holds
     read-requires
     returns
-    end-first-requires
+    (λ c κs. search needs)
     returns-2
     add-next
     find-turn-requires
@@ -149,8 +137,8 @@ first-token-spec =
     waiting-after-requires
     loop-less-2
     loop-again-2
-    end-first-requires-2
+    (λ c κs. search needs)
     returns-3
     returns-4
-    end-first-requires-3
+    (λ c κs. search needs)
     returns-5)

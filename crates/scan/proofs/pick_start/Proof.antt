@@ -10,11 +10,8 @@ here : (r start at : ℕ) → (r ≡ 0 → ⊥) → at ≡ startBy r start at
 here zero start at h = absurd (h refl)
 here (suc r) start at h = refl
 
-returns : tie.Need-returns
-returns c = search needs
-
 returns-2 : tie.Need-returns-2
 returns-2 c = here _ _ _ (c .if1 .left)
 
 pub pick-start-spec : {M : Type 1} → statement M
-pick-start-spec = tie.close (tie.spec returns returns-2)
+pick-start-spec = tie.close (tie.spec (λ c. search needs) returns-2)

@@ -17,24 +17,6 @@ formed :
     → textOf (drop (c .before .before .before .args .at) (c .before .before .before .args .text .now)) ≡ f
 formed c f e = ap textOf (sym (rest (c .before .before .before .args .text .now) (c .before .before .before .args .at))) ∙ sym (c .check-text .ensures) ∙ e
 
-sub-check-text : tie.Need-sub-check-text
-sub-check-text c = search needs
-
-part-check-text-start : tie.Need-part-check-text-start
-part-check-text-start c = search needs
-
-part-check-text-end : tie.Need-part-check-text-end
-part-check-text-end c = search needs
-
-check-text-requires : tie.Need-check-text-requires
-check-text-requires c κs = search needs
-
-enum-told : tie.Need-enum-told
-enum-told c = search needs
-
-enum-known-form : tie.Need-enum-known-form
-enum-known-form c = search needs
-
 add-t10 : tie.Need-add-t10
 add-t10 c =
     let s = c .before .before .before .before .before .before .args .text .now in
@@ -52,12 +34,12 @@ pub refuse-at-spec : {M : Type 1} → statement M
 refuse-at-spec =
     tie.close
     (tie.spec
-    sub-check-text
-    part-check-text-start
-    part-check-text-end
-    check-text-requires
-    enum-told
-    enum-known-form
+    (λ c. search needs)
+    (λ c. search needs)
+    (λ c. search needs)
+    (λ c κs. search needs)
+    (λ c. search needs)
+    (λ c. search needs)
     add-t10
     returns
     returns-2)

@@ -8,14 +8,8 @@ use borrow.Author.Needs.{needs}
 use Rattle.scan.proofs.state_after.Statement.{statement}
 use Rattle.scan.proofs.state_after.Tie as tie
 
-mul-result : tie.Need-mul-result
-mul-result c = search needs
-
-element-copy-out-result : tie.Need-element-copy-out-result
-element-copy-out-result c = search needs
-
 returns : tie.Need-returns
 returns c = ap (λ (xs : List ℕ). getD xs (c .before .args .traits) 0) (c .before .pre .0) ∙ after-at _ (c .before .pre .1)
 
 pub state-after-spec : {M : Type 1} → statement M
-state-after-spec = tie.close (tie.spec mul-result element-copy-out-result returns)
+state-after-spec = tie.close (tie.spec (λ c. search needs) (λ c. search needs) returns)

@@ -4,14 +4,8 @@ use borrow.Author.Needs.{needs}
 use Rattle.scan.proofs.waiting_after.Statement.{statement}
 use Rattle.scan.proofs.waiting_after.Tie as tie
 
-mul-result : tie.Need-mul-result
-mul-result c = search needs
-
-array-read-result : tie.Need-array-read-result
-array-read-result c = search needs
-
 returns : tie.Need-returns
 returns c = waiting-at _ (c .pre)
 
 pub waiting-after-spec : {M : Type 1} → statement M
-waiting-after-spec = tie.close (tie.spec mul-result array-read-result returns)
+waiting-after-spec = tie.close (tie.spec (λ c. search needs) (λ c. search needs) returns)
