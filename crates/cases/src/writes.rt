@@ -1,5 +1,5 @@
 // Writes image M of docs/RULES.md, reads it back, and gives the writer what it refuses.
-ghost use Prim.Native.Nat.{_≤_, _<_};
+ghost use Prim.Native.Nat.{_<_};
 use crate::build::VERSION;
 use crate::build::m;
 use image::Answer;

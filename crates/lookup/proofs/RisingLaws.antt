@@ -13,8 +13,8 @@ use Rattle.lists.proofs.FirstLaws.{first-is, first-none, first-holds, first-pas
 use Rattle.image.specs.Ranges.{holds, classIn}
 use Rattle.image.specs.declared.Range.{Range}
 use Rattle.lookup.specs.declared.Probe.{Probe}
-use Rattle.lookup.specs.Halving.{more, seekOf}
-use Rattle.lookup.specs.Placed.{Rising, Placed}
+use Rattle.lookup.specs.Halving.{seekOf}
+use Rattle.lookup.specs.Placed.{Rising}
 use Rattle.lookup.specs.Means as Means
 use Rattle.lookup.specs.Means.{HasClass, in-none}
 use Rattle.lookup.proofs.HalvingLaws.{seek-none, seek-low, seek-high, seek-here}

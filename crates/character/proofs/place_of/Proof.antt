@@ -1,6 +1,6 @@
 -- `character::place_of` meets its contract. The invariant: the place is from lo to hi. Assumes nothing.
 use Prim.Native.Nat.{_-_}
-use mathlib.Core.Path.{_≡_, sym}
+use mathlib.Core.Path.{_≡_}
 use mathlib.Core.Option.{none}
 use native.Mathlib.Omega.{arith}
 use Rattle.image.specs.Check.{refusalOf}
