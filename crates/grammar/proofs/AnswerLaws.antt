@@ -50,6 +50,3 @@ roomed-cases words (given ts) = go (ltb (roomOf words) (length ts)) refl
 
 pub roomed-given : (words : ℕ) (o : Outcome Tokens) (ts : Tokens) → roomed words o ≡ given ts → Roomed words o (given ts)
 roomed-given words o ts e = rw e at (roomed-cases words o)
-
-pub roomed-refused : (words : ℕ) (o : Outcome Tokens) (r : Refusal) → roomed words o ≡ refused r → Roomed words o (refused r)
-roomed-refused words o r e = rw e at (roomed-cases words o)
