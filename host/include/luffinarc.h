@@ -175,7 +175,8 @@ uint32_t luffinarc_part(const uint8_t *text, size_t text_len,
  * They must be given an image that luffinarc_check or luffinarc_read accepted, whose bytes have not changed since. With
  * any other they may read outside the image, and their answer means nothing. The safe Rust type `Image` sees to this.
  *
- * Answers and refusals are those of the function without `_checked`, 1 to 4 apart.
+ * Answers and refusals are those of the function without `_checked`, 1 to 4 apart. What they require is exactly what a
+ * result of 0 from luffinarc_check tells (law `zero-checked`, crates/luffinarc/proofs/CheckedLaws.antt).
  */
 uint32_t luffinarc_lookup_checked(const uint8_t *image, size_t image_len,
                                   uint32_t number, uint64_t *answer);

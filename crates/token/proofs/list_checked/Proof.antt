@@ -24,7 +24,8 @@ write-tokens-requires : tie.Need-write-tokens-requires
 write-tokens-requires c κs =
     let n = sym (c .before .before .before .before .counted2 .given .1) ∙ c .before .before .before .before .before .before .count-by .ensures in
     let a = c .before .before .before .before .before .before .before .before .before .before .before .before .pre in
-    (a, (c .before .before .before .before .before .before .before .before .fill-table .ensures, list-fits _ _ (c .before .before .before .before .before .before .before .before .before .before .before .before .args .out .now) a _ n (c .before .before .if1 .left)))
+    let b = c .before .before .before .before .before .before .before .before in
+    (a, (b .fill-table .ensures, list-fits _ _ (b .before .before .before .before .args .out .now) a _ n (c .before .before .if1 .left)))
 
 returns-2 : tie.Need-returns-2
 returns-2 c = list-refused _ _ _ (sym (c .before .counted .given .1) ∙ c .before .before .before .count-by .ensures)
@@ -34,7 +35,10 @@ same-length c = search needs
 
 returns-3 : tie.Need-returns-3
 returns-3 c =
-    let g = list-given _ _ (c .before .before .before .before .before .before .before .before .before .before .before .before .before .before .before .args .out .now) (c .before .before .before .before .before .before .before .before .before .before .before .before .before .before .before .pre) _ (sym (c .before .before .before .before .before .before .before .counted2 .given .1) ∙ c .before .before .before .before .before .before .before .before .before .count-by .ensures) (c .before .before .before .before .before .if1 .left) in
+    let b = c .before .before .before .before .before .before .before in
+    let start = b .before .before .before .before .before .before .before .before in
+    let counted = sym (b .counted2 .given .1) ∙ b .before .before .count-by .ensures in
+    let g = list-given _ _ (start .args .out .now) (start .pre) _ counted (c .before .before .before .before .before .if1 .left) in
     (g .0, c .before .before .write-tokens .ensures ∙ g .1)
 
 pub list-checked-spec : {M : Type 1} → statement M
