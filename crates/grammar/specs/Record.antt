@@ -12,9 +12,12 @@ pub record Record : Type 0 where
   pub start : ℕ
   pub end : ℕ
 
--- the words of a record, and how many they are
+-- the words of a token: the number of its kind, and its places; and how many they are
+abbrev pub tokenWords : ℕ → ℕ → ℕ → List ℕ
+tokenWords kind start end = kind ∷ start ∷ end ∷ []
+
 abbrev pub recordWords : Record → List ℕ
-recordWords r = kindNumber (r .kind) ∷ r .start ∷ r .end ∷ []
+recordWords r = tokenWords (kindNumber (r .kind)) (r .start) (r .end)
 
 abbrev pub recordSize : ℕ
 recordSize = 3

@@ -6,6 +6,7 @@ use native.Mathlib.Nat.{pow-suc}
 use native.Mathlib.Omega.{arith}
 use lib.Dec.{leb, ltb}
 use borrow.Author.Tests.{le-leb, lt-leb, lt-ltb, le-ltb, leb-false}
+use Rattle.image.specs.Limits.{maxRanges}
 use Rattle.image.specs.Ranges.{holds}
 use Rattle.image.specs.declared.Range.{Range}
 use Rattle.lookup.specs.declared.Probe.{Probe}
@@ -97,5 +98,5 @@ module _ (at : ℕ → Range) (x : ℕ) where
   seek-fits lo hi p e h = rw e (seek-count 64 lo hi (omega arith))
 
   -- at most 13 steps in at most 4,096 ranges
-  pub seek-thirteen : (n : ℕ) → n ≤ 4096 → seekOf at 0 n x .count ≤ 13
+  pub seek-thirteen : (n : ℕ) → n ≤ maxRanges → seekOf at 0 n x .count ≤ 13
   seek-thirteen n h = seek-count 13 0 n (omega arith)

@@ -22,8 +22,7 @@ use Rattle.grammar.specs.Reading.{readingOf, tokensOf}
 use Rattle.grammar.proofs.RecordLaws.{tokens-append}
 use Rattle.grammar.proofs.FewLaws.{few-tokens}
 use Rattle.grammar.proofs.StepLaws.{preceded-append, readFrom, meant, read-step, Settles, read-settles, read-finish}
-use Rattle.scan.specs.Turns.{waiting, waitingOf, turnOf, afterOf}
-use Rattle.scan.specs.Words.{startBy}
+use Rattle.scan.specs.Turns.{waiting, waitingOf, turnOf, afterOf, startBy}
 use Rattle.scan.proofs.TurnLaws.{Tokens, Under, L, Stands, doneBy, Going, Moved, Turned, turned, settled, Left, left}
 
 -- the characters from a place on

@@ -23,8 +23,7 @@ use Rattle.grammar.specs.Reading.{meaningOf}
 use Rattle.grammar.proofs.GrammarLaws.{white-means}
 use Rattle.grammar.proofs.RecordLaws.{width-append}
 use Rattle.grammar.proofs.StepLaws.{Settles}
-use Rattle.scan.specs.Words.{startBy}
-use Rattle.scan.specs.Turns.{numberBy, traitMeaning, waitingOf, Phase, nothing, within, waits, waiting, states, phaseNamed, begunBy, turnBy, turnOf, afterOf, pendingBy, pendingOf}
+use Rattle.scan.specs.Turns.{numberBy, traitMeaning, waitingOf, Phase, nothing, within, waits, waiting, states, phaseNamed, begunBy, turnBy, turnOf, afterOf, pendingBy, pendingOf, startBy}
 
 abbrev pub Tokens : Type 0
 Tokens = List (Tok Character Kind)

@@ -13,12 +13,11 @@ use Rattle.utf8.specs.Text.{widthOf}
 use Rattle.grammar.specs.Step.{idle, under, held, tok, underWay, settle, finish}
 use Rattle.grammar.specs.Grammar.{Kind}
 use Rattle.grammar.specs.Kinds.{kindOf}
-use Rattle.grammar.specs.Record.{recordSize, tokensWidth, recordsFrom, wordsOf, listedWords}
+use Rattle.grammar.specs.Record.{recordSize, tokensWidth, recordsFrom, wordsOf, listedWords, tokenWords}
 use Rattle.grammar.specs.Reading.{meaningOf, tokensOf}
 use Rattle.grammar.proofs.RecordLaws.{length-records, length-words, length-listed, listed-append}
 use Rattle.grammar.proofs.StepLaws.{Settles, readFrom, first-comes}
-use Rattle.scan.specs.Turns.{numberBy, waiting, states, waitingOf, afterOf}
-use Rattle.scan.specs.Words.{tokenWords, startBy}
+use Rattle.scan.specs.Turns.{numberBy, waiting, states, waitingOf, afterOf, startBy}
 use Rattle.scan.proofs.TurnLaws.{Tokens, Under, L, Stands, kind-less, stands-less, doneBy, Going}
 use Rattle.scan.proofs.ReachLaws.{charactersAt, Look, NoCharacter, Reached, reached-begins, After, tokens-come, after-settling, all-settled, settles-none, read-end, after-turn, after-waiting, settles-here, left-here}
 

@@ -1,4 +1,3 @@
 pub mod Turns
 pub mod Counted
-pub mod Words
 pub mod First

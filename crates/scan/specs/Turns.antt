@@ -61,6 +61,11 @@ afterOf t = cond (goesWith traitMeaning identifier t) (kindNumber identifier) (n
 unfoldable pub waitingOf : ℕ → ℕ
 waitingOf t = waiting + numberBy (kindOf traitMeaning t)
 
+-- where the token under way after a turn began: where it began before, or at this place
+abbrev pub startBy : ℕ → ℕ → ℕ → ℕ
+startBy zero start at = start
+startBy (suc r) start at = at
+
 -- how many tokens are pending where nothing follows: the one under way, and a medial that waits
 abbrev pub pendingBy : Phase → ℕ
 pendingBy nothing = 0

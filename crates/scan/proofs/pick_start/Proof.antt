@@ -2,7 +2,7 @@
 use Prim.Native.Nat.{ℕ, zero, suc}
 use mathlib.Core.Path.{_≡_, refl}
 use borrow.Author.Needs.{needs}
-use Rattle.scan.specs.Words.{startBy}
+use Rattle.scan.specs.Turns.{startBy}
 use Rattle.scan.proofs.pick_start.Statement.{statement}
 use Rattle.scan.proofs.pick_start.Tie as tie
 
