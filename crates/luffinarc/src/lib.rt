@@ -11,13 +11,16 @@ ghost use Rattle.image.specs.Check.{refusalOf, checkOf, readOf, wordsAfter};
 ghost use Rattle.writer.specs.Write.{writeOf, bytesAfter};
 ghost use Rattle.lookup.specs.Lookup.{lookupOf};
 ghost use Rattle.pair.specs.Pair.{pairOf};
+ghost use Rattle.lookup.specs.declared.Section.the-variants.{Ranges, Entries};
+ghost use Rattle.changes.specs.Changes.{answerOf, bufferAfter};
 ghost use Rattle.grammar.specs.Reading.{countOf, listOf, listWords};
 ghost use Rattle.scan.specs.Counted.{countedBy};
 ghost use Rattle.token.specs.Taken.{takenOf};
 ghost use Rattle.part.specs.Part.{partOf, partBytes};
 ghost use Rattle.luffinarc.specs.Reply.{Tells, refusesOf};
-ghost use Rattle.luffinarc.specs.ImageReply.{TellsChecked, foundReply, writtenReply, pairReply};
+ghost use Rattle.luffinarc.specs.ImageReply.{TellsChecked, foundReply, writtenReply, pairReply, changesReply};
 ghost use Rattle.luffinarc.specs.TokenReply.{countedReply, takenReply, partReply, toldPart};
+use changes::Changes;
 use image::Answer;
 use image::Checked;
 use image::MAX_ENTRIES;
@@ -202,6 +205,40 @@ pub extern "C" fn luffinarc_pair(older: &[u8], newer: &[u8], answer: &mut [u64; 
 {
     let pair = pair::check_pair(older, newer);
     tell_pair(pair, answer)
+}
+
+// Tells what the list of changes gave.
+fn tell_changes(c: Changes, answer: &mut [u64; 4]) -> u32
+    ensures { λ n. ⌜ Tells (changesReply c) n (now (answer .exit)) ⌝ }
+{
+    match c {
+        Changes::Older(r) => refuse(r, 1, answer),
+        Changes::Newer(r) => refuse(r, 2, answer),
+        Changes::Refused(r) => refuse(r, 0, answer),
+        Changes::Listed { runs, entries } => {
+            put(answer, runs as u64, entries as u64, 0, 0);
+            0
+        }
+    }
+}
+
+// Lists what changed between two images: runs of scalar values with another class in the ranges, four words each, and
+// profile entries with another role, three words each. Answer: the numbers of runs and of entries. A refusal tells at
+// index 2 which image it is of: 1 the older, 2 the newer, 0 neither.
+#[no_mangle]
+pub extern "C" fn luffinarc_changes(
+    older: &[u8],
+    newer: &[u8],
+    runs: &mut [u32],
+    entries: &mut [u32],
+    answer: &mut [u64; 4],
+) -> u32
+    ensures { λ n. ⌜ Tells (changesReply (answerOf (now (older .entry)) (now (newer .entry)) (length (now (runs .entry))) (length (now (entries .entry))))) n (now (answer .exit)) ⌝ }
+    ensures { λ _. ⌜ now (runs .exit) ≡ bufferAfter Ranges (now (older .entry)) (now (newer .entry)) (answerOf (now (older .entry)) (now (newer .entry)) (length (now (runs .entry))) (length (now (entries .entry)))) (now (runs .entry)) ⌝ }
+    ensures { λ _. ⌜ now (entries .exit) ≡ bufferAfter Entries (now (older .entry)) (now (newer .entry)) (answerOf (now (older .entry)) (now (newer .entry)) (length (now (runs .entry))) (length (now (entries .entry)))) (now (entries .entry)) ⌝ }
+{
+    let listed = changes::list_changes(older, newer, runs, entries);
+    tell_changes(listed, answer)
 }
 
 // Tells what counting or writing the list gave.

@@ -1,6 +1,5 @@
 pub mod ChangeLaws
-pub mod WalkLaws
 pub mod ForbidLaws
-pub mod JudgedLaws
+pub mod BothLaws
 pub mod ProfileLaws
 pub mod PairLaws

@@ -23,6 +23,7 @@ use Rattle.image.specs.Check.{refusalOf, rangeClass}
 use Rattle.image.specs.Accepted.{Accepted}
 use Rattle.image.proofs.ImageLaws.{accepted, refused-none, refusal-means, means-refusal}
 use Rattle.lookup.proofs.ClassLaws.{class-known}
+use Rattle.compare.specs.Judged.{judgedBy}
 use Rattle.pair.specs.Change.{permitted}
 use Rattle.pair.specs.Means.{
   PermittedAt,
@@ -142,7 +143,7 @@ module _ (older newer : List ℕ) where
     unfolding pairOf
     compared = simp (refused-none older a, refused-none newer b)
 
-  means-by : (o p : Option Refusal) → refusalOf older ≡ o → refusalOf newer ≡ p → PairMeans older newer (pairBy older newer o p)
+  means-by : (o p : Option Refusal) → refusalOf older ≡ o → refusalOf newer ≡ p → PairMeans older newer (pairBy older newer (judgedBy o p))
   unfolding comparedOf
   means-by (some r) p e f = bad-older (refusal-means older (some r) e)
   means-by none (some r) e f = bad-newer (accepted older e) (refusal-means newer (some r) f)

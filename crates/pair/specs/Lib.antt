@@ -1,5 +1,4 @@
 pub mod Change
-pub mod Walk
 pub mod Pair
-pub mod Judged
+pub mod Both
 pub mod Means

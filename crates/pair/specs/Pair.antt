@@ -2,16 +2,17 @@
 use Prim.Native.Nat.{ℕ, _+_}
 use mathlib.Core.List.{List}
 use mathlib.Core.Bool.{Bool, not, _&&_, _||_, cond}
-use mathlib.Core.Option.{Option, none, some}
 use lib.Dec.{ltb, eqb}
 use Rattle.lists.specs.First.{firstWhere}
 use Rattle.utf8.specs.Scalar.{isScalar}
-use Rattle.refusal.specs.declared.Refusal.{Refusal}
 use Rattle.refusal.specs.declared.Refusal.the-variants as refusal
 use Rattle.image.specs.Limits.{lastCodePoint}
 use Rattle.image.specs.Header.{entryCount}
 use Rattle.image.specs.Profile.{pointAt, roleAt}
 use Rattle.image.specs.Check.{refusalOf, rangeClass}
+use Rattle.compare.specs.declared.Judged.{Judged}
+use Rattle.compare.specs.declared.Judged.the-variants as judged
+use Rattle.compare.specs.Judged.{judgedBy}
 use Rattle.pair.specs.Change.{permitted}
 use Rattle.pair.specs.declared.Pair.{Pair}
 use Rattle.pair.specs.declared.Pair.the-variants as pair
@@ -47,11 +48,11 @@ comparedOf older newer =
     (cond (ltb (firstForbidden older newer) codePoints) (pair.Refused (refusal.Change (firstForbidden older newer))) pair.Permitted)
     (pair.Refused refusal.Profiles)
 
-abbrev pub pairBy : List ℕ → List ℕ → Option Refusal → Option Refusal → Pair
-pairBy older newer (some r) o = pair.Older r
-pairBy older newer none (some r) = pair.Newer r
-pairBy older newer none none = comparedOf older newer
+abbrev pub pairBy : List ℕ → List ℕ → Judged → Pair
+pairBy older newer (judged.Older r) = pair.Older r
+pairBy older newer (judged.Newer r) = pair.Newer r
+pairBy older newer judged.Accepted = comparedOf older newer
 
 -- the older image is judged wholly, then the newer, then the pair
 unfoldable pub pairOf : List ℕ → List ℕ → Pair
-pairOf older newer = pairBy older newer (refusalOf older) (refusalOf newer)
+pairOf older newer = pairBy older newer (judgedBy (refusalOf older) (refusalOf newer))

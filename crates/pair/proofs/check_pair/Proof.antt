@@ -1,18 +1,25 @@
 -- `pair::check_pair` meets its contract. Assumes nothing.
-use Rattle.image.proofs.ImageLaws.{refused-by, accepted-by}
+use mathlib.Core.Path.{sym, _∙_}
+use Rattle.compare.proofs.JudgedLaws.{both-accepted}
 use Rattle.pair.specs.Pair.{pairOf}
 use borrow.Author.Needs.{needs}
 use Rattle.pair.proofs.check_pair.Statement.{statement}
 use Rattle.pair.proofs.check_pair.Tie as tie
 
-judge-newer-requires : tie.Need-judge-newer-requires
-judge-newer-requires c κs =
-    let t = accepted-by _ _ (c .before .before .before .judge .ensures) _ _ (c .before .answer2 .given .1) in
-    (t .0, t .2)
+compare-accepted-requires : tie.Need-compare-accepted-requires
+compare-accepted-requires c κs = both-accepted _ _ _ (c .before .before .judge-both .ensures) (c .enum-told .given .1)
 
 returns : tie.Need-returns
 unfolding pairOf
-returns c = simp (refused-by _ _ (c .before .before .before .judge .ensures) _ (c .before .answer .given .1))
+returns c = simp (sym (c .before .before .before .judge-both .ensures) ∙ c .before .judged .given .1)
+
+returns-2 : tie.Need-returns-2
+unfolding pairOf
+returns-2 c = simp (sym (c .before .before .before .judge-both .ensures) ∙ c .before .judged2 .given .1)
+
+returns-3 : tie.Need-returns-3
+unfolding pairOf
+returns-3 c = c .compare-accepted .ensures ∙ simp (sym (c .before .before .before .judge-both .ensures) ∙ c .before .enum-told .given .1)
 
 pub check-pair-spec : {M : Type 1} → statement M
 check-pair-spec =
@@ -21,6 +28,8 @@ check-pair-spec =
     (λ c κs. search needs)
     (λ c. search needs)
     (λ c. search needs)
-    judge-newer-requires
+    (λ c. search needs)
+    compare-accepted-requires
     returns
-    (λ c. search needs))
+    returns-2
+    returns-3)

@@ -12,7 +12,7 @@ use Rattle.image.specs.Header.{rangeCount, entriesAt}
 use Rattle.image.specs.Check.{refusalOf}
 
 -- two accepted images, of n and m ranges
-pub record Judged (older newer : List ℕ) (n m : ℕ) : Type 0 where
+pub record BothAccepted (older newer : List ℕ) (n m : ℕ) : Type 0 where
   pub older-accepted : refusalOf older ≡ none
   pub newer-accepted : refusalOf newer ≡ none
   pub older-ranges : n ≡ rangeCount older

@@ -1,4 +1,4 @@
--- What two accepted images give a walk over their ranges and a comparison of their profiles. Assumes nothing.
+-- What two accepted images give a comparison of their profiles. Assumes nothing.
 use Prim.Native.Nat.{ℕ, _≤_}
 use mathlib.Core.Path.{_≡_}
 use mathlib.Core.List.{List}
@@ -9,18 +9,7 @@ use Rattle.image.specs.Limits.{maxRanges, maxEntries}
 use Rattle.image.specs.Header.{rangeCount, entryCount, entriesAt, imageEnd}
 use Rattle.image.specs.Check.{refusalOf}
 use Rattle.image.proofs.ImageLaws.{accepted, accepted-size}
-use Rattle.pair.specs.Walk.{Walk}
-use Rattle.pair.specs.Judged.{Judged, EntriesFrom}
-
--- the walk begins at code point 0
-pub walk-begins : (s : List ℕ) (n : ℕ) → refusalOf s ≡ none → n ≡ rangeCount s → Walk s n 0 0
-walk-begins s n e p =
-    let z = accepted-size s e in
-    record {
-      room = omega arith;
-      good = rw p (accepted s e .ranges);
-      place = record { passed = record { within = omega arith; before = λ l. absurd (omega arith) }; reached = λ l. omega arith };
-    }
+use Rattle.pair.specs.Both.{BothAccepted, EntriesFrom}
 
 -- the header, n ranges and the entries fill an image
 pub record Filled (s : List ℕ) (n : ℕ) : Type 0 where
@@ -33,7 +22,7 @@ filled s n e p =
     let h = accepted s e .header in
     record { size = rw p (accepted-size s e); few-ranges = omega arith; few-entries = h .few-entries }
 
-pub fill : {older newer : List ℕ} {n m : ℕ} → Judged older newer n m → Filled older n × Filled newer m
+pub fill : {older newer : List ℕ} {n m : ℕ} → BothAccepted older newer n m → Filled older n × Filled newer m
 fill j = (filled _ _ (j .older-accepted) (j .older-ranges), filled _ _ (j .newer-accepted) (j .newer-ranges))
 
 -- where the profile entries begin

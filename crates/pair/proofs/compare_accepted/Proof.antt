@@ -1,10 +1,10 @@
--- `pair::compare` meets its contract. Assumes nothing.
+-- `pair::compare_accepted` meets its contract. Assumes nothing.
 use mathlib.Core.Path.{sym, _∙_}
 use borrow.Author.Tests.{lt-ltb, le-ltb}
 use Rattle.pair.specs.Pair.{comparedOf}
 use borrow.Author.Needs.{needs}
-use Rattle.pair.proofs.compare.Statement.{statement}
-use Rattle.pair.proofs.compare.Tie as tie
+use Rattle.pair.proofs.compare_accepted.Statement.{statement}
+use Rattle.pair.proofs.compare_accepted.Tie as tie
 
 returns : tie.Need-returns
 unfolding comparedOf
@@ -22,10 +22,12 @@ returns-3 : tie.Need-returns-3
 unfolding comparedOf
 returns-3 c = simp (sym (c .before .has-same-profile .ensures) ∙ c .if1 .left)
 
-pub compare-spec : {M : Type 1} → statement M
-compare-spec =
+pub compare-accepted-spec : {M : Type 1} → statement M
+compare-accepted-spec =
     tie.close
     (tie.spec
+    (λ c κs. search needs)
+    (λ c κs. search needs)
     (λ c κs. search needs)
     (λ c κs. search needs)
     (λ c. search needs)

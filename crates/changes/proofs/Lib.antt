@@ -1,0 +1,8 @@
+pub mod StepLaws
+pub mod LoopLaws
+pub mod BoundLaws
+pub mod RoomLaws
+pub mod ChangeListLaws
+pub mod ProfileLaws
+pub mod ChangesLaws
+pub mod AnswerLaws

@@ -1,0 +1,72 @@
+-- The room for the lists of changes, and the answers that it leads to. Assumes nothing.
+use Prim.Native.Nat.{ℕ, _*_, _/_, _≤_, _<_}
+use mathlib.Core.Path.{_≡_, refl, sym, _∙_}
+use mathlib.Core.Bool.{Bool, true, false}
+use mathlib.Core.List.{List}
+use native.Mathlib.Omega.{arith}
+use lib.Dec.{ltb}
+use lib.ListN.{length}
+use borrow.Author.Tests.{lt-ltb, le-ltb, ltb-true, ltb-false}
+use Rattle.refusal.specs.declared.Refusal.the-variants as refusal
+use Rattle.lookup.specs.declared.Section.{Section}
+use Rattle.lookup.specs.declared.Section.the-variants.{Ranges, Entries}
+use Rattle.changes.specs.ChangeList.{runsOf, entriesOf}
+use Rattle.changes.specs.Changes.{changeSize, listedOf}
+use Rattle.changes.specs.Walked.{missingOf}
+use Rattle.changes.specs.declared.Changes.the-variants as changes
+
+-- a number of changes that is missing is the number there is, and it is above the room
+pub record Missing (room count k : ℕ) : Type 0 where
+  pub above : room < count
+  pub all : k ≡ count
+
+pub missing : (room count : ℕ) {k : ℕ} → k ≡ missingOf room count → (k ≡ 0 → ⊥) → Missing room count k
+missing room count {k} e f = go (ltb room count) refl
+  where
+    go : (b : Bool) → ltb room count ≡ b → Missing room count k
+    go true t = record { above = ltb-true _ _ t; all = e ∙ simp t }
+    go false t = absurd (f (e ∙ simp t))
+
+-- where none is missing there is room
+pub none-missing : (room count : ℕ) {k : ℕ} → k ≡ missingOf room count → k ≡ 0 → count ≤ room
+none-missing room count {k} e f = go (ltb room count) refl
+  where
+    go : (b : Bool) → ltb room count ≡ b → count ≤ room
+    go true t = let z : k ≡ count = e ∙ simp t in omega (arith, ltb-true room count t)
+    go false t = ltb-false _ _ t
+
+-- and the words suffice
+pub words-suffice :
+    (section : Section) (words count : ℕ) {k : ℕ} → k ≡ missingOf (words / changeSize section) count → k ≡ 0 → changeSize section * count ≤ words
+words-suffice Ranges words count e f = let l = none-missing (words / 4) count e f in omega arith
+words-suffice Entries words count e f = let l = none-missing (words / 3) count e f in omega arith
+
+-- and back
+pub all-missing : (room count : ℕ) → room < count → count ≡ missingOf room count
+all-missing room count l = sym (simp (lt-ltb room count l))
+
+pub missing-none : (room count : ℕ) → count ≤ room → 0 ≡ missingOf room count
+missing-none room count l = sym (simp (le-ltb room count l))
+
+-- the answers for two accepted images
+module _ (older newer : List ℕ) (words more : ℕ) where
+  abbrev runs : ℕ
+  runs = length (runsOf older newer)
+
+  abbrev entries : ℕ
+  entries = length (entriesOf older newer)
+
+  pub lacks-runs : words / changeSize Ranges < runs → listedOf older newer words more ≡ changes.Refused (refusal.Room runs)
+  unfolding listedOf
+  lacks-runs l = simp (lt-ltb _ _ l)
+
+  pub lacks-entries :
+      runs ≤ words / changeSize Ranges → more / changeSize Entries < entries
+      → listedOf older newer words more ≡ changes.Refused (refusal.Room entries)
+  unfolding listedOf
+  lacks-entries l u = simp (le-ltb _ _ l, lt-ltb _ _ u)
+
+  pub lists-both :
+      runs ≤ words / changeSize Ranges → entries ≤ more / changeSize Entries → listedOf older newer words more ≡ changes.Listed runs entries
+  unfolding listedOf
+  lists-both l u = simp (le-ltb _ _ l, le-ltb _ _ u)

@@ -1,0 +1,55 @@
+-- `changes::count_missing` meets its contract. Assumes nothing.
+use Prim.Native.Nat.{ℕ, _≤_}
+use mathlib.Core.Path.{_∙_}
+use native.Mathlib.Omega.{arith}
+use borrow.Author.Needs.{needs}
+use lib.ListN.{length}
+use Rattle.lookup.proofs.RecordLaws.{few-records}
+use Rattle.changes.specs.Changes.{changesOf}
+use Rattle.changes.proofs.BoundLaws.{few-changes}
+use Rattle.changes.proofs.RoomLaws.{all-missing, missing-none}
+use Rattle.changes.proofs.count_missing.Statement.{statement}
+use Rattle.changes.proofs.count_missing.Tie as tie
+
+-- the number of changes
+abbrev changes : tie.Start → ℕ
+changes s = length (changesOf (s .args .section) (s .args .older .now) (s .args .newer .now))
+
+-- both counts are small
+few : (c : tie.After-count-records2) → (c .before .count-records .result ≤ 4096) × (c .count-records2 .result ≤ 4096)
+few c =
+    let s = c .before .before .before .before in
+    (omega (arith, c .before .count-records .ensures, few-records _ (s .pre .0) (s .args .section)),
+    omega (arith, c .count-records2 .ensures, few-records _ (s .pre .1) (s .args .section)))
+
+add-if1 : tie.Need-add-if1
+add-if1 c = let f = few c in omega arith
+
+mul-if1 : tie.Need-mul-if1
+mul-if1 c = let f = few c in omega arith
+
+returns : tie.Need-returns
+returns c =
+    let b = c .before in
+    let s = b .before .before .before .before in
+    let l = few-changes (s .args .section) _ _ (s .pre .0) (s .pre .1) in
+    let n = b .before .count-records .ensures in
+    let m = b .count-records2 .ensures in
+    let h = c .if1 .taken in
+    missing-none (s .args .room) (changes s) (omega arith)
+
+returns-2 : tie.Need-returns-2
+returns-2 c =
+    let s = c .before .before .before .before .before .before .before in
+    let e = c .before .count-changes .ensures in
+    e ∙ all-missing (s .args .room) (changes s) (omega (arith, c .if2 .taken))
+
+returns-3 : tie.Need-returns-3
+returns-3 c =
+    let s = c .before .before .before .before .before .before .before in
+    let e = c .before .count-changes .ensures in
+    missing-none (s .args .room) (changes s) (omega (arith, c .if2 .left))
+
+pub count-missing-spec : {M : Type 1} → statement M
+count-missing-spec =
+    tie.close (tie.spec (λ c κs. search needs) (λ c κs. search needs) add-if1 mul-if1 returns (λ c κs. search needs) returns-2 returns-3)

@@ -1,0 +1,54 @@
+-- A change, and what the list of the changes between two functions of a number is, apart from any way to find it
+-- (docs/RULES.md, "What changed"). The functions are the classes in the ranges of two images, or the roles in their profiles.
+use Prim.Native.Nat.{ℕ, _+_, _≤_, _<_}
+use mathlib.Core.Path.{_≡_}
+use mathlib.Core.Bool.{true}
+use mathlib.Core.List.{List, [], _∷_, List·Memᴰ}
+use Rattle.utf8.specs.Scalar.{isScalar}
+
+-- the numbers from first to last, and the older and the newer value of each
+pub record Change : Type 0 where
+  pub first : ℕ
+  pub last : ℕ
+  pub older : ℕ
+  pub newer : ℕ
+
+-- x is one of its numbers
+pub record Holds (c : Change) (x : ℕ) : Type 0 where
+  pub from : c .first ≤ x
+  pub to : x ≤ c .last
+
+-- each change of a list, and each two that are neighbours in it
+abbrev pub Each : (Change → Type 0) → List Change → Type 0
+Each P l = (c : Change) → List·Memᴰ c l → P c
+
+pub data Neighbours (R : Change → Change → Type 0) : List Change → Type 0 where
+  empty : Neighbours R []
+  one : {c : Change} → Neighbours R (c ∷ [])
+  two : {c d : Change} {l : List Change} → R c d → Neighbours R (d ∷ l) → Neighbours R (c ∷ d ∷ l)
+
+module _ (f g : ℕ → ℕ) where
+  -- the numbers of a change are scalar values that have its two values, which differ, and there is at least one
+  pub record Changed (c : Change) : Type 0 where
+    pub some : c .first ≤ c .last
+    pub scalar : (x : ℕ) → Holds c x → isScalar x ≡ true
+    pub older-is : (x : ℕ) → Holds c x → f x ≡ c .older
+    pub newer-is : (x : ℕ) → Holds c x → g x ≡ c .newer
+    pub differ : c .older ≡ c .newer → ⊥
+
+  -- every scalar value whose values differ is in a change, every number of a change is such a scalar value, and the changes rise;
+  -- so each is in exactly one
+  pub record AllChanges (l : List Change) : Type 0 where
+    pub told : Each Changed l
+    pub covered : (x : ℕ) → isScalar x ≡ true → (f x ≡ g x → ⊥) → (c : Change) × List·Memᴰ c l × Holds c x
+    pub rises : Neighbours (λ (c d : Change). c .last < d .first) l
+
+  -- runs: changes as long as they can be. Of two neighbours that touch, one has another older or newer value.
+  pub record Runs (l : List Change) : Type 0 where
+    pub all : AllChanges l
+    pub whole : Neighbours (λ (c d : Change). c .last + 1 ≡ d .first → c .older ≡ d .older → c .newer ≡ d .newer → ⊥) l
+
+  -- changes of one number each
+  pub record Singles (l : List Change) : Type 0 where
+    pub all : AllChanges l
+    pub alone : Each (λ (c : Change). c .first ≡ c .last) l

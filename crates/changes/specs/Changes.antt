@@ -1,0 +1,66 @@
+-- What the list of changes answers, and what the two lent buffers then hold (docs/RULES.md, "What changed"; refusals 1 to 4 and 8).
+use Prim.Native.Nat.{ℕ, _/_}
+use mathlib.Core.Bool.{cond}
+use mathlib.Core.List.{List, [], _∷_, _++_}
+use lib.ListN.{length}
+use lib.Dec.{ltb}
+use Rattle.lists.specs.Laid.{laid}
+use Rattle.refusal.specs.declared.Refusal.the-variants as refusal
+use Rattle.image.specs.Check.{refusalOf}
+use Rattle.lookup.specs.declared.Section.{Section}
+use Rattle.lookup.specs.declared.Section.the-variants.{Ranges, Entries}
+use Rattle.compare.specs.declared.Judged.{Judged}
+use Rattle.compare.specs.declared.Judged.the-variants as judged
+use Rattle.compare.specs.Judged.{judgedBy}
+use Rattle.changes.specs.Change.{Change}
+use Rattle.changes.specs.ChangeList.{runsOf, entriesOf}
+use Rattle.changes.specs.declared.Changes.{Changes}
+use Rattle.changes.specs.declared.Changes.the-variants as changes
+
+-- the list of each section, the words of a change in it, and how many they are:
+-- of a run first, last, older class, newer class; of an entry code point, older role, newer role
+abbrev pub changesOf : Section → List ℕ → List ℕ → List Change
+changesOf Ranges = runsOf
+changesOf Entries = entriesOf
+
+abbrev pub changeWords : Section → Change → List ℕ
+changeWords Ranges c = c .first ∷ c .last ∷ c .older ∷ c .newer ∷ []
+changeWords Entries c = c .first ∷ c .older ∷ c .newer ∷ []
+
+abbrev pub changeSize : Section → ℕ
+changeSize Ranges = 4
+changeSize Entries = 3
+
+-- the words of a list, one change after the other
+abbrev pub listWords : Section → List Change → List ℕ
+listWords section [] = []
+listWords section (c ∷ l) = changeWords section c ++ listWords section l
+
+-- the lists of two accepted images: 8 for the runs, then 8 for the entries, with the records needed
+unfoldable pub listedOf : List ℕ → List ℕ → ℕ → ℕ → Changes
+listedOf older newer runWords entryWords =
+    let runs = length (runsOf older newer) in
+    let entries = length (entriesOf older newer) in
+    cond (ltb (runWords / changeSize Ranges) runs) (changes.Refused (refusal.Room runs))
+    (cond (ltb (entryWords / changeSize Entries) entries) (changes.Refused (refusal.Room entries)) (changes.Listed runs entries))
+
+abbrev pub changesBy : Judged → Changes → Changes
+changesBy (judged.Older r) c = changes.Older r
+changesBy (judged.Newer r) c = changes.Newer r
+changesBy judged.Accepted c = c
+
+-- the answer, with buffers of so many words
+unfoldable pub answerOf : List ℕ → List ℕ → ℕ → ℕ → Changes
+answerOf older newer runWords entryWords =
+    changesBy (judgedBy (refusalOf older) (refusalOf newer)) (listedOf older newer runWords entryWords)
+
+-- what a buffer then holds: the list at its front, and past it what was there; a refusal leaves it as it was
+abbrev pub wordsBy : Changes → List ℕ → List ℕ → List ℕ
+wordsBy (changes.Older r) out words = out
+wordsBy (changes.Newer r) out words = out
+wordsBy (changes.Refused r) out words = out
+wordsBy (changes.Listed n m) out words = laid out 0 words
+
+-- the two buffers: `answer` is the call's
+abbrev pub bufferAfter : Section → List ℕ → List ℕ → Changes → List ℕ → List ℕ
+bufferAfter section older newer answer out = wordsBy answer out (listWords section (changesOf section older newer))

@@ -1,0 +1,28 @@
+-- The list of changes as the walk over two images finds it, for the inner functions (docs/RULES.md, "What changed").
+use Prim.Native.Nat.{ℕ, _-_}
+use mathlib.Core.Bool.{Bool, true, false, cond}
+use mathlib.Core.List.{List}
+use lib.Dec.{ltb}
+use Rattle.lookup.specs.declared.Section.{Section}
+use Rattle.lookup.specs.declared.Section.the-variants.{Ranges, Entries}
+use Rattle.lookup.specs.Records.{sectionClass}
+use Rattle.compare.specs.declared.Step.{Step}
+use Rattle.changes.specs.Change.{Change}
+use Rattle.changes.specs.ChangeList.{changesFrom, codePoints}
+
+-- the change of a step that begins at x
+abbrev pub changeOf : ℕ → Step → Change
+changeOf x r = record { first = x; last = r .last; older = r .older .class; newer = r .newer .class }
+
+-- whether neighbours with the same two values are one change: classes are, roles are not
+abbrev pub areRuns : Section → Bool
+areRuns Ranges = true
+areRuns Entries = false
+
+-- the changes of the code points from x on
+unfoldable pub restOf : Section → List ℕ → List ℕ → ℕ → List Change
+restOf section older newer x = changesFrom (sectionClass older section) (sectionClass newer section) (areRuns section) (codePoints - x) x
+
+-- so many changes where there is room for fewer, else 0
+abbrev pub missingOf : ℕ → ℕ → ℕ
+missingOf room count = cond (ltb room count) count 0

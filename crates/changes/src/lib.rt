@@ -1,0 +1,171 @@
+// The list of what changed between two class images: runs of scalar values whose class in the ranges differs, and profile
+// entries that were added, removed or given another role.
+ghost use mathlib.Core.Path.{_≡_};
+ghost use mathlib.Core.Option.{none};
+ghost use Prim.Native.Nat.{_*_, _≤_};
+ghost use lib.ListN.{length};
+ghost use Rattle.lists.specs.Laid.{laid};
+ghost use Rattle.image.specs.Check.{refusalOf};
+ghost use Rattle.lookup.specs.declared.Section.the-variants.{Ranges, Entries};
+ghost use Rattle.changes.specs.Changes.{changesOf, changeWords, changeSize, listWords, listedOf, answerOf, bufferAfter};
+ghost use Rattle.changes.specs.Walked.{changeOf, missingOf};
+use compare::CODE_POINTS;
+use compare::Judged;
+use compare::Step;
+use lookup::Section;
+use refusal::Refusal;
+
+// The words of a run and of an entry in their lists.
+pub const RUN_WORDS: usize = 4;
+
+pub const ENTRY_WORDS: usize = 3;
+
+// The answer: refusals 1 to 4 of the older image, or of the newer; refusal 8; or the lengths of the two lists.
+pub enum Changes {
+    Older(Refusal),
+    Newer(Refusal),
+    Refused(Refusal),
+    Listed { runs: usize, entries: usize },
+}
+
+// The words of a change in the list of a section.
+fn size_of(section: Section) -> usize
+    ensures { λ r. ⌜ r ≡ changeSize section ⌝ }
+{
+    match section {
+        Section::Ranges => RUN_WORDS,
+        Section::Entries => ENTRY_WORDS,
+    }
+}
+
+// Writes the change that begins at code point x at the front of a buffer.
+fn put_change(out: &mut [u32], section: Section, x: u32, t: Step)
+    requires { ⌜ changeSize section ≤ length (now out) ⌝ }
+    ensures { λ _. ⌜ now (out .exit) ≡ laid (now (out .entry)) 0 (changeWords section (changeOf x t)) ⌝ }
+{
+    match section {
+        Section::Ranges => {
+            out[0] = x;
+            out[1] = t.last;
+            out[2] = t.older.class;
+            out[3] = t.newer.class;
+        }
+        Section::Entries => {
+            out[0] = x;
+            out[1] = t.older.class;
+            out[2] = t.newer.class;
+        }
+    }
+}
+
+// The number of changes in a section of two accepted images.
+fn count_changes(older: &[u8], newer: &[u8], section: Section) -> usize
+    requires { ⌜ refusalOf (now older) ≡ none ⌝ }
+    requires { ⌜ refusalOf (now newer) ≡ none ⌝ }
+    ensures { λ r. ⌜ r ≡ length (changesOf section (now (older .entry)) (now (newer .entry))) ⌝ }
+{
+    let n = lookup::count_records(older, section);
+    let m = lookup::count_records(newer, section);
+    let mut x: u32 = 0;
+    let mut a = compare::look_ahead(older, section, n, 0, 0);
+    let mut b = compare::look_ahead(newer, section, m, 0, 0);
+    let mut count: usize = 0;
+    while x < CODE_POINTS {
+        let t = compare::walk_step(older, newer, section, n, m, a, b, x);
+        if t.older.class != t.newer.class {
+            count += 1;
+        }
+        a = t.older;
+        b = t.newer;
+        x = t.last + 1;
+    }
+    count
+}
+
+// Writes the list of the changes in a section of two accepted images at the front of a buffer, and gives their number.
+fn write_changes(older: &[u8], newer: &[u8], section: Section, out: &mut [u32]) -> usize
+    requires { ⌜ refusalOf (now older) ≡ none ⌝ }
+    requires { ⌜ refusalOf (now newer) ≡ none ⌝ }
+    requires { ⌜ changeSize section * length (changesOf section (now older) (now newer)) ≤ length (now out) ⌝ }
+    ensures { λ r. ⌜ r ≡ length (changesOf section (now (older .entry)) (now (newer .entry))) ⌝ }
+    ensures { λ _. ⌜ now (out .exit) ≡ laid (now (out .entry)) 0 (listWords section (changesOf section (now (older .entry)) (now (newer .entry)))) ⌝ }
+{
+    let n = lookup::count_records(older, section);
+    let m = lookup::count_records(newer, section);
+    let size = size_of(section);
+    let mut x: u32 = 0;
+    let mut a = compare::look_ahead(older, section, n, 0, 0);
+    let mut b = compare::look_ahead(newer, section, m, 0, 0);
+    let mut count: usize = 0;
+    let mut at: usize = 0;
+    while x < CODE_POINTS {
+        let t = compare::walk_step(older, newer, section, n, m, a, b, x);
+        if t.older.class != t.newer.class {
+            put_change(&mut out[at..], section, x, t);
+            count += 1;
+            at += size;
+        }
+        a = t.older;
+        b = t.newer;
+        x = t.last + 1;
+    }
+    count
+}
+
+// The number of changes in a section, where there is room for fewer; else 0. Twice the records are always enough, so
+// then the changes are not counted.
+fn count_missing(older: &[u8], newer: &[u8], section: Section, room: usize) -> usize
+    requires { ⌜ refusalOf (now older) ≡ none ⌝ }
+    requires { ⌜ refusalOf (now newer) ≡ none ⌝ }
+    ensures { λ r. ⌜ r ≡ missingOf room (length (changesOf section (now (older .entry)) (now (newer .entry)))) ⌝ }
+{
+    let n = lookup::count_records(older, section);
+    let m = lookup::count_records(newer, section);
+    if 2 * (n + m) <= room {
+        return 0;
+    }
+    let count = count_changes(older, newer, section);
+    if room < count {
+        return count;
+    }
+    0
+}
+
+// The lists of the changes between two accepted images. The room for both is judged before anything is written.
+fn list_accepted(older: &[u8], newer: &[u8], runs: &mut [u32], entries: &mut [u32]) -> Changes
+    requires { ⌜ refusalOf (now older) ≡ none ⌝ }
+    requires { ⌜ refusalOf (now newer) ≡ none ⌝ }
+    ensures { λ r. ⌜ r ≡ listedOf (now (older .entry)) (now (newer .entry)) (length (now (runs .entry))) (length (now (entries .entry))) ⌝ }
+    ensures { λ r. ⌜ now (runs .exit) ≡ bufferAfter Ranges (now (older .entry)) (now (newer .entry)) r (now (runs .entry)) ⌝ }
+    ensures { λ r. ⌜ now (entries .exit) ≡ bufferAfter Entries (now (older .entry)) (now (newer .entry)) r (now (entries .entry)) ⌝ }
+{
+    let more_runs = count_missing(older, newer, Section::Ranges, runs.len() / RUN_WORDS);
+    if more_runs != 0 {
+        return Changes::Refused(Refusal::Room(more_runs));
+    }
+    let more_entries = count_missing(older, newer, Section::Entries, entries.len() / ENTRY_WORDS);
+    if more_entries != 0 {
+        return Changes::Refused(Refusal::Room(more_entries));
+    }
+    let r = write_changes(older, newer, Section::Ranges, runs);
+    let e = write_changes(older, newer, Section::Entries, entries);
+    Changes::Listed {
+        runs: r,
+        entries: e,
+    }
+}
+
+// The lists of the changes between two images: runs, four words each, and profile entries, three words each.
+// A refused call leaves both buffers as they were.
+pub fn list_changes(older: &[u8], newer: &[u8], runs: &mut [u32], entries: &mut [u32]) -> Changes
+    ensures { λ r. ⌜ r ≡ answerOf (now (older .entry)) (now (newer .entry)) (length (now (runs .entry))) (length (now (entries .entry))) ⌝ }
+    ensures { λ r. ⌜ now (runs .exit) ≡ bufferAfter Ranges (now (older .entry)) (now (newer .entry)) r (now (runs .entry)) ⌝ }
+    ensures { λ r. ⌜ now (entries .exit) ≡ bufferAfter Entries (now (older .entry)) (now (newer .entry)) r (now (entries .entry)) ⌝ }
+{
+    let judged = compare::judge_both(older, newer);
+    match judged {
+        Judged::Older(r) => Changes::Older(r),
+        Judged::Newer(r) => Changes::Newer(r),
+        Judged::Accepted => list_accepted(older, newer, runs, entries),
+    }
+}
