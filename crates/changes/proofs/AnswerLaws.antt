@@ -7,6 +7,7 @@ use mathlib.Core.Option.{Option, none, some}
 use lib.Dec.{ltb}
 use lib.ListN.{length}
 use borrow.Author.Tests.{ltb-true, ltb-false}
+use Rattle.lists.specs.Laid.{laid}
 use Rattle.refusal.specs.declared.Refusal.{Refusal}
 use Rattle.refusal.specs.declared.Refusal.the-variants as refusal
 use Rattle.image.specs.Check.{refusalOf}
@@ -16,7 +17,7 @@ use Rattle.lookup.specs.declared.Section.the-variants.{Ranges, Entries}
 use Rattle.compare.specs.Judged.{judgedBy}
 use Rattle.changes.specs.Change.{Change}
 use Rattle.changes.specs.ChangeList.{runsOf, entriesOf}
-use Rattle.changes.specs.Changes.{changeSize, listedOf, changesBy, answerOf, bufferAfter}
+use Rattle.changes.specs.Changes.{changeSize, listWords, listedOf, changesBy, answerOf, bufferAfter}
 use Rattle.changes.specs.Means.{Lists, ChangesMeans, bad-older, bad-newer, few-runs, few-entries, lists}
 use Rattle.changes.specs.declared.Changes.{Changes}
 use Rattle.changes.specs.declared.Changes.the-variants as changes
@@ -80,3 +81,34 @@ module _ (older newer out more : List ℕ) where
         runs-after = ap (λ (d : Changes). bufferAfter Ranges older newer d out) e ∙ f;
         entries-after = ap (λ (d : Changes). bufferAfter Entries older newer d more) e ∙ g;
       }
+
+  module _ {runs entries : List Change} (l : Lists older newer runs entries) where
+    abbrev a : Accepted older
+    a = l .older-accepted
+
+    abbrev b : Accepted newer
+    b = l .newer-accepted
+
+    -- the lists are the only ones
+    the-runs : runs ≡ runsOf older newer
+    the-runs = are-runs older newer a b (l .class-runs)
+
+    the-entries : entries ≡ entriesOf older newer
+    the-entries = are-entries older newer a b (l .role-changes)
+
+  pub means-changes : (c : Changes) (words others : List ℕ) → ChangesMeans older newer out more c words others → Answers c words others
+  unfolding answerOf
+  means-changes _ _ _ (bad-older {r} m) = by-answer _ (simp (means-refusal older (some r) m)) refl refl
+  means-changes _ _ _ (bad-newer {r} a m) = by-answer _ (simp (refused-none older a, means-refusal newer (some r) m)) refl refl
+  means-changes _ _ _ (few-runs {runs} {entries} l u) =
+      let e = the-runs l in
+      by-answer _ (accepted-answer (a l) (b l) ∙ rw e (lacks-runs older newer _ _ (rw e at u))) refl refl
+  means-changes _ _ _ (few-entries {runs} {entries} l u v) =
+      let e = the-runs l in
+      let f = the-entries l in
+      by-answer _ (accepted-answer (a l) (b l) ∙ rw f (lacks-entries older newer _ _ (rw e at u) (rw f at v))) refl refl
+  means-changes _ _ _ (lists {runs} {entries} l u v) =
+      let e = the-runs l in
+      let f = the-entries l in
+      by-answer _ (accepted-answer (a l) (b l) ∙ rw (e, f) (lists-both older newer _ _ (rw e at u) (rw f at v)))
+      (ap (λ (m : List Change). laid out 0 (listWords Ranges m)) (sym e)) (ap (λ (m : List Change). laid more 0 (listWords Entries m)) (sym f))

@@ -39,4 +39,4 @@ pub data ChangesMeans (older newer out more : List ℕ) : Changes → List ℕ �
       {runs entries : List Change} → Lists older newer runs entries → length runs ≤ length out / changeSize Ranges
       → length entries ≤ length more / changeSize Entries
       → ChangesMeans older newer out more (changes.Listed (length runs) (length entries)) (laid out 0 (listWords Ranges runs))
-        (laid more 0 (listWords Entries entries))
+      (laid more 0 (listWords Entries entries))

@@ -18,9 +18,10 @@ changes s = length (changesOf (s .args .section) (s .args .older .now) (s .args 
 -- both counts are small
 few : (c : tie.After-count-records2) → (c .before .count-records .result ≤ 4096) × (c .count-records2 .result ≤ 4096)
 few c =
-    let s = c .before .before .before .before in
-    (omega (arith, c .before .count-records .ensures, few-records _ (s .pre .0) (s .args .section)),
-    omega (arith, c .count-records2 .ensures, few-records _ (s .pre .1) (s .args .section)))
+    let s = c .before .before .before .before in (
+      omega (arith, c .before .count-records .ensures, few-records _ (s .pre .0) (s .args .section)),
+      omega (arith, c .count-records2 .ensures, few-records _ (s .pre .1) (s .args .section)),
+    )
 
 add-if1 : tie.Need-add-if1
 add-if1 c = let f = few c in omega arith

@@ -10,14 +10,18 @@ returns c = simp (refused-by _ _ (c .before .before .before .judge .ensures) _ (
 returns-2 : tie.Need-returns-2
 returns-2 c =
     let b = c .before .before .before .before in
-    simp (accepted-by _ _ (b .before .before .judge .ensures) _ _ (b .enum-told .given .1) .0,
-    refused-by _ _ (c .before .before .before .judge2 .ensures) _ (c .before .second .given .1))
+    simp (
+      accepted-by _ _ (b .before .before .judge .ensures) _ _ (b .enum-told .given .1) .0,
+      refused-by _ _ (c .before .before .before .judge2 .ensures) _ (c .before .second .given .1),
+    )
 
 returns-3 : tie.Need-returns-3
 returns-3 c =
     let b = c .before .before .before in
-    simp (accepted-by _ _ (b .before .before .judge .ensures) _ _ (b .enum-told .given .1) .0,
-    accepted-by _ _ (c .before .before .judge2 .ensures) _ _ (c .enum-told2 .given .1) .0)
+    simp (
+      accepted-by _ _ (b .before .before .judge .ensures) _ _ (b .enum-told .given .1) .0,
+      accepted-by _ _ (c .before .before .judge2 .ensures) _ _ (c .enum-told2 .given .1) .0,
+    )
 
 pub judge-both-spec : {M : Type 1} → statement M
 judge-both-spec =
