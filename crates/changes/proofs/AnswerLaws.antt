@@ -17,11 +17,11 @@ use Rattle.lookup.specs.declared.Section.the-variants.{Ranges, Entries}
 use Rattle.compare.specs.Judged.{judgedBy}
 use Rattle.changes.specs.Change.{Change}
 use Rattle.changes.specs.ChangeList.{runsOf, entriesOf}
-use Rattle.changes.specs.Changes.{changeSize, listWords, listedOf, changesBy, answerOf, bufferAfter}
+use Rattle.changes.specs.Changes.{changeSize, listWords, listedOf, changesBy, answerOf, bufferAfter, runsAfter, entriesAfter}
 use Rattle.changes.specs.Means.{Lists, ChangesMeans, bad-older, bad-newer, few-runs, few-entries, lists}
 use Rattle.changes.specs.declared.Changes.{Changes}
 use Rattle.changes.specs.declared.Changes.the-variants as changes
-use Rattle.changes.proofs.RoomLaws.{lacks-runs, lacks-entries, lists-both}
+use Rattle.changes.proofs.RoomLaws.{lacks-runs, lacks-entries, lists-both, runs-by, entries-by}
 use Rattle.changes.proofs.ChangesLaws.{runs-are, entries-are, are-runs, are-entries}
 
 module _ (older newer out more : List ℕ) where
@@ -61,16 +61,16 @@ module _ (older newer out more : List ℕ) where
 
   -- what an answer says
   pub changes-mean :
-      (c : Changes) (words others : List ℕ) → answer ≡ c → bufferAfter Ranges older newer answer out ≡ words
-      → bufferAfter Entries older newer answer more ≡ others → ChangesMeans older newer out more c words others
-  unfolding answerOf
+      (c : Changes) (words others : List ℕ) → answer ≡ c → runsAfter older newer out more ≡ words → entriesAfter older newer out more ≡ others
+      → ChangesMeans older newer out more c words others
+  unfolding answerOf runsAfter entriesAfter
   changes-mean c words others e f g = rw (← e, ← f, ← g) (means-by _ _ refl refl)
 
   -- and back: where it is so, that is the answer, and the buffers hold this
   pub record Answers (c : Changes) (words others : List ℕ) : Type 0 where
     pub answered : answer ≡ c
-    pub runs-after : bufferAfter Ranges older newer answer out ≡ words
-    pub entries-after : bufferAfter Entries older newer answer more ≡ others
+    pub runs-after : runsAfter older newer out more ≡ words
+    pub entries-after : entriesAfter older newer out more ≡ others
 
   by-answer :
       (c : Changes) → answer ≡ c → {words others : List ℕ} → bufferAfter Ranges older newer c out ≡ words → bufferAfter Entries older newer c more ≡ others
@@ -78,8 +78,8 @@ module _ (older newer out more : List ℕ) where
   by-answer c e f g =
       record {
         answered = e;
-        runs-after = ap (λ (d : Changes). bufferAfter Ranges older newer d out) e ∙ f;
-        entries-after = ap (λ (d : Changes). bufferAfter Entries older newer d more) e ∙ g;
+        runs-after = sym (runs-by older newer out more (sym e) refl) ∙ f;
+        entries-after = sym (entries-by older newer out more (sym e) refl) ∙ g;
       }
 
   module _ {runs entries : List Change} (l : Lists older newer runs entries) where

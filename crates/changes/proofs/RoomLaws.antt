@@ -1,6 +1,6 @@
 -- The room for the lists of changes, and the answers that it leads to. Assumes nothing.
 use Prim.Native.Nat.{ℕ, _*_, _/_, _≤_, _<_}
-use mathlib.Core.Path.{_≡_, refl, sym, _∙_}
+use mathlib.Core.Path.{_≡_, refl, sym, ap, _∙_}
 use mathlib.Core.Bool.{Bool, true, false}
 use mathlib.Core.List.{List}
 use native.Mathlib.Omega.{arith}
@@ -8,11 +8,15 @@ use lib.Dec.{ltb}
 use lib.ListN.{length}
 use borrow.Author.Tests.{lt-ltb, le-ltb, ltb-true, ltb-false}
 use Rattle.refusal.specs.declared.Refusal.the-variants as refusal
+use Rattle.image.specs.Check.{refusalOf}
 use Rattle.lookup.specs.declared.Section.{Section}
 use Rattle.lookup.specs.declared.Section.the-variants.{Ranges, Entries}
+use Rattle.compare.specs.declared.Judged.{Judged}
+use Rattle.compare.specs.Judged.{judgedBy}
 use Rattle.changes.specs.ChangeList.{runsOf, entriesOf}
-use Rattle.changes.specs.Changes.{changeSize, listedOf}
+use Rattle.changes.specs.Changes.{changeSize, listedOf, changesBy, bufferAfter, answerOf, runsAfter, entriesAfter}
 use Rattle.changes.specs.Walked.{missingOf}
+use Rattle.changes.specs.declared.Changes.{Changes}
 use Rattle.changes.specs.declared.Changes.the-variants as changes
 
 -- a number of changes that is missing is the number there is, and it is above the room
@@ -70,3 +74,24 @@ module _ (older newer : List ℕ) (words more : ℕ) where
       runs ≤ words / changeSize Ranges → entries ≤ more / changeSize Entries → listedOf older newer words more ≡ changes.Listed runs entries
   unfolding listedOf
   lists-both l u = simp (le-ltb _ _ l, le-ltb _ _ u)
+
+-- the buffers after the call, by its answer
+module _ (older newer out more : List ℕ) {c : Changes} (e : c ≡ answerOf older newer (length out) (length more)) where
+  pub runs-by : {words : List ℕ} → words ≡ bufferAfter Ranges older newer c out → words ≡ runsAfter older newer out more
+  unfolding runsAfter
+  runs-by f = f ∙ ap (λ (d : Changes). bufferAfter Ranges older newer d out) e
+
+  pub entries-by : {words : List ℕ} → words ≡ bufferAfter Entries older newer c more → words ≡ entriesAfter older newer out more
+  unfolding entriesAfter
+  entries-by f = f ∙ ap (λ (d : Changes). bufferAfter Entries older newer d more) e
+
+-- the call's answer and buffers, where the two images are judged so
+pub answered-by :
+    (older newer out more : List ℕ) (j : Judged) (c : Changes) → judgedBy (refusalOf older) (refusalOf newer) ≡ j
+    → c ≡ changesBy j (listedOf older newer (length out) (length more)) → {words others : List ℕ} → words ≡ bufferAfter Ranges older newer c out
+    → others ≡ bufferAfter Entries older newer c more
+    → (c ≡ answerOf older newer (length out) (length more)) × ((words ≡ runsAfter older newer out more) × (others ≡ entriesAfter older newer out more))
+unfolding answerOf
+answered-by older newer out more j c e f g h =
+    let a : c ≡ answerOf older newer (length out) (length more) = f ∙ ap (λ (k : Judged). changesBy k (listedOf older newer (length out) (length more))) (sym e) in
+    (a, (runs-by older newer out more a g, entries-by older newer out more a h))

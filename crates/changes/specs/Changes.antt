@@ -61,6 +61,13 @@ wordsBy (changes.Newer r) out words = out
 wordsBy (changes.Refused r) out words = out
 wordsBy (changes.Listed n m) out words = laid out 0 words
 
--- the two buffers: `answer` is the call's
+-- the buffer of a section after an answer
 abbrev pub bufferAfter : Section → List ℕ → List ℕ → Changes → List ℕ → List ℕ
 bufferAfter section older newer answer out = wordsBy answer out (listWords section (changesOf section older newer))
+
+-- the two buffers after the call, which were `out` and `more`
+unfoldable pub runsAfter : List ℕ → List ℕ → List ℕ → List ℕ → List ℕ
+runsAfter older newer out more = bufferAfter Ranges older newer (answerOf older newer (length out) (length more)) out
+
+unfoldable pub entriesAfter : List ℕ → List ℕ → List ℕ → List ℕ → List ℕ
+entriesAfter older newer out more = bufferAfter Entries older newer (answerOf older newer (length out) (length more)) more

@@ -7,7 +7,7 @@ ghost use lib.ListN.{length};
 ghost use Rattle.lists.specs.Laid.{laid};
 ghost use Rattle.image.specs.Check.{refusalOf};
 ghost use Rattle.lookup.specs.declared.Section.the-variants.{Ranges, Entries};
-ghost use Rattle.changes.specs.Changes.{changesOf, changeWords, changeSize, listWords, listedOf, answerOf, bufferAfter};
+ghost use Rattle.changes.specs.Changes.{changesOf, changeWords, changeSize, listWords, listedOf, bufferAfter, answerOf, runsAfter, entriesAfter};
 ghost use Rattle.changes.specs.Walked.{changeOf, missingOf};
 use compare::CODE_POINTS;
 use compare::Judged;
@@ -159,8 +159,8 @@ fn list_accepted(older: &[u8], newer: &[u8], runs: &mut [u32], entries: &mut [u3
 // A refused call leaves both buffers as they were.
 pub fn list_changes(older: &[u8], newer: &[u8], runs: &mut [u32], entries: &mut [u32]) -> Changes
     ensures { λ r. ⌜ r ≡ answerOf (now (older .entry)) (now (newer .entry)) (length (now (runs .entry))) (length (now (entries .entry))) ⌝ }
-    ensures { λ r. ⌜ now (runs .exit) ≡ bufferAfter Ranges (now (older .entry)) (now (newer .entry)) r (now (runs .entry)) ⌝ }
-    ensures { λ r. ⌜ now (entries .exit) ≡ bufferAfter Entries (now (older .entry)) (now (newer .entry)) r (now (entries .entry)) ⌝ }
+    ensures { λ _. ⌜ now (runs .exit) ≡ runsAfter (now (older .entry)) (now (newer .entry)) (now (runs .entry)) (now (entries .entry)) ⌝ }
+    ensures { λ _. ⌜ now (entries .exit) ≡ entriesAfter (now (older .entry)) (now (newer .entry)) (now (runs .entry)) (now (entries .entry)) ⌝ }
 {
     let judged = compare::judge_both(older, newer);
     match judged {

@@ -11,6 +11,8 @@ use Rattle.writer.specs.declared.Written.{Written}
 use Rattle.writer.specs.declared.Written.the-variants as written
 use Rattle.pair.specs.declared.Pair.{Pair}
 use Rattle.pair.specs.declared.Pair.the-variants as pair
+use Rattle.changes.specs.declared.Changes.{Changes}
+use Rattle.changes.specs.declared.Changes.the-variants as changes
 use Rattle.luffinarc.specs.Reply.{Reply, Tells, gives, refusesOf, refuses}
 
 -- checking and reading an image: the version, and the numbers of ranges and of profile entries
@@ -48,3 +50,10 @@ pairReply (pair.Older r) = refusesOf 1 r
 pairReply (pair.Newer r) = refusesOf 2 r
 pairReply (pair.Refused r) = refuses r
 pairReply pair.Permitted = gives []
+
+-- the list of changes: the numbers of runs and of entries; a refusal tells which image it is of, as the pair check's does
+abbrev pub changesReply : Changes → Reply
+changesReply (changes.Older r) = refusesOf 1 r
+changesReply (changes.Newer r) = refusesOf 2 r
+changesReply (changes.Refused r) = refuses r
+changesReply (changes.Listed runs entries) = gives (runs ∷ entries ∷ [])

@@ -11,8 +11,7 @@ ghost use Rattle.image.specs.Check.{refusalOf, checkOf, readOf, wordsAfter};
 ghost use Rattle.writer.specs.Write.{writeOf, bytesAfter};
 ghost use Rattle.lookup.specs.Lookup.{lookupOf};
 ghost use Rattle.pair.specs.Pair.{pairOf};
-ghost use Rattle.lookup.specs.declared.Section.the-variants.{Ranges, Entries};
-ghost use Rattle.changes.specs.Changes.{answerOf, bufferAfter};
+ghost use Rattle.changes.specs.Changes.{answerOf, runsAfter, entriesAfter};
 ghost use Rattle.grammar.specs.Reading.{countOf, listOf, listWords};
 ghost use Rattle.scan.specs.Counted.{countedBy};
 ghost use Rattle.token.specs.Taken.{takenOf};
@@ -234,8 +233,8 @@ pub extern "C" fn luffinarc_changes(
     answer: &mut [u64; 4],
 ) -> u32
     ensures { λ n. ⌜ Tells (changesReply (answerOf (now (older .entry)) (now (newer .entry)) (length (now (runs .entry))) (length (now (entries .entry))))) n (now (answer .exit)) ⌝ }
-    ensures { λ _. ⌜ now (runs .exit) ≡ bufferAfter Ranges (now (older .entry)) (now (newer .entry)) (answerOf (now (older .entry)) (now (newer .entry)) (length (now (runs .entry))) (length (now (entries .entry)))) (now (runs .entry)) ⌝ }
-    ensures { λ _. ⌜ now (entries .exit) ≡ bufferAfter Entries (now (older .entry)) (now (newer .entry)) (answerOf (now (older .entry)) (now (newer .entry)) (length (now (runs .entry))) (length (now (entries .entry)))) (now (entries .entry)) ⌝ }
+    ensures { λ _. ⌜ now (runs .exit) ≡ runsAfter (now (older .entry)) (now (newer .entry)) (now (runs .entry)) (now (entries .entry)) ⌝ }
+    ensures { λ _. ⌜ now (entries .exit) ≡ entriesAfter (now (older .entry)) (now (newer .entry)) (now (runs .entry)) (now (entries .entry)) ⌝ }
 {
     let listed = changes::list_changes(older, newer, runs, entries);
     tell_changes(listed, answer)
