@@ -59,7 +59,12 @@ fn large_images() {
         }
     }
     let (older, newer) = most_changes();
-    let all = output(&[image_of(&older), image_of(&newer)].concat());
+    let mut input = [image_of(&older), image_of(&newer)].concat();
+    let all = output(&input);
     assert!(all.starts_with("changes 16383 128\n"));
     assert_eq!(all.lines().count(), 1 + 16_383 + 128);
+    for length in [input.len() + 1, 200_000, 1 << 20] {
+        input.resize(length, 0);
+        assert_eq!(output(&input), "refused newer 1\n");
+    }
 }
