@@ -211,13 +211,12 @@ fn changes(older: &[u8], newer: &[u8]) -> f64 {
 /// Prints the ratios of the calls on images.
 fn of_images(bytes: &[u8]) {
     println!("image check / hand-written: {:.2}", check(bytes));
+    println!("changes, with both images checked in the call and room for all / hand-written:");
     let older = std::fs::read(OLDER).unwrap();
-    println!("changes from 15.0 to 16.0 / hand-written: {:.2}", changes(&older, bytes));
+    println!("  from 15.0 to 16.0: {:.2}", changes(&older, bytes));
     let (older, newer) = most_changes();
     let of_most = changes(&image_of(&older), &image_of(&newer));
-    println!(
-        "changes between two images of 4,096 ranges, {MAX_RUNS} runs / hand-written: {of_most:.2}"
-    );
+    println!("  two images of 4,096 ranges, {MAX_RUNS} runs: {of_most:.2}");
 }
 
 fn main() {

@@ -147,9 +147,9 @@ uint32_t luffinarc_pair(const uint8_t *older, size_t older_len,
  * all are). Versions are not compared.
  *
  * A run, four words: the first and the last of scalar values whose class in the ranges differs, and their class in the
- * older and in the newer image. It has one pair of classes, is as long as it can be, and holds none of D800 to DFFF hex.
- * An entry, three words: a code point whose role in the profile differs, and its role in the older and in the newer
- * image, 0 for none.
+ * older and in the newer image. It has one pair of classes, is as long as it can be, and does not go across the
+ * surrogates. An entry, three words: a code point whose role in the profile differs, and its role in the older and in
+ * the newer image, 0 for none.
  *
  * 0: answer is the number of runs and the number of entries; the words past each list stay as they were.
  * LUFFINARC_MAX_RUNS and LUFFINARC_MAX_CHANGED_ENTRIES records are always room enough.

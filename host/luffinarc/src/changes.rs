@@ -17,8 +17,8 @@ pub const MAX_RUNS: usize = 4 * MAX_RANGES - 1;
 /// The most changed entries between two images.
 pub const MAX_CHANGED_ENTRIES: usize = 2 * MAX_ENTRIES;
 
-/// Scalar values from `first` to `last` whose class in the ranges was one and is another; as many as there are with
-/// these two classes. None holds both D7FF and E000 hex.
+/// Scalar values from `first` to `last` whose class in the ranges differs. A run has one pair of classes, is as long as
+/// it can be, and does not go across the surrogates.
 #[derive(Clone, Copy, Debug, PartialEq, Eq, Hash)]
 pub struct Run {
     /// The first scalar value.
