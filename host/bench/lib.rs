@@ -1,6 +1,7 @@
-//! A hand-written rival reader and the texts to time it on.
+//! A hand-written rival reader, with a rival list of changes, and the texts to time it on.
 
 #![forbid(unsafe_code)]
 
+pub mod changes;
 pub mod rival;
 pub mod texts;

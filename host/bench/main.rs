@@ -4,14 +4,21 @@
 mod icu;
 
 use icu::Icu;
-use luffinarc::{write_image, Image, Profile, TOKEN_WORDS};
+use luffinarc::calls::{self, Answer};
+use luffinarc::{
+    write_image, Image, Profile, CHANGED_ENTRY_WORDS, MAX_CHANGED_ENTRIES, MAX_RUNS, RUN_WORDS,
+    TOKEN_WORDS,
+};
+use luffinarc_bench::changes::Changes;
 use luffinarc_bench::rival::{self, Tables};
 use luffinarc_bench::texts::{self, Sample};
+use luffinarc_reader::cases::{image_of, most_changes};
 use std::ffi::CString;
 use std::io::Write;
 use std::time::Instant;
 
 const IMAGE: &str = concat!(env!("CARGO_MANIFEST_DIR"), "/../data/images/unicode-16.0.img");
+const OLDER: &str = concat!(env!("CARGO_MANIFEST_DIR"), "/../data/images/unicode-15.0.img");
 
 /// The least number of rounds of a race, and the seconds that it takes at least.
 const ROUNDS: usize = 40;
@@ -174,6 +181,44 @@ fn lookup(image: &Image, tables: &Tables, points: &[u32]) -> f64 {
     )
 }
 
+/// Checking an image, against the rival.
+fn check(image: &[u8]) -> f64 {
+    race(50, &mut || _ = black_box(Image::check(black_box(image))), &mut || {
+        _ = black_box(rival::check(black_box(image)))
+    })
+}
+
+/// Listing what changed between two images, against the rival. Both check the images, and have room for all changes.
+fn changes(older: &[u8], newer: &[u8]) -> f64 {
+    let (mut list, mut answer) = (Changes::default(), Answer::default());
+    let mut runs = vec![0; RUN_WORDS * MAX_RUNS];
+    let mut entries = vec![0; CHANGED_ENTRY_WORDS * MAX_CHANGED_ENTRIES];
+    let number = calls::changes(older, newer, &mut runs, &mut entries, &mut answer);
+    let (r, e) = list.list(older, newer).unwrap();
+    assert_eq!((number, answer), (0, [r as u64, e as u64, 0, 0]));
+    assert!(list.runs.concat() == runs[..RUN_WORDS * r], "the runs differ");
+    assert!(list.entries.concat() == entries[..CHANGED_ENTRY_WORDS * e], "the entries differ");
+    race(
+        20,
+        &mut || {
+            let (older, newer) = (black_box(older), black_box(newer));
+            black_box(calls::changes(older, newer, &mut runs, &mut entries, &mut answer));
+        },
+        &mut || _ = black_box(list.list(black_box(older), black_box(newer))),
+    )
+}
+
+/// Prints the ratios of the calls on images.
+fn of_images(bytes: &[u8]) {
+    println!("image check / hand-written: {:.2}", check(bytes));
+    println!("changes, with both images checked in the call and room for all / hand-written:");
+    let older = std::fs::read(OLDER).unwrap();
+    println!("  from 15.0 to 16.0: {:.2}", changes(&older, bytes));
+    let (older, newer) = most_changes();
+    let of_most = changes(&image_of(&older), &image_of(&newer));
+    println!("  two images of 4,096 ranges, {MAX_RUNS} runs: {of_most:.2}");
+}
+
 fn main() {
     let bytes = std::fs::read(IMAGE).unwrap();
     let image = Image::check(&bytes).unwrap();
@@ -208,8 +253,5 @@ fn main() {
     println!("\nlookup of every scalar value / hand-written: {of_rising:.1}");
     let of_mixed = lookup(&image, &tables, &mixed);
     println!("lookup of the characters of mixed scripts / hand-written: {of_mixed:.1}");
-    let check = race(50, &mut || _ = black_box(Image::check(black_box(&bytes))), &mut || {
-        _ = black_box(rival::check(black_box(&bytes)))
-    });
-    println!("image check / hand-written: {check:.2}");
+    of_images(&bytes);
 }

@@ -58,7 +58,7 @@ fn flat(ranges: &[Range], profile: &[(u32, Role)]) -> Vec<u8> {
 }
 
 /// A word of 32 bits, little-endian.
-fn word(bytes: &[u8], at: usize) -> u32 {
+pub fn word(bytes: &[u8], at: usize) -> u32 {
     u32::from_le_bytes(bytes[at..at + 4].try_into().unwrap())
 }
 

@@ -61,6 +61,9 @@ static void empty_slices(const uint8_t *m, size_t m_len)
     CHECK(luffinarc_lookup(NULL, 0, 0x20, answer) == LUFFINARC_LENGTH && gave(0, 0, 0));
     CHECK(luffinarc_pair(NULL, 0, NULL, 0, answer) == LUFFINARC_LENGTH && gave(0, 0, 1));
     CHECK(luffinarc_pair(m, m_len, NULL, 0, answer) == LUFFINARC_LENGTH && gave(0, 0, 2));
+    CHECK(luffinarc_changes(NULL, 0, NULL, 0, NULL, 0, NULL, 0, answer) == LUFFINARC_LENGTH && gave(0, 0, 1));
+    CHECK(luffinarc_changes(m, m_len, NULL, 0, NULL, 0, NULL, 0, answer) == LUFFINARC_LENGTH && gave(0, 0, 2));
+    CHECK(luffinarc_changes(m, m_len, m, m_len, NULL, 0, NULL, 0, answer) == 0 && gave(0, 0, 0));
     CHECK(luffinarc_count(NULL, 0, NULL, 0, answer) == LUFFINARC_LENGTH && gave(0, 0, 0));
     CHECK(luffinarc_count(m, m_len, NULL, 0, answer) == 0 && gave(0, 0, 0));
     CHECK(luffinarc_list(m, m_len, NULL, 0, NULL, 0, answer) == 0 && gave(0, 0, 0));
@@ -97,6 +100,36 @@ static void images(const uint8_t *m, size_t m_len, const uint8_t *m2, size_t m2_
     CHECK(luffinarc_lookup_checked(m, m_len, 0x7A, answer) == 0 && gave(LUFFINARC_CLASS_START, 2, 0));
     CHECK(luffinarc_pair(m, m_len, m2, m2_len, answer) == 0 && gave(0, 0, 0));
     CHECK(luffinarc_pair(m2, m2_len, m, m_len, answer) == LUFFINARC_CHANGE && gave(0xE9, 0, 0));
+}
+
+/* What changed between M and M2, between M2 and M, and between M and an image of two entries. */
+static void changes(const uint8_t *m, size_t m_len, const uint8_t *m2, size_t m2_len)
+{
+    static const uint32_t added[] = {0xE9, 0xE9, LUFFINARC_CLASS_UNASSIGNED, LUFFINARC_CLASS_START};
+    static const uint32_t removed[] = {0xE9, 0xE9, LUFFINARC_CLASS_START, LUFFINARC_CLASS_UNASSIGNED};
+    static const uint32_t of_entries[] = {
+        0x2D, 0, LUFFINARC_ROLE_MEDIAL, 0x2E, LUFFINARC_ROLE_MEDIAL, LUFFINARC_ROLE_OTHER,
+    };
+    uint32_t runs[21], entries[7];
+    uint8_t other[48];
+    memset(runs, 0xFF, sizeof runs);
+    memset(entries, 0xFF, sizeof entries);
+    CHECK(luffinarc_changes(m, m_len, m2, m2_len, runs, 3, entries, 0, answer) == LUFFINARC_ROOM && gave(1, 0, 0));
+    CHECK(runs[0] == UINT32_MAX);
+    CHECK(luffinarc_changes(m, m_len, m2, m2_len, runs, 5, NULL, 0, answer) == 0 && gave(1, 0, 0));
+    CHECK(memcmp(runs, added, sizeof added) == 0 && runs[4] == UINT32_MAX);
+    CHECK(luffinarc_changes(m2, m2_len, m, m_len, runs, 4, entries, 7, answer) == 0 && gave(1, 0, 0));
+    CHECK(memcmp(runs, removed, sizeof removed) == 0 && entries[0] == UINT32_MAX);
+    points[0] = 0x2D, roles[0] = LUFFINARC_ROLE_MEDIAL;
+    points[1] = 0x2E, roles[1] = LUFFINARC_ROLE_OTHER;
+    CHECK(luffinarc_write(1, NULL, 0, points, roles, 2, other, 48, answer) == 0 && gave(48, 0, 0));
+    memset(runs, 0xFF, sizeof runs);
+    CHECK(luffinarc_changes(m, m_len, other, 48, runs, 19, entries, 0, answer) == LUFFINARC_ROOM && gave(5, 0, 0));
+    CHECK(luffinarc_changes(m, m_len, other, 48, runs, 20, entries, 5, answer) == LUFFINARC_ROOM && gave(2, 0, 0));
+    CHECK(runs[0] == UINT32_MAX && entries[0] == UINT32_MAX);
+    CHECK(luffinarc_changes(m, m_len, other, 48, runs, 21, entries, 7, answer) == 0 && gave(5, 2, 0));
+    CHECK(runs[0] == 0x20 && runs[18] == LUFFINARC_CLASS_START && runs[19] == 0 && runs[20] == UINT32_MAX);
+    CHECK(memcmp(entries, of_entries, sizeof of_entries) == 0 && entries[6] == UINT32_MAX);
 }
 
 /* The calls on tokens, with an image checked in each call and once before. */
@@ -136,6 +169,7 @@ int main(int argc, char **argv)
     CHECK(m_len == 100 && m2_len == 112);
     empty_slices(m, m_len);
     images(m, m_len, m2, m2_len);
+    changes(m, m_len, m2, m2_len);
     tokens(m, m_len);
     printf("%d passed, %d failed\n", passed, failed);
     return failed != 0;

@@ -10,7 +10,7 @@
  *
  * Answer. Each function writes all four numbers of `answer`. After the result 0 they are the values that the function
  * documents, and zeros past them. After a refusal answer[0] is what the refusal carries, or 0, and the rest is 0
- * (luffinarc_pair alone tells at answer[2] which image it refuses).
+ * (luffinarc_pair and luffinarc_changes alone tell at answer[2] which image they refuse).
  *
  * Arguments. A slice is a pointer and its number of elements. A pointer may be null where its number is 0, and only
  * there. `points` and `roles` are arrays of LUFFINARC_MAX_ENTRIES numbers, never null, and so is `answer`, of 4. Words
@@ -35,9 +35,18 @@ extern "C" {
 #define LUFFINARC_MAX_IMAGE 49696
 #define LUFFINARC_MAX_TEXT 1048576
 
+/* The most runs and changed entries that luffinarc_changes lists. */
+#define LUFFINARC_MAX_RUNS 16383
+#define LUFFINARC_MAX_CHANGED_ENTRIES 128
+
 /* The words of a range (first, last, class) and of a token (kind, start byte, end byte). */
 #define LUFFINARC_RANGE_WORDS 3
 #define LUFFINARC_TOKEN_WORDS 3
+
+/* The words of a run (first, last, older class, newer class) and of a changed entry (code point, older role, newer
+ * role). */
+#define LUFFINARC_RUN_WORDS 4
+#define LUFFINARC_CHANGED_ENTRY_WORDS 3
 
 /* The numbers of an answer. */
 #define LUFFINARC_ANSWER 4
@@ -133,6 +142,26 @@ uint32_t luffinarc_lookup(const uint8_t *image, size_t image_len,
  */
 uint32_t luffinarc_pair(const uint8_t *older, size_t older_len,
                         const uint8_t *newer, size_t newer_len, uint64_t *answer);
+
+/* Lists what changed between two images, in rising order: every change, permitted or not (luffinarc_pair tells whether
+ * all are). Versions are not compared.
+ *
+ * A run, four words: the first and the last of scalar values whose class in the ranges differs, and their class in the
+ * older and in the newer image. It has one pair of classes, is as long as it can be, and does not go across the
+ * surrogates. An entry, three words: a code point whose role in the profile differs, and its role in the older and in
+ * the newer image, 0 for none.
+ *
+ * 0: answer is the number of runs and the number of entries; the words past each list stay as they were.
+ * LUFFINARC_MAX_RUNS and LUFFINARC_MAX_CHANGED_ENTRIES records are always room enough.
+ * Refusals: 1 to 4 of the older image, with answer[2] = 1; then 1 to 4 of the newer, with answer[2] = 2; then, with
+ * answer[2] = 0, 8 where runs_len / 4, rounded down, is below the number of runs, with that number; else 8 where
+ * entries_len / 3, rounded down, is below the number of entries, with that number. runs and entries are left as they
+ * were.
+ */
+uint32_t luffinarc_changes(const uint8_t *older, size_t older_len,
+                           const uint8_t *newer, size_t newer_len,
+                           uint32_t *runs, size_t runs_len,
+                           uint32_t *entries, size_t entries_len, uint64_t *answer);
 
 /* Counts the tokens of a text.
  *

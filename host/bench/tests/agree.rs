@@ -1,9 +1,11 @@
 //! The rival and the reader agree.
 
-use luffinarc::{write_image, Image, Profile, Role, TOKEN_WORDS};
+use luffinarc::{write_image, Image, Profile, Role, MAX_CHANGED_ENTRIES, MAX_RUNS, TOKEN_WORDS};
+use luffinarc_bench::changes::Changes;
 use luffinarc_bench::rival::{check, Refused, Tables};
 use luffinarc_bench::texts;
 use luffinarc_reader::cases::{self, Rng};
+use luffinarc_reader::changes::changes_of;
 use luffinarc_reader::{kind, list, Refusal};
 
 const IMAGE: &str = concat!(env!("CARGO_MANIFEST_DIR"), "/../data/images/unicode-16.0.img");
@@ -91,6 +93,37 @@ fn on_made_cases() {
         assert!(rival(&tables(&image), &case.text) == expected, "{case:02X?}");
     }
     assert!(accepted > 300, "{accepted}");
+}
+
+/// The rival and the reader list the same changes, or both none; gives the numbers of runs and of entries.
+fn agree_on_changes(list: &mut Changes, older: &[u8], newer: &[u8]) -> Option<(usize, usize)> {
+    let counts = list.list(older, newer);
+    let expected = changes_of(older, newer).ok();
+    assert_eq!(counts, expected.as_ref().map(|(runs, entries)| (runs.len(), entries.len())));
+    if let Some((runs, entries)) = expected {
+        assert!(list.runs == runs && list.entries == entries, "{older:02X?} {newer:02X?}");
+    }
+    counts
+}
+
+#[test]
+fn on_changes() {
+    let (mut rng, mut list, mut accepted) = (Rng::new(), Changes::default(), 0);
+    for _ in 0..1000 {
+        let case = cases::pair_case(&mut rng);
+        accepted += usize::from(agree_on_changes(&mut list, &case.older, &case.newer).is_some());
+    }
+    assert!(accepted > 300, "{accepted}");
+    let (older, newer) = cases::most_changes();
+    let most = agree_on_changes(&mut list, &cases::image_of(&older), &cases::image_of(&newer));
+    assert_eq!(most, Some((MAX_RUNS, MAX_CHANGED_ENTRIES)));
+    let images = ["14.0", "15.0", "16.0", "17.0"]
+        .map(|version| std::fs::read(IMAGE.replace("16.0", version)).unwrap());
+    for older in &images {
+        for newer in &images {
+            assert!(agree_on_changes(&mut list, older, newer).is_some());
+        }
+    }
 }
 
 #[test]

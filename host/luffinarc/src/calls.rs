@@ -69,6 +69,34 @@ pub fn pair(older: &[u8], newer: &[u8], answer: &mut Answer) -> u32 {
     }
 }
 
+/// Lists what changed between two images: runs of another class in the ranges go to `runs`, four words each, profile
+/// entries of another role to `entries`, three words each.
+pub fn changes(
+    older: &[u8],
+    newer: &[u8],
+    runs: &mut [u32],
+    entries: &mut [u32],
+    answer: &mut Answer,
+) -> u32 {
+    let (older_len, newer_len) = (older.len(), newer.len());
+    let (runs_len, entries_len) = (runs.len(), entries.len());
+    let (older, newer) = (older.as_ptr(), newer.as_ptr());
+    let (runs, entries) = (runs.as_mut_ptr(), entries.as_mut_ptr());
+    unsafe {
+        ffi::luffinarc_changes(
+            older,
+            older_len,
+            newer,
+            newer_len,
+            runs,
+            runs_len,
+            entries,
+            entries_len,
+            answer,
+        )
+    }
+}
+
 /// The result of [`token`] where the place is the text's end.
 pub const DONE: u32 = 255;
 

@@ -59,6 +59,18 @@ extern "C" {
         answer: *mut Answer,
     ) -> u32;
 
+    pub fn luffinarc_changes(
+        older: *const u8,
+        older_len: usize,
+        newer: *const u8,
+        newer_len: usize,
+        runs: *mut u32,
+        runs_len: usize,
+        entries: *mut u32,
+        entries_len: usize,
+        answer: *mut Answer,
+    ) -> u32;
+
     pub fn luffinarc_count(
         image: *const u8,
         image_len: usize,

@@ -2,7 +2,7 @@
 
 use crate::calls::{self, Answer, Entries};
 use crate::names::{Class, Role};
-use crate::refusal::{result, PairRefusal, Refusal};
+use crate::refusal::{pair_result, result, PairRefusal, Refusal};
 
 /// The most ranges that an image may have.
 pub const MAX_RANGES: usize = 4096;
@@ -17,7 +17,7 @@ pub const MAX_IMAGE: usize = 32 + 12 * MAX_RANGES + 8 * MAX_ENTRIES;
 pub const RANGE_WORDS: usize = 3;
 
 /// The class with a number that the library gave.
-fn given_class(number: u32) -> Class {
+pub(crate) fn given_class(number: u32) -> Class {
     Class::from_number(number).expect("the library gives classes 0 to 5")
 }
 
@@ -191,10 +191,5 @@ pub fn write_image(version: u32, ranges: &[Range], profile: &Profile) -> Result<
 pub fn check_pair(older: &[u8], newer: &[u8]) -> Result<(), PairRefusal> {
     let mut answer = Answer::default();
     let number = calls::pair(older, newer, &mut answer);
-    let which = answer[2];
-    result(number, answer).map(|_| ()).map_err(|refusal| match which {
-        1 => PairRefusal::Older(refusal),
-        2 => PairRefusal::Newer(refusal),
-        _ => PairRefusal::Pair(refusal),
-    })
+    pair_result(number, answer).map(|_| ())
 }

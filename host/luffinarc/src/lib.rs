@@ -39,12 +39,17 @@
 #![warn(missing_docs)]
 
 pub mod calls;
+mod changes;
 mod ffi;
 mod image;
 mod names;
 mod refusal;
 mod token;
 
+pub use changes::{
+    list_changes, ChangedEntry, Changes, Run, CHANGED_ENTRY_WORDS, MAX_CHANGED_ENTRIES, MAX_RUNS,
+    RUN_WORDS,
+};
 pub use image::{
     check_pair, write_image, Found, Image, Profile, Range, MAX_ENTRIES, MAX_IMAGE, MAX_RANGES,
     RANGE_WORDS,

@@ -150,7 +150,7 @@ pub(crate) fn result(number: u32, answer: Answer) -> Result<Answer, Refusal> {
     }
 }
 
-/// Why the pair check refused: an image of the two, or the pair.
+/// Why a call on two images refused: an image of the two, or the pair.
 #[derive(Clone, Copy, Debug, PartialEq, Eq, Hash)]
 pub enum PairRefusal {
     /// The older image is refused.
@@ -181,3 +181,12 @@ impl fmt::Display for PairRefusal {
 }
 
 impl std::error::Error for PairRefusal {}
+
+/// The answer of a call on two images, or the refusal with this number, of the image that the answer tells.
+pub(crate) fn pair_result(number: u32, answer: Answer) -> Result<Answer, PairRefusal> {
+    result(number, answer).map_err(|refusal| match answer[2] {
+        1 => PairRefusal::Older(refusal),
+        2 => PairRefusal::Newer(refusal),
+        _ => PairRefusal::Pair(refusal),
+    })
+}

@@ -1,6 +1,6 @@
 //! The calls by one trait, so that another reader can be run on the same cases.
 
-use crate::{image, lister, token, Checked, PairRefusal, Profile, Read, Refusal, Token};
+use crate::{changes, image, lister, token, Checked, PairRefusal, Profile, Read, Refusal, Token};
 
 pub trait Calls {
     fn check(&self, image: &[u8]) -> Result<Checked, Refusal>;
@@ -19,6 +19,14 @@ pub trait Calls {
 
     fn pair(&self, older: &[u8], newer: &[u8]) -> Result<(), PairRefusal>;
 
+    fn changes(
+        &self,
+        older: &[u8],
+        newer: &[u8],
+        runs: &mut [u32],
+        entries: &mut [u32],
+    ) -> Result<(usize, usize), PairRefusal>;
+
     fn count(&self, image: &[u8], text: &[u8]) -> Result<usize, Refusal>;
 
     fn list(&self, image: &[u8], text: &[u8], words: &mut [u32]) -> Result<usize, Refusal>;
@@ -29,6 +37,9 @@ pub trait Calls {
 
     /// The output of the token lister, where the reader has one.
     fn lister(&self, input: &[u8]) -> Option<String>;
+
+    /// The output of the change lister, where the reader has one.
+    fn change_lister(&self, input: &[u8]) -> Option<String>;
 }
 
 /// The calls of this crate.
@@ -61,6 +72,16 @@ impl Calls for Reader {
         image::pair(older, newer)
     }
 
+    fn changes(
+        &self,
+        older: &[u8],
+        newer: &[u8],
+        runs: &mut [u32],
+        entries: &mut [u32],
+    ) -> Result<(usize, usize), PairRefusal> {
+        changes::changes(older, newer, runs, entries)
+    }
+
     fn count(&self, image: &[u8], text: &[u8]) -> Result<usize, Refusal> {
         token::count(image, text)
     }
@@ -79,5 +100,9 @@ impl Calls for Reader {
 
     fn lister(&self, input: &[u8]) -> Option<String> {
         Some(lister::lister(input))
+    }
+
+    fn change_lister(&self, input: &[u8]) -> Option<String> {
+        Some(lister::change_lister(input))
     }
 }

@@ -7,10 +7,11 @@ mod tally;
 mod texts;
 
 pub use images::{damaged_image, image_of, large_image, small_image, valid_image};
-pub use pairs::{forbidden_change, permitted_changes, unequal_profile};
+pub use pairs::{forbidden_change, most_changes, permitted_changes, unequal_profile};
 pub use tally::Tally;
 pub use texts::{damaged_text, long_text, random_bytes, text, token_text};
 
+use crate::changes::{changes_of, CHANGED_ENTRY_WORDS, RUN_WORDS};
 use crate::image::{
     total_length, Image, Profile, Range, CODE_POINTS, MAX_ENTRIES, MAX_RANGES, RANGE_WORDS,
 };
@@ -98,6 +99,14 @@ pub struct LookupCase {
 pub struct PairCase {
     pub older: Vec<u8>,
     pub newer: Vec<u8>,
+}
+
+#[derive(Clone, Debug)]
+pub struct ChangesCase {
+    pub older: Vec<u8>,
+    pub newer: Vec<u8>,
+    pub run_room: usize,
+    pub entry_room: usize,
 }
 
 #[derive(Clone, Debug)]
@@ -262,6 +271,18 @@ pub fn pair_case(rng: &mut Rng) -> PairCase {
     case
 }
 
+/// Rooms about the exact ones; a list that needs any may get none.
+pub fn changes_case(rng: &mut Rng) -> ChangesCase {
+    let PairCase { older, newer } = pair_case(rng);
+    let (runs, entries) = changes_of(&older, &newer).map_or((8, 8), |(r, e)| (r.len(), e.len()));
+    let mut rooms = [RUN_WORDS * runs, CHANGED_ENTRY_WORDS * entries].map(|exact| room(rng, exact));
+    if rng.once_in(12) {
+        rooms[rng.below(2)] = 0;
+    }
+    let [run_room, entry_room] = rooms;
+    ChangesCase { older, newer, run_room, entry_room }
+}
+
 pub fn count_case(rng: &mut Rng) -> CountCase {
     let (image, bytes) = image_bytes(rng, 8);
     CountCase { image: bytes, text: text(rng, &image) }
@@ -310,6 +331,18 @@ pub fn lister_case(rng: &mut Rng) -> ListerCase {
     input.extend(text);
     if rng.once_in(12) {
         input.truncate(rng.below(120));
+    }
+    ListerCase { input }
+}
+
+pub fn change_lister_case(rng: &mut Rng) -> ListerCase {
+    let PairCase { older, newer } = pair_case(rng);
+    let mut input = [older, newer].concat();
+    match rng.below(12) {
+        0 => input.truncate(rng.below(120)),
+        1 => input.truncate(rng.below(input.len() + 1)),
+        2 => input.extend(random_bytes(rng, 20)),
+        _ => {}
     }
     ListerCase { input }
 }

@@ -125,6 +125,15 @@ impl Image {
         }
         table
     }
+
+    /// The profile's role of every code point, 0 for none.
+    pub fn roles(&self) -> Vec<u8> {
+        let mut roles = vec![0; CODE_POINTS];
+        for (point, role) in self.profile.entries() {
+            roles[point as usize] = role as u8;
+        }
+        roles
+    }
 }
 
 /// The 32-bit words of the bytes, little-endian.

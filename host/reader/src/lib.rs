@@ -5,6 +5,7 @@
 
 pub mod calls;
 pub mod cases;
+pub mod changes;
 pub mod image;
 pub mod lister;
 pub mod names;
@@ -14,8 +15,9 @@ pub mod utf8;
 pub mod vectors;
 
 pub use calls::{Calls, Reader};
+pub use changes::changes;
 pub use image::{check, lookup, pair, read, write, Checked, Profile, Read};
-pub use lister::lister;
+pub use lister::{change_lister, lister};
 pub use names::{class, kind, role};
 pub use refusal::{PairRefusal, Refusal};
 pub use token::{at, count, list, part, Token};

@@ -1,8 +1,10 @@
-//! The token lister: an image and right after it a text, as one input.
+//! The programs. The token lister: an image and right after it a text, as one input. The change lister: an older image
+//! and right after it a newer one.
 
+use crate::changes::changes_of;
 use crate::image::{parse, HEADER_BYTES, MAX_IMAGE};
 use crate::names::kind;
-use crate::refusal::Refusal;
+use crate::refusal::{PairRefusal, Refusal};
 use crate::token::{count, list, TOKEN_WORDS};
 
 /// The most bytes of a text that the lister reads.
@@ -49,6 +51,33 @@ pub fn lister(input: &[u8]) -> String {
     let mut output = format!("tokens {}\n", words.len() / TOKEN_WORDS);
     for token in words.chunks(TOKEN_WORDS) {
         output += &format!("{} {} {}\n", kind_name(token[0]), token[1], token[2]);
+    }
+    output
+}
+
+/// What the change lister writes after `refused`: which image, the number and what it carries.
+fn told(refusal: PairRefusal) -> String {
+    let (which, refusal) = match refusal {
+        PairRefusal::Older(refusal) => ("older", refusal),
+        PairRefusal::Newer(refusal) => ("newer", refusal),
+        PairRefusal::Pair(_) => unreachable!("a list has all the room that it needs"),
+    };
+    refusal.to_string().replace("refused", &format!("refused {which}"))
+}
+
+/// The change lister's whole output.
+pub fn change_lister(input: &[u8]) -> String {
+    let cut = cut(input).map_err(PairRefusal::Older);
+    let (runs, entries) = match cut.and_then(|(older, newer)| changes_of(older, newer)) {
+        Ok(lists) => lists,
+        Err(refusal) => return format!("{}\n", told(refusal)),
+    };
+    let mut output = format!("changes {} {}\n", runs.len(), entries.len());
+    for [first, last, older, newer] in runs {
+        output += &format!("class {first} {last} {older} {newer}\n");
+    }
+    for [point, older, newer] in entries {
+        output += &format!("role {point} {older} {newer}\n");
     }
     output
 }

@@ -4,7 +4,8 @@ use crate::{Calls, Profile, Refusal};
 use std::collections::BTreeMap;
 use std::io::Write;
 
-const VECTORS: &str = concat!(env!("CARGO_MANIFEST_DIR"), "/../data/vectors/calls.txt");
+const FOLDER: &str = concat!(env!("CARGO_MANIFEST_DIR"), "/../data/vectors/");
+const FILES: [&str; 2] = ["calls.txt", "changes.txt"];
 
 fn bytes(hex: &str) -> Vec<u8> {
     if hex == "-" {
@@ -117,6 +118,18 @@ fn run_pair(calls: &impl Calls, older: &str, newer: &str) -> String {
     }
 }
 
+fn run_changes(calls: &impl Calls, args: &[&str]) -> String {
+    let [mut runs, mut entries] = [args[2], args[3]].map(|room| vec![7; room.parse().unwrap()]);
+    let before = (runs.clone(), entries.clone());
+    match calls.changes(&bytes(args[0]), &bytes(args[1]), &mut runs, &mut entries) {
+        Ok((r, e)) => format!("ok {r} {e} {} {}", joined(&runs), joined(&entries)),
+        Err(refusal) => {
+            assert_eq!((runs, entries), before, "a refused call changes nothing");
+            refusal.to_string()
+        }
+    }
+}
+
 /// The answer as the vectors write it; nothing if the reader has no such call.
 fn run(calls: &impl Calls, call: &str, args: &[&str]) -> Option<String> {
     Some(match call {
@@ -131,6 +144,7 @@ fn run(calls: &impl Calls, call: &str, args: &[&str]) -> Option<String> {
             })
         }
         "pair" => run_pair(calls, args[0], args[1]),
+        "changes" => run_changes(calls, args),
         "count" => answer_of(calls.count(&bytes(args[0]), &bytes(args[1])), |n| format!("ok {n}")),
         "list" => run_list(calls, args[0], args[1], args[2]),
         "at" => run_at(calls, args[0], args[1], args[2]),
@@ -144,11 +158,9 @@ fn run(calls: &impl Calls, call: &str, args: &[&str]) -> Option<String> {
     })
 }
 
-/// Runs every vector, prints how many of each call were run, and gives the
-/// number of calls that have any.
-pub fn run_all(calls: &impl Calls) -> usize {
-    let vectors = std::fs::read_to_string(VECTORS).unwrap();
-    let mut counts: BTreeMap<&str, usize> = BTreeMap::new();
+/// Runs every vector of a file, adds how many of each call were run, and gives the number of wrong answers.
+fn run_file(calls: &impl Calls, file: &str, counts: &mut BTreeMap<String, usize>) -> usize {
+    let vectors = std::fs::read_to_string(format!("{FOLDER}{file}")).unwrap();
     let mut wrong = 0;
     for (i, line) in vectors.lines().enumerate() {
         let (case, expected) = line.split_once(" => ").unwrap();
@@ -157,12 +169,20 @@ pub fn run_all(calls: &impl Calls) -> usize {
             Some(answer) => answer,
             None => continue,
         };
-        *counts.entry(fields[0]).or_default() += 1;
+        *counts.entry(fields[0].to_string()).or_default() += 1;
         if answer != expected {
             wrong += 1;
-            println!("line {}: {line}\n  given: {answer}", i + 1);
+            println!("{file}, line {}: {line}\n  given: {answer}", i + 1);
         }
     }
+    wrong
+}
+
+/// Runs every vector, prints how many of each call were run, and gives the
+/// number of calls that have any.
+pub fn run_all(calls: &impl Calls) -> usize {
+    let mut counts = BTreeMap::new();
+    let wrong: usize = FILES.iter().map(|file| run_file(calls, file, &mut counts)).sum();
     // Written past the test harness, so that it is always seen.
     let mut out = std::io::stdout();
     for (call, count) in &counts {

@@ -1,7 +1,8 @@
 //! The made cases reach every answer, and the reader keeps the demands on them.
 
 use luffinarc_reader::cases::*;
-use luffinarc_reader::image::{parse, write, MAX_ENTRIES, MAX_RANGES, RANGE_WORDS};
+use luffinarc_reader::changes::{CHANGED_ENTRY_WORDS, MAX_CHANGED_ENTRIES, MAX_RUNS, RUN_WORDS};
+use luffinarc_reader::image::{parse, permitted, write, MAX_ENTRIES, MAX_RANGES, RANGE_WORDS};
 use luffinarc_reader::token::TOKEN_WORDS;
 use luffinarc_reader::*;
 
@@ -86,14 +87,45 @@ fn pairs() {
     let (mut rng, mut tally) = (Rng::seeded(4), Tally::default());
     for _ in 0..RUNS {
         let case = pair_case(&mut rng);
-        match pair(&case.older, &case.newer) {
-            Ok(()) => tally.name("yes"),
-            Err(PairRefusal::Older(refusal)) => tally.name(&format!("o{}", refusal.number())),
-            Err(PairRefusal::Newer(refusal)) => tally.name(&format!("n{}", refusal.number())),
-            Err(PairRefusal::Pair(refusal)) => tally.name(&refusal.number().to_string()),
+        tally.add_pair(&pair(&case.older, &case.newer));
+    }
+    tally.close("pair", "ok,o1,o2,o3,o4,n1,n2,n3,n4,10,11");
+}
+
+/// Runs rise, each with two unequal classes, do not touch their like, and hold no surrogate.
+fn rise(runs: &[u32]) {
+    let runs: Vec<&[u32]> = runs.chunks(RUN_WORDS).collect();
+    for run in &runs {
+        assert!(run[0] <= run[1] && run[2] != run[3] && run[1] <= 0x10FFFF);
+        assert!(run[1] < 0xD800 || run[0] > 0xDFFF);
+    }
+    for two in runs.windows(2) {
+        let touch = two[0][1] + 1 == two[1][0];
+        assert!(two[0][1] < two[1][0] && !(touch && two[0][2..] == two[1][2..]));
+    }
+}
+
+#[test]
+fn changed() {
+    let (mut rng, mut tally) = (Rng::seeded(9), Tally::default());
+    for _ in 0..RUNS / 2 {
+        let case = changes_case(&mut rng);
+        let (mut runs, mut entries) = (vec![7; case.run_room], vec![7; case.entry_room]);
+        let result = changes(&case.older, &case.newer, &mut runs, &mut entries);
+        tally.add_pair(&result);
+        let (r, e) = result.unwrap_or((0, 0));
+        assert!(r <= MAX_RUNS && e <= MAX_CHANGED_ENTRIES);
+        let (of_runs, past_runs) = runs.split_at(RUN_WORDS * r);
+        let (of_entries, past_entries) = entries.split_at(CHANGED_ENTRY_WORDS * e);
+        assert!(past_runs.iter().chain(past_entries).all(|&word| word == 7));
+        rise(of_runs);
+        // The changes are permitted just where the pair check says so.
+        if result.is_ok() {
+            let allowed = of_runs.chunks(RUN_WORDS).all(|run| permitted(run[2], run[3]));
+            assert_eq!(pair(&case.older, &case.newer).is_ok(), allowed && of_entries.is_empty());
         }
     }
-    tally.close("pair", "yes,o1,o2,o3,o4,n1,n2,n3,n4,10,11");
+    tally.close("changes", "ok,o1,o2,o3,o4,n1,n2,n3,n4,8");
 }
 
 /// The list covers the text without gaps, and each token stands at its place.
@@ -159,6 +191,16 @@ fn listers() {
         }
     }
     tally.close("lister", "tokens,1,2,3,4,5,6,7");
+}
+
+#[test]
+fn change_listers() {
+    let (mut rng, mut tally) = (Rng::seeded(10), Tally::default());
+    for _ in 0..RUNS / 2 {
+        let output = change_lister(&change_lister_case(&mut rng).input);
+        tally.name(output.lines().next().unwrap().split_once(char::is_numeric).unwrap().0.trim());
+    }
+    tally.close("change lister", "changes,refused newer,refused older");
 }
 
 /// Demand 3's exception: the character at the place, or the next after a

@@ -1,6 +1,7 @@
 //! The readings that docs/RULES.md gives of the small images M and M2.
 
-use luffinarc_reader::class::{NONSTART, START, SYNTAX, WHITE};
+use luffinarc_reader::changes::changes_of;
+use luffinarc_reader::class::{NONSTART, OTHER, START, SYNTAX, WHITE};
 use luffinarc_reader::image::{profile_offset, MAX_IMAGE, MAX_RANGES, RANGE_BYTES};
 use luffinarc_reader::lister::MAX_SCRIPT;
 use luffinarc_reader::token::{MAX_TEXT, TOKEN_WORDS};
@@ -89,6 +90,40 @@ fn lookups_and_pairs() {
     assert_eq!(looked, [3, 2, 2]);
     assert_eq!(pair(&m(), &m2()), Ok(()));
     assert_eq!(pair(&m2(), &m()), Err(PairRefusal::Pair(Refusal::Change(0xE9))));
+}
+
+/// The runs and the entries that changed, as words.
+fn changed(older: &[u8], newer: &[u8]) -> (Vec<u32>, Vec<u32>) {
+    let (runs, entries) = changes_of(older, newer).unwrap();
+    (runs.concat(), entries.concat())
+}
+
+#[test]
+fn changed_images() {
+    assert_eq!(changed(&m(), &m2()), (vec![0xE9, 0xE9, 0, START], vec![]));
+    assert_eq!(changed(&m2(), &m()), (vec![0xE9, 0xE9, START, 0], vec![]));
+    let older = image(1, &[0x41, 0x42, NONSTART], &[]);
+    let newer = image(2, &[0x41, 0x41, START, 0x42, 0x42, OTHER], &[]);
+    let runs = vec![0x41, 0x41, NONSTART, START, 0x42, 0x42, NONSTART, OTHER];
+    assert_eq!(changed(&older, &newer), (runs, vec![]));
+    let edges = image(1, &[0xD7FF, 0xD7FF, OTHER, 0xE000, 0xE000, OTHER], &[]);
+    let runs = vec![0xD7FF, 0xD7FF, 0, OTHER, 0xE000, 0xE000, 0, OTHER];
+    assert_eq!(changed(&image(1, &[], &[]), &edges), (runs, vec![]));
+    let older = image(1, &[], &[(0x2E, role::MEDIAL), (0x5F, role::START)]);
+    let roles = [(0x2D, role::NONSTART), (0x2E, role::MEDIAL), (0x5F, role::NONSTART)];
+    let entries = vec![0x2D, 0, role::NONSTART, 0x5F, role::START, role::NONSTART];
+    assert_eq!(changed(&older, &image(1, &[], &roles)), (vec![], entries));
+    let refused = Err(PairRefusal::Pair(Refusal::Room(1)));
+    assert_eq!(changes(&m(), &m2(), &mut [0; 3], &mut []), refused);
+}
+
+#[test]
+fn change_lister_output() {
+    let both = [m(), m2()].concat();
+    assert_eq!(change_lister(&both), "changes 1 0\nclass 233 233 0 1\n");
+    assert_eq!(change_lister(&m()), "refused newer 1\n");
+    assert_eq!(change_lister(&m()[..99]), "refused older 1\n");
+    assert_eq!(change_lister(&[&both[..], b"a"].concat()), "refused newer 1\n");
 }
 
 #[test]

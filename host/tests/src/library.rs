@@ -31,6 +31,18 @@ fn values<const N: usize>(number: u32, answer: Answer) -> Result<[u64; N], Refus
     }
 }
 
+/// The same of a call on two images, whose refusal tells at index 2 of the answer which image it is of.
+fn pair_values<const N: usize>(number: u32, answer: Answer) -> Result<[u64; N], PairRefusal> {
+    let which = if number == 0 { 0 } else { answer[2] };
+    let told = if which == 0 { answer } else { [answer[0], answer[1], 0, answer[3]] };
+    values(number, told).map_err(|refusal| match which {
+        0 => PairRefusal::Pair(refusal),
+        1 => PairRefusal::Older(refusal),
+        2 => PairRefusal::Newer(refusal),
+        _ => panic!("the answer tells of image {which}"),
+    })
+}
+
 /// The profile that a call gave; after a refusal the arrays are as they were.
 fn profile(number: u32, points: Entries, roles: Entries, answer: Answer) -> Profile {
     if number != 0 {
@@ -118,19 +130,28 @@ impl Calls for Library {
         let number = calls::pair(older.slice(), newer.slice(), &mut answer);
         older.same();
         newer.same();
-        let which = answer[2];
-        if number == 0 {
-            assert_eq!(answer, [0; 4]);
-            return Ok(());
-        }
-        assert_eq!((answer[1], answer[3]), (0, 0));
-        let refusal = refusal(number, answer[0]);
-        Err(match which {
-            0 => PairRefusal::Pair(refusal),
-            1 => PairRefusal::Older(refusal),
-            2 => PairRefusal::Newer(refusal),
-            _ => panic!("the pair check tells of image {which}"),
-        })
+        let [] = pair_values(number, answer)?;
+        Ok(())
+    }
+
+    fn changes(
+        &self,
+        older: &[u8],
+        newer: &[u8],
+        runs: &mut [u32],
+        entries: &mut [u32],
+    ) -> Result<(usize, usize), PairRefusal> {
+        let (older, newer) = (Lent::new(older, 0xAA), Lent::new(newer, 0xAA));
+        let (mut lent_runs, mut lent_entries) = (Lent::new(runs, 0xAA), Lent::new(entries, 0xAA));
+        let (of_runs, of_entries) = (lent_runs.slice_mut(), lent_entries.slice_mut());
+        let mut answer = OLD;
+        let number = calls::changes(older.slice(), newer.slice(), of_runs, of_entries, &mut answer);
+        older.same();
+        newer.same();
+        lent_runs.back(runs);
+        lent_entries.back(entries);
+        let [run_count, entry_count] = pair_values(number, answer)?;
+        Ok((run_count as usize, entry_count as usize))
     }
 
     fn count(&self, image: &[u8], text: &[u8]) -> Result<usize, Refusal> {
@@ -196,6 +217,10 @@ impl Calls for Library {
     }
 
     fn lister(&self, input: &[u8]) -> Option<String> {
-        Some(program::lister(input))
+        Some(program::run("lister", input))
+    }
+
+    fn change_lister(&self, input: &[u8]) -> Option<String> {
+        Some(program::run("change_lister", input))
     }
 }

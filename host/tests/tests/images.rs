@@ -3,7 +3,7 @@
 use luffinarc::{Image, Refusal, MAX_ENTRIES, RANGE_WORDS};
 use luffinarc_reader::cases::*;
 use luffinarc_reader::image::parse;
-use luffinarc_reader::{image, role, Calls, PairRefusal, Profile, Reader};
+use luffinarc_reader::{image, role, Calls, Profile, Reader};
 use luffinarc_tests::{data, runs, say, Library};
 
 const RUNS: usize = 4000;
@@ -94,14 +94,9 @@ fn pairs() {
         let case = pair_case(&mut rng);
         let result = Library.pair(&case.older, &case.newer);
         assert_eq!(result, Reader.pair(&case.older, &case.newer), "{case:02X?}");
-        match result {
-            Ok(()) => tally.name("yes"),
-            Err(PairRefusal::Older(refusal)) => tally.name(&format!("o{}", refusal.number())),
-            Err(PairRefusal::Newer(refusal)) => tally.name(&format!("n{}", refusal.number())),
-            Err(PairRefusal::Pair(refusal)) => tally.name(&refusal.number().to_string()),
-        }
+        tally.add_pair(&result);
     }
-    tally.close("pair", "yes,o1,o2,o3,o4,n1,n2,n3,n4,10,11");
+    tally.close("pair", "ok,o1,o2,o3,o4,n1,n2,n3,n4,10,11");
 }
 
 /// The safe types over an accepted image give what the reader reads.

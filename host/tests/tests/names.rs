@@ -1,7 +1,7 @@
 //! Names and numbers are the same in the C header, the Rust crate, the reader and Rattle.
 
 use luffinarc::{Class, Kind, Refusal, Role};
-use luffinarc_reader::{class, image, kind, role, token};
+use luffinarc_reader::{changes, class, image, kind, role, token};
 use std::fmt::Debug;
 
 const HEADER: &str = include_str!("../../include/luffinarc.h");
@@ -113,6 +113,10 @@ fn limits() {
         ("MAX_TEXT", luffinarc::MAX_TEXT, token::MAX_TEXT),
         ("RANGE_WORDS", luffinarc::RANGE_WORDS, image::RANGE_WORDS),
         ("TOKEN_WORDS", luffinarc::TOKEN_WORDS, token::TOKEN_WORDS),
+        ("MAX_RUNS", luffinarc::MAX_RUNS, changes::MAX_RUNS),
+        ("MAX_CHANGED_ENTRIES", luffinarc::MAX_CHANGED_ENTRIES, changes::MAX_CHANGED_ENTRIES),
+        ("RUN_WORDS", luffinarc::RUN_WORDS, changes::RUN_WORDS),
+        ("CHANGED_ENTRY_WORDS", luffinarc::CHANGED_ENTRY_WORDS, changes::CHANGED_ENTRY_WORDS),
     ];
     for (name, of_rust, of_reader) in limits {
         let of_c = in_c(&format!("LUFFINARC_{name}")) as usize;

@@ -91,3 +91,15 @@ pub fn unequal_profile(rng: &mut Rng, image: &Image) -> Image {
     }
     Image { profile: Profile::of(&entries), ..image.clone() }
 }
+
+/// Two images with the most runs and the most changed entries between them.
+pub fn most_changes() -> (Image, Image) {
+    let image = |first: u32, class, point: u32, role| {
+        let range = |i| Range { first: 4 * i + first, last: 4 * i + first + 2, class };
+        let entries: Vec<(u32, u32)> =
+            (0..MAX_ENTRIES as u32).map(|i| (2 * i + point, role)).collect();
+        let ranges = (0..MAX_RANGES as u32).map(range).collect();
+        Image { version: 1, ranges, profile: Profile::of(&entries) }
+    };
+    (image(0, class::START, 0, role::START), image(2, class::NONSTART, 1, role::OTHER))
+}

@@ -1,6 +1,6 @@
 //! Counts of answers.
 
-use crate::Refusal;
+use crate::{PairRefusal, Refusal};
 use std::collections::BTreeMap;
 use std::io::Write;
 
@@ -12,6 +12,16 @@ impl Tally {
     pub fn add<T>(&mut self, result: &Result<T, Refusal>) {
         let name = result.as_ref().err().map_or("ok".to_string(), |r| r.number().to_string());
         self.name(&name);
+    }
+
+    /// Of a call on two images: `o` before a refusal of the older, `n` of the newer.
+    pub fn add_pair<T>(&mut self, result: &Result<T, PairRefusal>) {
+        match result {
+            Ok(_) => self.name("ok"),
+            Err(PairRefusal::Older(refusal)) => self.name(&format!("o{}", refusal.number())),
+            Err(PairRefusal::Newer(refusal)) => self.name(&format!("n{}", refusal.number())),
+            Err(PairRefusal::Pair(refusal)) => self.name(&refusal.number().to_string()),
+        }
     }
 
     pub fn name(&mut self, name: &str) {
