@@ -255,6 +255,6 @@ module _ (older newer : List ℕ) (oa : refusalOf older ≡ none) (na : refusalO
 -- in either section
 pub few-changes :
     (section : Section) (older newer : List ℕ) → refusalOf older ≡ none → refusalOf newer ≡ none
-    → length (changesOf section older newer) ≤ 2 * (recordCount older section + recordCount newer section)
+    → length (changesOf section older newer) ≤ 2 * (recordCount older section + recordCount newer section) - 1
 few-changes Ranges older newer oa na = omega (arith, runs-few older newer oa na)
 few-changes Entries older newer oa na = omega (arith, entries-few older newer oa na)

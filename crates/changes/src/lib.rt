@@ -112,8 +112,8 @@ fn write_changes(older: &[u8], newer: &[u8], section: Section, out: &mut [u32]) 
     count
 }
 
-// The number of changes in a section, where there is room for fewer; else 0. Twice the records are always enough, so
-// then the changes are not counted.
+// The number of changes in a section, where there is room for fewer; else 0. Room for one less than twice the records is
+// always enough: then the changes are not counted.
 fn count_missing(older: &[u8], newer: &[u8], section: Section, room: usize) -> usize
     requires { ⌜ refusalOf (now older) ≡ none ⌝ }
     requires { ⌜ refusalOf (now newer) ≡ none ⌝ }
@@ -121,7 +121,7 @@ fn count_missing(older: &[u8], newer: &[u8], section: Section, room: usize) -> u
 {
     let n = lookup::count_records(older, section);
     let m = lookup::count_records(newer, section);
-    if 2 * (n + m) <= room {
+    if n + m <= room / 2 + room % 2 {
         return 0;
     }
     let count = count_changes(older, newer, section);

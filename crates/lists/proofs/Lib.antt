@@ -4,3 +4,4 @@ pub mod SearchLaws
 pub mod LaidLaws
 pub mod EachLaws
 pub mod WritingLaws
+pub mod SetLaws

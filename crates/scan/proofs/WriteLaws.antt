@@ -9,6 +9,7 @@ use lib.Seq.{take-at, drop-at, drop-drop}
 use borrow.Rule.Slice.PartMut.{putMid}
 use Rattle.lists.specs.Laid.{laid}
 use Rattle.lists.proofs.LaidLaws.{laid-none, laid-step, length-laid, lent}
+use Rattle.lists.proofs.SetLaws.{set-three}
 use Rattle.utf8.specs.Text.{widthOf}
 use Rattle.grammar.specs.Step.{idle, under, held, tok, underWay, settle, finish}
 use Rattle.grammar.specs.Grammar.{Kind}
@@ -23,10 +24,7 @@ use Rattle.scan.proofs.ReachLaws.{charactersAt, Look, NoCharacter, Reac
 
 -- a record's words at a buffer's front
 pub three-words : (out : List ℕ) (k a b : ℕ) → recordSize ≤ length out → set (set (set out 0 k) 1 a) 2 b ≡ laid out 0 (tokenWords k a b)
-three-words [] k a b h = absurd (omega arith)
-three-words (x ∷ []) k a b h = absurd (omega arith)
-three-words (x ∷ y ∷ []) k a b h = absurd (omega arith)
-three-words (x ∷ y ∷ z ∷ out) k a b h = refl
+three-words = set-three
 
 -- values laid where no more others were laid before
 laid-again : (out xs ys : List ℕ) (at : ℕ) → at + length ys ≤ length out → length xs ≤ length ys → laid (laid out at xs) at ys ≡ laid out at ys

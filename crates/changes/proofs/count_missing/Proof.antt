@@ -26,9 +26,6 @@ few c =
 add-if1 : tie.Need-add-if1
 add-if1 c = let f = few c in omega arith
 
-mul-if1 : tie.Need-mul-if1
-mul-if1 c = let f = few c in omega arith
-
 returns : tie.Need-returns
 returns c =
     let b = c .before in
@@ -53,4 +50,13 @@ returns-3 c =
 
 pub count-missing-spec : {M : Type 1} → statement M
 count-missing-spec =
-    tie.close (tie.spec (λ c κs. search needs) (λ c κs. search needs) add-if1 mul-if1 returns (λ c κs. search needs) returns-2 returns-3)
+    tie.close
+    (tie.spec
+    (λ c κs. search needs)
+    (λ c κs. search needs)
+    add-if1
+    (λ c. search needs)
+    returns
+    (λ c κs. search needs)
+    returns-2
+    returns-3)
