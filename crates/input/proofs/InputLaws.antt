@@ -50,6 +50,10 @@ module _ (input : List ℕ) where
   image-ends (no-end f) h = absurd (h refl)
   image-ends (whole-end n w e) h = (w, e)
 
+  pub end-within : {end : ℕ} → EndMeans input end → end ≤ length input
+  end-within (no-end f) = omega arith
+  end-within (whole-end n w e) = omega (arith, w .comes)
+
   -- the end, in both cases
   pub end-whole : ComesWhole input → endIn input ≡ totalOf input
   unfolding endIn
