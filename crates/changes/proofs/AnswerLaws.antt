@@ -21,7 +21,7 @@ use Rattle.changes.specs.Changes.{changeSize, listWords, listedOf, chang
 use Rattle.changes.specs.Means.{Lists, ChangesMeans, bad-older, bad-newer, few-runs, few-entries, lists}
 use Rattle.changes.specs.declared.Changes.{Changes}
 use Rattle.changes.specs.declared.Changes.the-variants as changes
-use Rattle.changes.proofs.RoomLaws.{lacks-runs, lacks-entries, lists-both, runs-by, entries-by}
+use Rattle.changes.proofs.RoomLaws.{lacks-runs, lacks-entries, lists-both, older-answer, newer-answer, accepted-answer, runs-by, entries-by}
 use Rattle.changes.proofs.ChangesLaws.{runs-are, entries-are, are-runs, are-entries}
 
 module _ (older newer out more : List ℕ) where
@@ -49,9 +49,8 @@ module _ (older newer out more : List ℕ) where
     means-listed false false e f =
         rw (lists-both older newer _ _ (ltb-false _ _ e) (ltb-false _ _ f)) (lists both (ltb-false _ _ e) (ltb-false _ _ f))
 
-    accepted-answer : answer ≡ listed
-    unfolding answerOf
-    accepted-answer = simp (refused-none older a, refused-none newer b)
+    both-listed : answer ≡ listed
+    both-listed = accepted-answer older newer _ _ (refused-none older a) (refused-none newer b)
 
   means-by :
       (o p : Option Refusal) → refusalOf older ≡ o → refusalOf newer ≡ p → Means (changesBy (judgedBy o p) (listedOf older newer (length out) (length more)))
@@ -97,18 +96,18 @@ module _ (older newer out more : List ℕ) where
     the-entries = are-entries older newer a b (l .role-changes)
 
   pub means-changes : (c : Changes) (words others : List ℕ) → ChangesMeans older newer out more c words others → Answers c words others
-  unfolding answerOf
-  means-changes _ _ _ (bad-older {r} m) = by-answer _ (simp (means-refusal older (some r) m)) refl refl
-  means-changes _ _ _ (bad-newer {r} a m) = by-answer _ (simp (refused-none older a, means-refusal newer (some r) m)) refl refl
+  means-changes _ _ _ (bad-older {r} m) = by-answer _ (older-answer older newer _ _ (means-refusal older (some r) m)) refl refl
+  means-changes _ _ _ (bad-newer {r} a m) =
+      by-answer _ (newer-answer older newer _ _ (refused-none older a) (means-refusal newer (some r) m)) refl refl
   means-changes _ _ _ (few-runs {runs} {entries} l u) =
       let e = the-runs l in
-      by-answer _ (accepted-answer (a l) (b l) ∙ rw e (lacks-runs older newer _ _ (rw e at u))) refl refl
+      by-answer _ (both-listed (a l) (b l) ∙ rw e (lacks-runs older newer _ _ (rw e at u))) refl refl
   means-changes _ _ _ (few-entries {runs} {entries} l u v) =
       let e = the-runs l in
       let f = the-entries l in
-      by-answer _ (accepted-answer (a l) (b l) ∙ rw f (lacks-entries older newer _ _ (rw e at u) (rw f at v))) refl refl
+      by-answer _ (both-listed (a l) (b l) ∙ rw f (lacks-entries older newer _ _ (rw e at u) (rw f at v))) refl refl
   means-changes _ _ _ (lists {runs} {entries} l u v) =
       let e = the-runs l in
       let f = the-entries l in
-      by-answer _ (accepted-answer (a l) (b l) ∙ rw (e, f) (lists-both older newer _ _ (rw e at u) (rw f at v)))
+      by-answer _ (both-listed (a l) (b l) ∙ rw (e, f) (lists-both older newer _ _ (rw e at u) (rw f at v)))
       (ap (λ (m : List Change). laid out 0 (listWords Ranges m)) (sym e)) (ap (λ (m : List Change). laid more 0 (listWords Entries m)) (sym f))

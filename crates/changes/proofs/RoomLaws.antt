@@ -3,10 +3,12 @@ use Prim.Native.Nat.{ℕ, _*_, _/_, _≤_, _<_}
 use mathlib.Core.Path.{_≡_, refl, sym, ap, _∙_}
 use mathlib.Core.Bool.{Bool, true, false}
 use mathlib.Core.List.{List}
+use mathlib.Core.Option.{none, some}
 use native.Mathlib.Omega.{arith}
 use lib.Dec.{ltb}
 use lib.ListN.{length}
 use borrow.Author.Tests.{lt-ltb, le-ltb, ltb-true, ltb-false}
+use Rattle.refusal.specs.declared.Refusal.{Refusal}
 use Rattle.refusal.specs.declared.Refusal.the-variants as refusal
 use Rattle.image.specs.Check.{refusalOf}
 use Rattle.lookup.specs.declared.Section.{Section}
@@ -74,6 +76,19 @@ module _ (older newer : List ℕ) (words more : ℕ) where
       runs ≤ words / changeSize Ranges → entries ≤ more / changeSize Entries → listedOf older newer words more ≡ changes.Listed runs entries
   unfolding listedOf
   lists-both l u = simp (le-ltb _ _ l, le-ltb _ _ u)
+
+  -- the answer, by what the two images are refused with
+  pub older-answer : {r : Refusal} → refusalOf older ≡ some r → answerOf older newer words more ≡ changes.Older r
+  unfolding answerOf
+  older-answer e = simp e
+
+  pub newer-answer : {r : Refusal} → refusalOf older ≡ none → refusalOf newer ≡ some r → answerOf older newer words more ≡ changes.Newer r
+  unfolding answerOf
+  newer-answer e f = simp (e, f)
+
+  pub accepted-answer : refusalOf older ≡ none → refusalOf newer ≡ none → answerOf older newer words more ≡ listedOf older newer words more
+  unfolding answerOf
+  accepted-answer e f = simp (e, f)
 
 -- the buffers after the call, by its answer
 module _ (older newer out more : List ℕ) {c : Changes} (e : c ≡ answerOf older newer (length out) (length more)) where

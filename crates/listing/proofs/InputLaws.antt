@@ -1,21 +1,18 @@
--- Where an image in the lister's input ends, and what is then listed. Assumes nothing.
+-- What is listed of the lister's input. Assumes nothing.
 use Prim.Native.Nat.{ℕ, _-_, _≤_, _<_}
-use mathlib.Core.Path.{_≡_, refl, sym, _∙_}
-use mathlib.Core.Bool.{Bool, true, false, true≢false}
-use mathlib.Core.List.{List, [], _∷_}
+use mathlib.Core.Path.{_≡_, refl}
+use mathlib.Core.List.{List}
 use mathlib.Core.Option.{none, some}
-use native.Mathlib.Omega.{arith}
 use lib.ListN.{length, take, drop}
-use lib.Dec.{leb}
-use borrow.Author.Tests.{lt-ltb, le-ltb, le-leb, leb-true}
-use Rattle.lists.proofs.BoolLaws.{split}
+use borrow.Author.Tests.{lt-ltb, le-ltb}
 use Rattle.lists.proofs.LaidLaws.{rest}
 use Rattle.refusal.specs.declared.Refusal.{Refusal}
 use Rattle.refusal.specs.declared.Refusal.the-variants as refusal
 use Rattle.utf8.specs.Text.{Character}
-use Rattle.image.specs.Limits.{headerBytes, maxImage}
 use Rattle.image.specs.Header.{totalOf}
 use Rattle.image.specs.Check.{refusalOf}
+use Rattle.input.specs.Input.{imageIn, restIn as textIn, ComesWhole}
+use Rattle.input.proofs.InputLaws.{means-whole, not-whole}
 use Rattle.grammar.specs.Scan.{Tok}
 use Rattle.grammar.specs.Grammar.{Kind}
 use Rattle.refusal.specs.Outcome.{Outcome, refused, outcomeMap}
@@ -23,45 +20,13 @@ use Rattle.grammar.specs.Reading.{writtenOf, laidBy, listOf, listWords}
 use Rattle.scan.specs.declared.Counted.{Counted}
 use Rattle.scan.specs.declared.Counted.the-variants as counted
 use Rattle.scan.specs.Counted.{countedBy}
-use Rattle.listing.specs.Input.{maxScript, imageIn, textIn, comesWhole, writtenWithin, writtenFrom, listedFrom, wordsAfter, ComesWhole, EndMeans, no-end, whole-end}
-
--- the test of whether the image comes whole, and what it means
-module _ (input : List ℕ) where
-  pub means-whole : ComesWhole input → comesWhole input ≡ true
-  unfolding comesWhole
-  means-whole w = simp (le-leb _ _ (w .header), le-leb _ _ (w .long), le-leb _ _ (w .short), le-leb _ _ (w .comes))
-
-  pub whole-means : comesWhole input ≡ true → ComesWhole input
-  unfolding comesWhole
-  whole-means e =
-      let (a, (b, (c, d))) = split (leb headerBytes (length input)) (leb headerBytes (totalOf input) ∷ leb (totalOf input) maxImage ∷ leb (totalOf input) (length input) ∷ []) e in
-      record { header = leb-true _ _ a; long = leb-true _ _ b; short = leb-true _ _ c; comes = leb-true _ _ d }
-
-  pub dec-whole : Dec (ComesWhole input)
-  dec-whole = go (comesWhole input) refl
-    where
-      go : (b : Bool) → comesWhole input ≡ b → Dec (ComesWhole input)
-      go true e = yes (whole-means e)
-      go false e = no (λ w. true≢false (sym (means-whole w) ∙ e))
-
-  not-whole : (ComesWhole input → ⊥) → (b : Bool) → comesWhole input ≡ b → b ≡ false
-  not-whole f true e = absurd (f (whole-means e))
-  not-whole f false e = refl
-
-  -- by the image's end
-  pub no-image : {end : ℕ} → EndMeans input end → end ≡ 0 → ComesWhole input → ⊥
-  no-image (no-end f) z w = f w
-  no-image (whole-end n v e) z w = let l = w .long in omega arith
-
-  pub image-ends : {end : ℕ} → EndMeans input end → (end ≡ 0 → ⊥) → ComesWhole input × (end ≡ totalOf input)
-  image-ends (no-end f) h = absurd (h refl)
-  image-ends (whole-end n w e) h = (w, e)
+use Rattle.listing.specs.Input.{maxScript, writtenWithin, writtenFrom, listedFrom, wordsAfter}
 
 -- what is written, by the cases in turn
 module _ (input : List ℕ) (words : ℕ) where
   pub written-cut : (ComesWhole input → ⊥) → writtenFrom input words ≡ refused refusal.Length
   unfolding writtenFrom
-  written-cut f = rw (not-whole input f (comesWhole input) refl)
+  written-cut f = rw (not-whole input f)
 
   pub written-whole : ComesWhole input → writtenFrom input words ≡ writtenWithin (imageIn input) (textIn input) words
   unfolding writtenFrom

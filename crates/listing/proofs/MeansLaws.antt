@@ -12,14 +12,16 @@ use Rattle.refusal.specs.declared.Refusal.the-variants as refusal
 use Rattle.refusal.specs.Outcome.{Outcome, given, refused, outcomeMap}
 use Rattle.image.specs.Check.{refusalOf}
 use Rattle.image.proofs.ImageLaws.{refusal-number}
+use Rattle.input.specs.Input.{imageIn, restIn as textIn, ComesWhole}
+use Rattle.input.proofs.InputLaws.{dec-whole}
 use Rattle.grammar.specs.Record.{recordSize, roomOf}
 use Rattle.grammar.specs.Reading.{outcomeOf, listOf}
 use Rattle.grammar.proofs.AnswerLaws.{counts-refused}
 use Rattle.grammar.proofs.FewLaws.{outcome-no-room, written-all, list-fits}
 use Rattle.scan.specs.declared.Counted.the-variants as counted
 use Rattle.scan.specs.Counted.{countedBy}
-use Rattle.listing.specs.Input.{maxScript, imageIn, textIn, listedFrom, wholeAnswer, ComesWhole, ListingMeans, cut-off, bad-image, long-text, listed}
-use Rattle.listing.proofs.InputLaws.{dec-whole, written-cut, written-whole, within-refused, within-long, within-listed}
+use Rattle.listing.specs.Input.{maxScript, listedFrom, wholeAnswer, ListingMeans, cut-off, bad-image, long-text, listed}
+use Rattle.listing.proofs.InputLaws.{written-cut, written-whole, within-refused, within-long, within-listed}
 
 module _ (input : List ℕ) (words : ℕ) where
   pub means-listing : (o : Outcome ℕ) → ListingMeans input words o → listedFrom input words ≡ o

@@ -12,37 +12,18 @@ use Rattle.refusal.specs.Outcome.{outcomeMap}
 use Rattle.image.specs.Limits.{maxImage}
 use Rattle.image.specs.Header.{totalOf}
 use Rattle.image.specs.Check.{refusalOf}
-use Rattle.image.proofs.ImageLaws.{word-take}
+use Rattle.input.specs.Input.{imageIn, restIn as textIn, ComesWhole}
+use Rattle.input.proofs.InputLaws.{dec-whole, total, front-whole, whole-front}
 use Rattle.grammar.specs.Record.{recordSize}
 use Rattle.scan.specs.Counted.{countedBy}
-use Rattle.listing.specs.Input.{maxScript, imageIn, textIn, writtenWithin, writtenFrom, listedFrom, wholeAnswer, ComesWhole}
-use Rattle.listing.proofs.InputLaws.{dec-whole, written-cut, written-whole, within-refused, within-long}
+use Rattle.listing.specs.Input.{maxScript, writtenWithin, writtenFrom, listedFrom, wholeAnswer}
+use Rattle.listing.proofs.InputLaws.{written-cut, written-whole, within-refused, within-long}
 
 module _ (input : List ℕ) (k words : ℕ) (enough : maxImage + maxScript < k) where
-  total : totalOf (take k input) ≡ totalOf input
-  total = word-take input k 8 (omega arith)
-
   module _ (long : k ≤ length input) where
-    size : length (take k input) ≡ k
-    size = length-take-le k input long
-
-    front-whole : ComesWhole input → ComesWhole (take k input)
-    front-whole w =
-        let t = total in
-        let l = size in
-        let s = w .short in
-        record { header = omega arith; long = omega (arith, w .long); short = omega arith; comes = omega arith }
-
-    whole-front : ComesWhole (take k input) → ComesWhole input
-    whole-front w =
-        let t = total in
-        let l = size in
-        let s = w .short in
-        record { header = omega (arith, w .header); long = omega (arith, w .long); short = omega arith; comes = omega arith }
-
     -- the same image, and both texts are longer than the longest
     same-within : totalOf input ≤ maxImage → writtenWithin (imageIn (take k input)) (textIn (take k input)) words ≡ writtenWithin (imageIn input) (textIn input) words
-    same-within h = rw (total, take-take (totalOf input) k input (omega arith)) (go (refusalOf (imageIn input)) refl)
+    same-within h = rw (total input k (omega arith), take-take (totalOf input) k input (omega arith)) (go (refusalOf (imageIn input)) refl)
       where
         front : List ℕ
         front = drop (totalOf input) (take k input)
@@ -52,12 +33,12 @@ module _ (input : List ℕ) (k words : ℕ) (enough : maxImage + maxScript < k) 
         go none e =
             let m = length-drop (totalOf input) (take k input) in
             let n = length-drop (totalOf input) input in
-            let l = size in
+            let l = length-take-le k input long in
             within-long (imageIn input) front words e (omega arith) ∙ sym (within-long (imageIn input) (textIn input) words e (omega arith))
 
     same-written : Dec (ComesWhole input) → writtenFrom (take k input) words ≡ writtenFrom input words
-    same-written (yes w) = written-whole (take k input) words (front-whole w) ∙ same-within (w .short) ∙ sym (written-whole input words w)
-    same-written (no f) = written-cut (take k input) words (λ w. f (whole-front w)) ∙ sym (written-cut input words f)
+    same-written (yes w) = written-whole (take k input) words (front-whole input k (omega arith) long w) ∙ same-within (w .short) ∙ sym (written-whole input words w)
+    same-written (no f) = written-cut (take k input) words (λ w. f (whole-front input k (omega arith) long w)) ∙ sym (written-cut input words f)
 
   -- the answer, and what is written, are those of the whole input
   pub looks-no-further : writtenFrom (take k input) words ≡ writtenFrom input words

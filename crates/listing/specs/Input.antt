@@ -1,17 +1,16 @@
 -- An image and right after it a text, as the token lister reads them (docs/RULES.md, "Small image M and its readings").
 use Prim.Native.Nat.{ℕ, _*_, _≤_, _<_}
 use mathlib.Core.Path.{_≡_}
-use mathlib.Core.Bool.{Bool, true, false, _&&_}
+use mathlib.Core.Bool.{Bool, true, false}
 use mathlib.Core.List.{List}
 use mathlib.Core.Option.{none, some}
-use lib.ListN.{length, take, drop}
-use lib.Dec.{ltb, leb}
+use lib.ListN.{length}
+use lib.Dec.{ltb}
 use Rattle.refusal.specs.declared.Refusal.{Refusal}
 use Rattle.refusal.specs.declared.Refusal.the-variants as refusal
 use Rattle.utf8.specs.Text.{Character}
-use Rattle.image.specs.Limits.{headerBytes, maxImage}
-use Rattle.image.specs.Header.{totalOf}
 use Rattle.image.specs.Check.{refusalOf}
+use Rattle.input.specs.Input.{imageIn, restIn as textIn, comesWhole, ComesWhole}
 use Rattle.grammar.specs.Scan.{Tok}
 use Rattle.grammar.specs.Grammar.{Kind}
 use Rattle.refusal.specs.Outcome.{Outcome, refused, unless, refusedIf, outcomeMap}
@@ -23,18 +22,6 @@ use Rattle.scan.specs.Counted.{countedBy}
 -- the most bytes of the lister's text
 abbrev pub maxScript : ℕ
 maxScript = 8192
-
--- the image ends where its total length says, and the text follows
-abbrev pub imageIn : List ℕ → List ℕ
-imageIn input = take (totalOf input) input
-
-abbrev pub textIn : List ℕ → List ℕ
-textIn input = drop (totalOf input) input
-
--- the image comes whole: 32 bytes or more come, and its total length is 32 to 49,696 and no more than comes
-unfoldable pub comesWhole : List ℕ → Bool
-comesWhole input =
-    leb headerBytes (length input) && (leb headerBytes (totalOf input) && (leb (totalOf input) maxImage && leb (totalOf input) (length input)))
 
 -- 1 to 4 of the image, then 5 above 8,192 bytes of text, then what writing the list gives
 unfoldable pub writtenWithin : List ℕ → List ℕ → ℕ → Outcome (List (Tok Character Kind))
@@ -61,19 +48,8 @@ unfoldable pub wholeAnswer : List ℕ → Counted
 wholeAnswer input = countedBy (listedFrom input (recordSize * maxScript))
 
 -- what each answer means
-pub record ComesWhole (input : List ℕ) : Type 0 where
-  pub header : headerBytes ≤ length input
-  pub long : headerBytes ≤ totalOf input
-  pub short : totalOf input ≤ maxImage
-  pub comes : totalOf input ≤ length input
-
 pub data ListingMeans (input : List ℕ) (words : ℕ) : Outcome ℕ → Type 0 where
   cut-off : (ComesWhole input → ⊥) → ListingMeans input words (refused refusal.Length)
   bad-image : (r : Refusal) → ComesWhole input → refusalOf (imageIn input) ≡ some r → ListingMeans input words (refused r)
   long-text : ComesWhole input → refusalOf (imageIn input) ≡ none → maxScript < length (textIn input) → ListingMeans input words (refused refusal.TextLength)
   listed : (o : Outcome ℕ) → ComesWhole input → length (textIn input) ≤ maxScript → refusalOf (imageIn input) ≡ none → listOf (imageIn input) (textIn input) words ≡ o → ListingMeans input words o
-
--- where the image ends; 0 where it doesn't come whole
-pub data EndMeans (input : List ℕ) : ℕ → Type 0 where
-  no-end : (ComesWhole input → ⊥) → EndMeans input 0
-  whole-end : (end : ℕ) → ComesWhole input → end ≡ totalOf input → EndMeans input end

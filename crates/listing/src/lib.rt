@@ -8,11 +8,9 @@ ghost use lib.ListN.{length, take};
 ghost use Rattle.refusal.specs.Outcome.{outcomeMap};
 ghost use Rattle.grammar.specs.Reading.{laidBy};
 ghost use Rattle.scan.specs.Counted.{countedBy};
-ghost use Rattle.listing.specs.Input.{EndMeans, writtenWithin, listedFrom, wordsAfter, maxScript, wholeAnswer};
+ghost use Rattle.listing.specs.Input.{writtenWithin, listedFrom, wordsAfter, maxScript, wholeAnswer};
 use image::Answer;
-use image::HEADER_BYTES;
 use image::MAX_IMAGE;
-use image::TOTAL_AT;
 use refusal::Refusal;
 use scan::Counted;
 
@@ -23,26 +21,6 @@ pub const MAX_INPUT: usize = MAX_IMAGE + MAX_SCRIPT + 1;
 
 // The words that the longest text's tokens can need.
 pub const MAX_WORDS: usize = scan::RECORD_WORDS * MAX_SCRIPT;
-
-// Where the image at the front of the input ends; 0 where it doesn't come whole.
-fn find_end(input: &[u8]) -> usize
-    ensures { λ r. ⌜ EndMeans (now (input .entry)) r ⌝ }
-{
-    if input.len() < HEADER_BYTES {
-        return 0;
-    }
-    let total = image::word(input, TOTAL_AT) as usize;
-    if total < HEADER_BYTES {
-        return 0;
-    }
-    if MAX_IMAGE < total {
-        return 0;
-    }
-    if input.len() < total {
-        return 0;
-    }
-    total
-}
 
 // The list of the tokens of a text of at most 8,192 bytes.
 fn list_script<'a>(image: &'a [u8], text: &'a [u8], out: &mut [u32]) -> Counted
@@ -69,7 +47,7 @@ pub fn list_input(input: &[u8], out: &mut [u32]) -> Counted
     ensures { λ r. ⌜ r ≡ countedBy (listedFrom (now (input .entry)) (length (now (out .entry)))) ⌝ }
     ensures { λ r. ⌜ now (out .exit) ≡ wordsAfter (now (input .entry)) (now (out .entry)) ⌝ }
 {
-    let end = find_end(input);
+    let end = input::find_end(input);
     if end == 0 {
         return Counted::Refused(Refusal::Length);
     }

@@ -1,7 +1,8 @@
 -- `listing::list_input` meets its contract. Assumes nothing.
 use native.Mathlib.Omega.{arith}
 use lib.ListN.{length-take}
-use Rattle.listing.proofs.InputLaws.{no-image, image-ends, written-cut, from-refused, from-whole}
+use Rattle.input.proofs.InputLaws.{no-image, image-ends}
+use Rattle.listing.proofs.InputLaws.{written-cut, from-refused, from-whole}
 use borrow.Author.Needs.{needs}
 use Rattle.listing.proofs.list_input.Statement.{statement}
 use Rattle.listing.proofs.list_input.Tie as tie

@@ -1,9 +1,9 @@
--- `listing::find_end` meets its contract. Assumes nothing.
+-- `input::find_end` meets its contract. Assumes nothing.
 use native.Mathlib.Omega.{arith}
-use Rattle.listing.specs.Input.{no-end, whole-end}
+use Rattle.input.specs.Input.{no-end, whole-end}
 use borrow.Author.Needs.{needs}
-use Rattle.listing.proofs.find_end.Statement.{statement}
-use Rattle.listing.proofs.find_end.Tie as tie
+use Rattle.input.proofs.find_end.Statement.{statement}
+use Rattle.input.proofs.find_end.Tie as tie
 
 returns : tie.Need-returns
 returns c = no-end (λ w. omega arith)

@@ -1,0 +1,41 @@
+-- `change_lister::main` is safe: the changes that were listed have their words in the buffers. Assumes nothing.
+use native.Mathlib.Omega.{arith}
+use Rattle.change_listing.proofs.MeansLaws.{listed-fits}
+use borrow.Author.Needs.{needs}
+use Rattle.change_lister.proofs.main.Statement.{statement}
+use Rattle.change_lister.proofs.main.Tie as tie
+
+print-changes-requires : tie.Need-print-changes-requires
+print-changes-requires c κs =
+    let b = c .before .before .before in
+    let e = b .before .before .before .before .list-read .ensures in
+    let f = listed-fits _ _ _ _ (e .0, e .1 .1) (b .answer4 .given .1) in
+    (omega arith, omega arith)
+
+pub main-spec : {M : Type 1} → statement M
+main-spec =
+    tie.close
+    (tie.spec
+    (λ c. search needs)
+    (λ c κs. search needs)
+    (λ c. search needs)
+    (λ c. search needs)
+    (λ c. search needs)
+    (λ c κs. search needs)
+    (λ c. search needs)
+    (λ c. search needs)
+    (λ c κs. search needs)
+    (λ c. search needs)
+    (λ c. search needs)
+    (λ c κs. search needs)
+    (λ c. search needs)
+    (λ c. search needs)
+    (λ c κs. search needs)
+    (λ c. search needs)
+    (λ c. search needs)
+    (λ c. search needs)
+    print-changes-requires
+    (λ c. search needs)
+    (λ c. search needs)
+    (λ c. search needs)
+    (λ c. search needs))

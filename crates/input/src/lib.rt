@@ -1,0 +1,25 @@
+// Where an image at the front of a program's input ends.
+ghost use Rattle.input.specs.Input.{EndMeans};
+use image::HEADER_BYTES;
+use image::MAX_IMAGE;
+use image::TOTAL_AT;
+
+// Where the image at the front of the input ends; 0 where it doesn't come whole.
+pub fn find_end(input: &[u8]) -> usize
+    ensures { λ r. ⌜ EndMeans (now (input .entry)) r ⌝ }
+{
+    if input.len() < HEADER_BYTES {
+        return 0;
+    }
+    let total = image::word(input, TOTAL_AT) as usize;
+    if total < HEADER_BYTES {
+        return 0;
+    }
+    if MAX_IMAGE < total {
+        return 0;
+    }
+    if input.len() < total {
+        return 0;
+    }
+    total
+}
