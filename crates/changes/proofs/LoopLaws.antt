@@ -1,11 +1,14 @@
 -- The loops over a section of two images: how far they are, how many changes they passed, and what they wrote. Assumes nothing.
 use Prim.Native.Nat.{ℕ, suc, _+_, _-_, _*_, _≤_, _<_}
 use mathlib.Core.Path.{_≡_, refl, sym, ap, _∙_}
+use mathlib.Core.Bool.{Bool, true, false, not, true≢false}
 use mathlib.Core.List.{List, [], _∷_, _++_}
 use native.Mathlib.Nat.{mul-suc, mul-zero}
 use native.Mathlib.Numerals.{add-one}
 use native.Mathlib.Omega.{arith}
+use lib.Dec.{eqb}
 use lib.ListN.{length, take, drop, length-append}
+use borrow.Author.Tests.{eq-eqb, eqb-true, not-true, not-false}
 use borrow.Rule.Slice.PartMut.{putMid}
 use Rattle.lists.specs.Laid.{laid}
 use Rattle.lists.proofs.LaidLaws.{laid-none, laid-step, length-laid, lent}
@@ -31,6 +34,14 @@ list-size section [] = sym (mul-zero (changeSize section))
 list-size section (c ∷ l) =
     let e = list-size section l in
     simp (length-append, words-size section c, e, mul-suc) (omega arith)
+
+-- what the test of a change tells
+module _ {a b : ℕ} {t : Bool} (e : t ≡ not (eqb a b)) where
+  pub changed : t ≡ true → a ≡ b → ⊥
+  changed f z = true≢false (sym (eq-eqb a b z) ∙ not-true _ (sym e ∙ f))
+
+  pub unchanged : t ≡ false → a ≡ b
+  unchanged f = eqb-true a b (not-false _ (sym e ∙ f))
 
 module _ (older newer : List ℕ) (section : Section) where
   -- both walks are at x, and `count` changes begin before it

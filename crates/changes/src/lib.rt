@@ -1,8 +1,10 @@
 // The list of what changed between two class images: runs of scalar values whose class in the ranges differs, and profile
 // entries that were added, removed or given another role.
 ghost use mathlib.Core.Path.{_≡_};
+ghost use mathlib.Core.Bool.{not};
 ghost use mathlib.Core.Option.{none};
 ghost use Prim.Native.Nat.{_*_, _≤_};
+ghost use lib.Dec.{eqb};
 ghost use lib.ListN.{length};
 ghost use Rattle.lists.specs.Laid.{laid};
 ghost use Rattle.image.specs.Check.{refusalOf};
@@ -36,6 +38,13 @@ fn size_of(section: Section) -> usize
         Section::Ranges => RUN_WORDS,
         Section::Entries => ENTRY_WORDS,
     }
+}
+
+// Whether two classes, or two roles, are a change.
+fn is_change(older: u32, newer: u32) -> bool
+    ensures { λ r. ⌜ r ≡ not (eqb older newer) ⌝ }
+{
+    older != newer
 }
 
 // Writes the change that begins at code point x at the front of a buffer.
@@ -72,7 +81,7 @@ fn count_changes(older: &[u8], newer: &[u8], section: Section) -> usize
     let mut count: usize = 0;
     while x < CODE_POINTS {
         let t = compare::walk_step(older, newer, section, n, m, a, b, x);
-        if t.older.class != t.newer.class {
+        if is_change(t.older.class, t.newer.class) {
             count += 1;
         }
         a = t.older;
@@ -100,7 +109,7 @@ fn write_changes(older: &[u8], newer: &[u8], section: Section, out: &mut [u32]) 
     let mut at: usize = 0;
     while x < CODE_POINTS {
         let t = compare::walk_step(older, newer, section, n, m, a, b, x);
-        if t.older.class != t.newer.class {
+        if is_change(t.older.class, t.newer.class) {
             put_change(&mut out[at..], section, x, t);
             count += 1;
             at += size;

@@ -5,7 +5,7 @@ use native.Mathlib.Omega.{arith}
 use borrow.Author.Needs.{needs}
 use Rattle.compare.proofs.WalkLaws.{walk-begins}
 use Rattle.changes.specs.ChangeList.{codePoints}
-use Rattle.changes.proofs.LoopLaws.{Counting, counting-begins, counting-passed, counting-next, counting-ends}
+use Rattle.changes.proofs.LoopLaws.{changed, unchanged, Counting, counting-begins, counting-passed, counting-next, counting-ends}
 use Rattle.changes.proofs.count_changes.Statement.{statement}
 use Rattle.changes.proofs.count_changes.Tie as tie
 
@@ -44,7 +44,9 @@ loop-again c =
     let w = c .before .before .before .before .before in
     let l = w .before .before .loop .inv in
     let t = w .walk-step .ensures in
-    ⊎-elim (λ k. rw (k .1) (counting-next l t (k .0 .taken))) (λ k. rw (k .1) (counting-passed l t (k .0 .left))) (c .before .before .before .if1 .came)
+    let d = c .before .before .before .before .is-change .ensures in
+    ⊎-elim (λ k. rw (k .1) (counting-next l t (changed d (k .0 .taken)))) (λ k. rw (k .1) (counting-passed l t (unchanged d (k .0 .left))))
+    (c .before .before .before .if1 .came)
 
 returns : tie.Need-returns Inv-loop μ-loop
 returns c = counting-ends (c .before .loop .inv) (c .loop-test .left)
@@ -61,6 +63,7 @@ count-changes-spec =
     look-ahead-requires-2
     loop-holds
     walk-step-requires
+    (λ c κs. search needs)
     add-count
     add-x
     loop-less

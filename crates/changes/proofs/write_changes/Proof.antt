@@ -1,13 +1,13 @@
 -- `changes::write_changes` meets its contract. The invariant: the changes that begin below x stand in the buffer. Assumes nothing.
-use Prim.Native.Nat.{_-_}
-use mathlib.Core.Path.{_∙_, ap}
+use Prim.Native.Nat.{_+_, _-_, _≤_}
 use mathlib.Core.Logic.{⊎-elim}
 use native.Mathlib.Omega.{arith}
 use borrow.Author.Needs.{needs}
-use lib.ListN.{length-take, length-drop}
+use lib.ListN.{length, length-take, length-drop}
 use Rattle.compare.proofs.WalkLaws.{walk-begins}
 use Rattle.changes.specs.ChangeList.{codePoints}
-use Rattle.changes.proofs.LoopLaws.{Writing, counting-ends, writing-begins, writing-passed, change-fits, writing-next, writing-ends}
+use Rattle.changes.specs.Changes.{changeSize}
+use Rattle.changes.proofs.LoopLaws.{changed, unchanged, Writing, counting-ends, writing-begins, writing-passed, change-fits, writing-next, writing-ends}
 use Rattle.changes.proofs.write_changes.Statement.{statement}
 use Rattle.changes.proofs.write_changes.Tie as tie
 
@@ -35,38 +35,34 @@ walk-step-requires c κs =
     let b = c .before .before .before .before .before in
     (l .older-at, (l .newer-at, ((b .before .count-records .ensures, b .count-records2 .ensures), omega arith)))
 
+-- the change of the turn fits
+fits :
+    (c : tie.Then1 Inv-loop μ-loop)
+    → c .before .before .before .before .loop .at
+    + changeSize (c .before .before .before .before .before .before .before .before .before .before .before .before .before .args .section)
+    ≤ length (c .before .before .before .before .loop .out)
+fits c =
+    change-fits (c .before .before .before .before .loop .inv) (c .before .before .walk-step .ensures) (changed (c .before .is-change .ensures) (c .if1 .taken))
+
 mul-put-change : tie.Need-mul-put-change Inv-loop μ-loop
 mul-put-change c =
-    let g = c .before .before .before .before .before .before .before .before .before .before .before .before .before .good in
-    let l = c .before .before .before .before .loop .inv in
-    let f = change-fits l (c .before .before .walk-step .ensures) (c .if1 .taken) in
-    let z = l .size in
-    omega (arith, g .1 .1 .1 .0 .1)
-
-sub-put-change : tie.Need-sub-put-change Inv-loop μ-loop
-sub-put-change c = let f = change-fits (c .before .before .before .before .loop .inv) (c .before .before .walk-step .ensures) (c .if1 .taken) in omega arith
-
-part-put-change-start : tie.Need-part-put-change-start Inv-loop μ-loop
-part-put-change-start c = let f = change-fits (c .before .before .before .before .loop .inv) (c .before .before .walk-step .ensures) (c .if1 .taken) in omega arith
+    let s = c .before .before .before .before .before .before .before .before .before .before .before .before .before in
+    let z = c .before .before .before .before .loop .inv .size in
+    omega (arith, fits c, s .good .1 .1 .1 .0 .1)
 
 put-change-requires : tie.Need-put-change-requires Inv-loop μ-loop
-put-change-requires c κs =
-    let b = c .before .before .before .before in
-    let f = change-fits (b .before .loop .inv) (c .before .before .before .walk-step .ensures) (c .before .if1 .taken) in
-    simp (length-take, length-drop) (omega arith)
+put-change-requires c κs = let f = fits (c .before) in simp (length-take, length-drop) (omega arith)
 
 add-count : tie.Need-add-count Inv-loop μ-loop
 add-count c = let f = c .before .before .before .before .before .before .before .before .loop .inv .counting .few in omega arith
 
 add-at : tie.Need-add-at Inv-loop μ-loop
 add-at c =
-    let b = c .before .before .before .before .before .before in
-    let l = b .before .before .loop .inv in
-    let f = change-fits l (b .walk-step .ensures) (c .before .before .before .before .if1 .taken) in
-    let z = l .size in
-    let e = b .before .before .before .before .before in
-    let s = e .size-of .ensures in
-    omega (arith, e .before .before .before .before .before .before .good .1 .1 .1 .0 .0)
+    let t = c .before .before .before .before in
+    let l = t .before .before .before .before in
+    let e = l .before .before .before in
+    let z = l .loop .inv .size in
+    omega (arith, fits t, e .size-of .ensures, e .before .before .before .before .before .before .good .1 .1 .1 .0 .0)
 
 add-x : tie.Need-add-x Inv-loop μ-loop
 add-x c = let t = c .before .before .before .before .before .walk-step .ensures .to in omega arith
@@ -79,8 +75,10 @@ loop-again c =
     let w = c .before .before .before .before .before in
     let l = w .before .before .loop .inv in
     let t = w .walk-step .ensures in
-    ⊎-elim (λ k. rw (k .5, k .6, k .7) (rw (w .before .before .before .before .before .size-of .ensures) (writing-next l t (k .0 .taken) _ (k .2 .ensures))))
-    (λ k. rw (k .1, k .2, k .3) (writing-passed l t (k .0 .left))) (c .before .before .before .if1 .came)
+    let d = c .before .before .before .before .is-change .ensures in
+    let size = w .before .before .before .before .before .size-of .ensures in
+    ⊎-elim (λ k. rw (k .5, k .6, k .7) (rw size (writing-next l t (changed d (k .0 .taken)) _ (k .2 .ensures))))
+    (λ k. rw (k .1, k .2, k .3) (writing-passed l t (unchanged d (k .0 .left)))) (c .before .before .before .if1 .came)
 
 same-length : tie.Need-same-length Inv-loop μ-loop
 same-length c = c .before .loop .inv .size
@@ -103,9 +101,10 @@ write-changes-spec =
     look-ahead-requires-2
     loop-holds
     walk-step-requires
+    (λ c κs. search needs)
     mul-put-change
-    sub-put-change
-    part-put-change-start
+    (λ c. omega (arith, fits c))
+    (λ c. omega (arith, fits c))
     (λ c. omega arith)
     put-change-requires
     add-count
