@@ -12,9 +12,9 @@ use changes::RUN_WORDS;
 use libc::STDIN_FILENO;
 use refusal::Refusal;
 
-// The line of a refusal: of an image, or of neither.
-fn print_refused(what: &[u8], r: Refusal) {
-    printing::print_refusal_of(what, r);
+// The line of a refusal, with `of` after its first word: which image is refused, or nothing.
+fn print_refused(of: &[u8], r: Refusal) {
+    printing::print_refusal_of(of, r);
     printing::print_text(b"\n");
 }
 

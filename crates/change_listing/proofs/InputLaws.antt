@@ -16,7 +16,7 @@ use Rattle.changes.specs.declared.Changes.the-variants as changes
 use Rattle.changes.proofs.RoomLaws.{older-answer}
 use Rattle.input.specs.Input.{imageIn, restIn, ComesWhole, EndMeans}
 use Rattle.input.proofs.InputLaws.{end-whole, end-cut, end-is}
-use Rattle.change_listing.specs.Input.{olderIn, newerIn}
+use Rattle.change_listing.specs.Input.{olderIn, newerIn, answerFrom}
 
 -- an answer and what the two buffers then hold, which were `out` and `more`
 abbrev pub Gives : List ℕ → List ℕ → List ℕ → List ℕ → Changes → List ℕ → List ℕ → Type 0
@@ -35,9 +35,9 @@ module _ (input : List ℕ) where
   pub cut-refused : (ComesWhole input → ⊥) → refusalOf (olderIn input) ≡ some refusal.Length
   cut-refused f = rw (end-cut input f) (means-refusal _ (some refusal.Length) (bad-length (λ z. omega (arith, z .long))))
 
-  pub answer-cut : (words more : ℕ) → (ComesWhole input → ⊥) → answerOf (olderIn input) (newerIn input) words more ≡ changes.Older refusal.Length
+  pub answer-cut : (words more : ℕ) → (ComesWhole input → ⊥) → answerFrom input words more ≡ changes.Older refusal.Length
   answer-cut words more f = older-answer _ _ words more (cut-refused f)
 
   pub answer-whole :
-      (words more : ℕ) → ComesWhole input → answerOf (olderIn input) (newerIn input) words more ≡ answerOf (imageIn input) (restIn input) words more
+      (words more : ℕ) → ComesWhole input → answerFrom input words more ≡ answerOf (imageIn input) (restIn input) words more
   answer-whole words more w = rw (end-whole input w)

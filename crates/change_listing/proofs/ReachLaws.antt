@@ -5,7 +5,7 @@ use mathlib.Core.List.{List}
 use mathlib.Core.Option.{Option, none, some}
 use native.Mathlib.Omega.{arith}
 use native.Mathlib.Decide.{decLe}
-use lib.ListN.{length, take, drop, length-drop}
+use lib.ListN.{length, take, length-drop}
 use lib.Seq.{take-take, take-all, length-take-le}
 use Rattle.refusal.specs.declared.Refusal.{Refusal}
 use Rattle.refusal.specs.declared.Refusal.the-variants as refusal
@@ -15,12 +15,10 @@ use Rattle.image.specs.Check.{refusalOf}
 use Rattle.image.specs.Means.{bad-length}
 use Rattle.image.proofs.ImageLaws.{means-refusal}
 use Rattle.changes.specs.Changes.{answerOf}
-use Rattle.changes.specs.declared.Changes.{Changes}
-use Rattle.changes.specs.declared.Changes.the-variants as changes
 use Rattle.changes.proofs.RoomLaws.{older-answer, newer-answer}
-use Rattle.input.specs.Input.{imageIn, restIn, endIn, ComesWhole}
-use Rattle.input.proofs.InputLaws.{dec-whole, end-whole, end-cut, total, front-whole, whole-front}
-use Rattle.change_listing.specs.Input.{olderIn, newerIn, maxRunWords, maxEntryWords, wholeAnswer}
+use Rattle.input.specs.Input.{imageIn, restIn, ComesWhole}
+use Rattle.input.proofs.InputLaws.{dec-whole, total, front-whole, whole-front}
+use Rattle.change_listing.specs.Input.{answerFrom, maxRunWords, maxEntryWords, wholeAnswer}
 use Rattle.change_listing.proofs.InputLaws.{answer-cut, answer-whole}
 
 -- an image longer than the largest is refused with 1
@@ -28,7 +26,7 @@ long-refused : (s : List ℕ) → maxImage < length s → refusalOf s ≡ some r
 long-refused s h = means-refusal s (some refusal.Length) (bad-length (λ z. omega (arith, z .short)))
 
 module _ (words more : ℕ) where
-  -- whatever longer image is compared with the same older one
+  -- the answer is the same for any two newer images that are longer than the largest
   same-long :
       (older s t : List ℕ) → maxImage < length s → maxImage < length t → answerOf older s words more ≡ answerOf older t words more
   same-long older s t h k = go (refusalOf older) refl
@@ -50,9 +48,7 @@ module _ (words more : ℕ) where
           let l = length-take-le k input long in
           rw (total input k (omega arith), take-take (totalOf input) k input (omega arith)) (same-long _ _ _ (omega arith) (omega arith))
 
-      same-answer :
-          Dec (ComesWhole input)
-          → answerOf (olderIn (take k input)) (newerIn (take k input)) words more ≡ answerOf (olderIn input) (newerIn input) words more
+      same-answer : Dec (ComesWhole input) → answerFrom (take k input) words more ≡ answerFrom input words more
       same-answer (yes w) =
           answer-whole (take k input) words more (front-whole input k (omega arith) long w) ∙ same-whole (w .short)
           ∙ sym (answer-whole input words more w)
@@ -60,18 +56,16 @@ module _ (words more : ℕ) where
           answer-cut (take k input) words more (λ w. f (whole-front input k (omega arith) long w)) ∙ sym (answer-cut input words more f)
 
     -- the answer is that of the whole input
-    pub looks-no-further : answerOf (olderIn (take k input)) (newerIn (take k input)) words more ≡ answerOf (olderIn input) (newerIn input) words more
+    pub looks-no-further : answerFrom (take k input) words more ≡ answerFrom input words more
     looks-no-further = go (decLe k (length input))
       where
-        go :
-            Dec (k ≤ length input)
-            → answerOf (olderIn (take k input)) (newerIn (take k input)) words more ≡ answerOf (olderIn input) (newerIn input) words more
+        go : Dec (k ≤ length input) → answerFrom (take k input) words more ≡ answerFrom input words more
         go (yes h) = same-answer h (dec-whole input)
-        go (no h) = ap (λ (s : List ℕ). answerOf (olderIn s) (newerIn s) words more) (take-all k input (omega arith))
+        go (no h) = ap (λ (s : List ℕ). answerFrom s words more) (take-all k input (omega arith))
 
 -- so is the program's, where there is room for the most changes
 pub whole-answer :
     (input : List ℕ) (limit : ℕ) → 2 * maxImage < limit → (read : List ℕ) → take limit input ≡ read
-    → (words more : ℕ) → words ≡ maxRunWords → more ≡ maxEntryWords → answerOf (olderIn read) (newerIn read) words more ≡ wholeAnswer input
+    → (words more : ℕ) → words ≡ maxRunWords → more ≡ maxEntryWords → answerFrom read words more ≡ wholeAnswer input
 unfolding wholeAnswer
 whole-answer input limit h read e words more v w = rw (← e, v, w) (looks-no-further maxRunWords maxEntryWords input limit h)

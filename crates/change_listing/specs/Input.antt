@@ -5,7 +5,7 @@ use lib.ListN.{take, drop}
 use Rattle.refusal.specs.declared.Refusal.the-variants as refusal
 use Rattle.image.specs.Limits.{maxRanges, maxEntries}
 use Rattle.lookup.specs.declared.Section.the-variants.{Ranges, Entries}
-use Rattle.changes.specs.Changes.{changeSize, answerOf}
+use Rattle.changes.specs.Changes.{changeSize, answerOf, runsAfter, entriesAfter}
 use Rattle.changes.specs.Means.{ChangesMeans}
 use Rattle.changes.specs.declared.Changes.{Changes}
 use Rattle.changes.specs.declared.Changes.the-variants as changes
@@ -25,9 +25,20 @@ maxRunWords = changeSize Ranges * (2 * (maxRanges + maxRanges) - 1)
 abbrev pub maxEntryWords : ℕ
 maxEntryWords = changeSize Entries * (maxEntries + maxEntries)
 
+-- the answer, with buffers of so many words
+abbrev pub answerFrom : List ℕ → ℕ → ℕ → Changes
+answerFrom input words more = answerOf (olderIn input) (newerIn input) words more
+
+-- the two buffers after the call, which were `out` and `more`
+abbrev pub runsFrom : List ℕ → List ℕ → List ℕ → List ℕ
+runsFrom input out more = runsAfter (olderIn input) (newerIn input) out more
+
+abbrev pub entriesFrom : List ℕ → List ℕ → List ℕ → List ℕ
+entriesFrom input out more = entriesAfter (olderIn input) (newerIn input) out more
+
 -- the program's answer: there is room for the most changes
 unfoldable pub wholeAnswer : List ℕ → Changes
-wholeAnswer input = answerOf (olderIn input) (newerIn input) maxRunWords maxEntryWords
+wholeAnswer input = answerFrom input maxRunWords maxEntryWords
 
 -- what each answer means, and what the two buffers then hold, which were `out` and `more`: 1 of an older image that doesn't come whole,
 -- and the buffers as they were; or what the image at the front gives with the one after it

@@ -4,8 +4,7 @@ ghost use mathlib.Core.List.{List};
 ghost use Prim.Native.Nat.{ℕ, _*_, _≤_, _<_};
 ghost use lib.ListN.{length, take};
 ghost use Rattle.image.specs.Limits.{maxImage};
-ghost use Rattle.changes.specs.Changes.{answerOf, runsAfter, entriesAfter};
-ghost use Rattle.change_listing.specs.Input.{olderIn, newerIn, maxRunWords, maxEntryWords, wholeAnswer};
+ghost use Rattle.change_listing.specs.Input.{answerFrom, runsFrom, entriesFrom, maxRunWords, maxEntryWords, wholeAnswer};
 use changes::Changes;
 use changes::ENTRY_WORDS;
 use changes::RUN_WORDS;
@@ -24,9 +23,9 @@ pub const MAX_ENTRY_WORDS: usize = ENTRY_WORDS * (MAX_ENTRIES + MAX_ENTRIES);
 // The lists of the changes between the older image at the front of the input and the newer, which is all that follows.
 // An older image that doesn't come whole is taken as empty, which refuses it with 1.
 pub fn list_input(input: &[u8], runs: &mut [u32], entries: &mut [u32]) -> Changes
-    ensures { λ r. ⌜ r ≡ answerOf (olderIn (now (input .entry))) (newerIn (now (input .entry))) (length (now (runs .entry))) (length (now (entries .entry))) ⌝ }
-    ensures { λ _. ⌜ now (runs .exit) ≡ runsAfter (olderIn (now (input .entry))) (newerIn (now (input .entry))) (now (runs .entry)) (now (entries .entry)) ⌝ }
-    ensures { λ _. ⌜ now (entries .exit) ≡ entriesAfter (olderIn (now (input .entry))) (newerIn (now (input .entry))) (now (runs .entry)) (now (entries .entry)) ⌝ }
+    ensures { λ r. ⌜ r ≡ answerFrom (now (input .entry)) (length (now (runs .entry))) (length (now (entries .entry))) ⌝ }
+    ensures { λ _. ⌜ now (runs .exit) ≡ runsFrom (now (input .entry)) (now (runs .entry)) (now (entries .entry)) ⌝ }
+    ensures { λ _. ⌜ now (entries .exit) ≡ entriesFrom (now (input .entry)) (now (runs .entry)) (now (entries .entry)) ⌝ }
 {
     let end = input::find_end(input);
     changes::list_changes(&input[..end], &input[end..], runs, entries)
@@ -36,10 +35,10 @@ pub fn list_input(input: &[u8], runs: &mut [u32], entries: &mut [u32]) -> Change
 pub fn list_read(buffer: &[u8], n: usize, runs: &mut [u32], entries: &mut [u32]) -> Changes
     requires { ⌜ n ≤ length (now buffer) ⌝ }
     requires { ⌜ (2 * maxImage < length (now buffer)) × ((length (now runs) ≡ maxRunWords) × (length (now entries) ≡ maxEntryWords)) ⌝ }
-    ensures { λ r. ⌜ r ≡ answerOf (olderIn (take n (now (buffer .entry)))) (newerIn (take n (now (buffer .entry)))) (length (now (runs .entry))) (length (now (entries .entry))) ⌝ }
+    ensures { λ r. ⌜ r ≡ answerFrom (take n (now (buffer .entry))) (length (now (runs .entry))) (length (now (entries .entry))) ⌝ }
     ensures { λ r. ⌜ ((whole : List ℕ) → take (length (now (buffer .entry))) whole ≡ take n (now (buffer .entry)) → r ≡ wholeAnswer whole) ⌝ }
-    ensures { λ _. ⌜ now (runs .exit) ≡ runsAfter (olderIn (take n (now (buffer .entry)))) (newerIn (take n (now (buffer .entry)))) (now (runs .entry)) (now (entries .entry)) ⌝ }
-    ensures { λ _. ⌜ now (entries .exit) ≡ entriesAfter (olderIn (take n (now (buffer .entry)))) (newerIn (take n (now (buffer .entry)))) (now (runs .entry)) (now (entries .entry)) ⌝ }
+    ensures { λ _. ⌜ now (runs .exit) ≡ runsFrom (take n (now (buffer .entry))) (now (runs .entry)) (now (entries .entry)) ⌝ }
+    ensures { λ _. ⌜ now (entries .exit) ≡ entriesFrom (take n (now (buffer .entry))) (now (runs .entry)) (now (entries .entry)) ⌝ }
 {
     list_input(&buffer[..n], runs, entries)
 }

@@ -26,17 +26,17 @@ pub fn print_hex(n: u32, digits: usize) {
     io::print_hex(STDOUT_FILENO, n as u64, digits);
 }
 
-// The line of a refusal without its end: `refused`, what it is of, its number and what it carries, if anything.
-pub fn print_refusal_of(what: &[u8], r: Refusal) {
+// The line of a refusal without its end: `refused`, then `of` as it stands, the refusal's number and what it carries, if anything.
+pub fn print_refusal_of(of: &[u8], r: Refusal) {
     print_text(b"refused");
-    print_text(what);
+    print_text(of);
     print_next(refusal::number(r) as usize);
     if refusal::carried_count(r) == 1 {
         print_next(refusal::carried(r));
     }
 }
 
-// The same of no named thing.
+// The same with nothing between `refused` and the number.
 pub fn print_refusal(r: Refusal) {
     print_refusal_of(b"", r);
 }
