@@ -2,7 +2,7 @@
 ghost use Prim.Native.Nat.{_*_, _≤_};
 ghost use lib.ListN.{length};
 ghost use Rattle.lookup.specs.declared.Section.the-variants.{Ranges, Entries};
-ghost use Rattle.changes.specs.Changes.{changeSize};
+ghost use Rattle.changes.specs.Answer.{changeSize};
 use change_listing::MAX_ENTRY_WORDS;
 use change_listing::MAX_INPUT;
 use change_listing::MAX_RUN_WORDS;

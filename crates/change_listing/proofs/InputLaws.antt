@@ -10,7 +10,7 @@ use Rattle.refusal.specs.declared.Refusal.the-variants as refusal
 use Rattle.image.specs.Check.{refusalOf}
 use Rattle.image.specs.Means.{bad-length}
 use Rattle.image.proofs.ImageLaws.{means-refusal}
-use Rattle.changes.specs.Changes.{answerOf, runsAfter, entriesAfter}
+use Rattle.changes.specs.Answer.{answerOf, runsAfter, entriesAfter}
 use Rattle.changes.specs.declared.Changes.{Changes}
 use Rattle.changes.specs.declared.Changes.the-variants as changes
 use Rattle.changes.proofs.RoomLaws.{older-answer}

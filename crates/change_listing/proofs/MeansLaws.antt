@@ -11,13 +11,13 @@ use Rattle.refusal.specs.declared.Refusal.the-variants as refusal
 use Rattle.image.specs.Check.{refusalOf}
 use Rattle.image.proofs.ImageLaws.{refusal-means}
 use Rattle.lookup.specs.declared.Section.the-variants.{Ranges, Entries}
-use Rattle.changes.specs.Changes.{changeSize}
-use Rattle.changes.specs.Means.{ChangesMeans, bad-older, lists}
+use Rattle.changes.specs.Answer.{changeSize}
+use Rattle.changes.specs.Means.{ChangesMeans, bad-older, both-listed}
 use Rattle.changes.specs.declared.Changes.{Changes}
 use Rattle.changes.specs.declared.Changes.the-variants as changes
 use Rattle.changes.proofs.RoomLaws.{older-answer, newer-answer, accepted-answer, lists-both}
 use Rattle.changes.proofs.AnswerLaws.{changes-mean, Answers, means-changes}
-use Rattle.changes.proofs.BoundLaws.{few-runs, few-entries}
+use Rattle.changes.proofs.BoundLaws.{runs-by-limits, entries-by-limits}
 use Rattle.input.specs.Input.{imageIn, restIn, ComesWhole}
 use Rattle.input.proofs.InputLaws.{dec-whole, end-whole}
 use Rattle.change_listing.specs.Input.{olderIn, newerIn, maxRunWords, maxEntryWords, wholeAnswer, ChangeListingMeans, cut-off, whole}
@@ -54,7 +54,7 @@ module _ (older newer out more : List ℕ) where
   means-fits :
       {n m : ℕ} {words others : List ℕ} → ChangesMeans older newer out more (changes.Listed n m) words others
       → (changeSize Ranges * n ≤ length out) × (changeSize Entries * m ≤ length more)
-  means-fits (lists l u v) = (omega arith, omega arith)
+  means-fits (both-listed l u v) = (omega arith, omega arith)
 
   pub listed-fits :
       {c : Changes} {words others : List ℕ} → Gives older newer out more c words others → {n m : ℕ} → c ≡ changes.Listed n m
@@ -78,5 +78,5 @@ never-room input r e = go (refusalOf older) (refusalOf newer) refl refl
     go none none f g =
         let a = accepted-answer older newer maxRunWords maxEntryWords f g in
         let b =
-        lists-both older newer maxRunWords maxEntryWords (omega (arith, few-runs older newer f g)) (omega (arith, few-entries older newer f g)) in
+        lists-both older newer maxRunWords maxEntryWords (omega (arith, runs-by-limits older newer f g)) (omega (arith, entries-by-limits older newer f g)) in
         impossible (cc)

@@ -14,7 +14,7 @@ use Rattle.image.specs.Header.{totalOf}
 use Rattle.image.specs.Check.{refusalOf}
 use Rattle.image.specs.Means.{bad-length}
 use Rattle.image.proofs.ImageLaws.{means-refusal}
-use Rattle.changes.specs.Changes.{answerOf}
+use Rattle.changes.specs.Answer.{answerOf}
 use Rattle.changes.proofs.RoomLaws.{older-answer, newer-answer}
 use Rattle.input.specs.Input.{imageIn, restIn, ComesWhole}
 use Rattle.input.proofs.InputLaws.{dec-whole, total, front-whole, whole-front}

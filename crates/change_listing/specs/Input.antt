@@ -5,7 +5,7 @@ use lib.ListN.{take, drop}
 use Rattle.refusal.specs.declared.Refusal.the-variants as refusal
 use Rattle.image.specs.Limits.{maxRanges, maxEntries}
 use Rattle.lookup.specs.declared.Section.the-variants.{Ranges, Entries}
-use Rattle.changes.specs.Changes.{changeSize, answerOf, runsAfter, entriesAfter}
+use Rattle.changes.specs.Answer.{changeSize, answerOf, runsAfter, entriesAfter}
 use Rattle.changes.specs.Means.{ChangesMeans}
 use Rattle.changes.specs.declared.Changes.{Changes}
 use Rattle.changes.specs.declared.Changes.the-variants as changes

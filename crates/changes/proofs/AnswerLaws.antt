@@ -17,8 +17,8 @@ use Rattle.lookup.specs.declared.Section.the-variants.{Ranges, Entries}
 use Rattle.compare.specs.Judged.{judgedBy}
 use Rattle.changes.specs.Change.{Change}
 use Rattle.changes.specs.ChangeList.{runsOf, entriesOf}
-use Rattle.changes.specs.Changes.{changeSize, listWords, listedOf, changesBy, answerOf, bufferAfter, runsAfter, entriesAfter}
-use Rattle.changes.specs.Means.{Lists, ChangesMeans, bad-older, bad-newer, few-runs, few-entries, lists}
+use Rattle.changes.specs.Answer.{changeSize, listWords, listedOf, changesBy, answerOf, bufferAfter, runsAfter, entriesAfter}
+use Rattle.changes.specs.Means.{BothLists, ChangesMeans, bad-older, bad-newer, few-runs, few-entries, both-listed}
 use Rattle.changes.specs.declared.Changes.{Changes}
 use Rattle.changes.specs.declared.Changes.the-variants as changes
 use Rattle.changes.proofs.RoomLaws.{lacks-runs, lacks-entries, lists-both, older-answer, newer-answer, accepted-answer, runs-by, entries-by}
@@ -33,7 +33,7 @@ module _ (older newer out more : List ℕ) where
   answer = answerOf older newer (length out) (length more)
 
   module _ (a : Accepted older) (b : Accepted newer) where
-    both : Lists older newer (runsOf older newer) (entriesOf older newer)
+    both : BothLists older newer (runsOf older newer) (entriesOf older newer)
     both =
         record { older-accepted = a; newer-accepted = b; class-runs = runs-are older newer a b; role-changes = entries-are older newer a b }
 
@@ -47,10 +47,10 @@ module _ (older newer out more : List ℕ) where
     means-listed false true e f =
         rw (lacks-entries older newer _ _ (ltb-false _ _ e) (ltb-true _ _ f)) (few-entries both (ltb-false _ _ e) (ltb-true _ _ f))
     means-listed false false e f =
-        rw (lists-both older newer _ _ (ltb-false _ _ e) (ltb-false _ _ f)) (lists both (ltb-false _ _ e) (ltb-false _ _ f))
+        rw (lists-both older newer _ _ (ltb-false _ _ e) (ltb-false _ _ f)) (both-listed both (ltb-false _ _ e) (ltb-false _ _ f))
 
-    both-listed : answer ≡ listed
-    both-listed = accepted-answer older newer _ _ (refused-none older a) (refused-none newer b)
+    both-answer : answer ≡ listed
+    both-answer = accepted-answer older newer _ _ (refused-none older a) (refused-none newer b)
 
   means-by :
       (o p : Option Refusal) → refusalOf older ≡ o → refusalOf newer ≡ p → Means (changesBy (judgedBy o p) (listedOf older newer (length out) (length more)))
@@ -81,7 +81,7 @@ module _ (older newer out more : List ℕ) where
         entries-after = sym (entries-by older newer out more (sym e) refl) ∙ g;
       }
 
-  module _ {runs entries : List Change} (l : Lists older newer runs entries) where
+  module _ {runs entries : List Change} (l : BothLists older newer runs entries) where
     abbrev a : Accepted older
     a = l .older-accepted
 
@@ -101,13 +101,13 @@ module _ (older newer out more : List ℕ) where
       by-answer _ (newer-answer older newer _ _ (refused-none older a) (means-refusal newer (some r) m)) refl refl
   means-changes _ _ _ (few-runs {runs} {entries} l u) =
       let e = the-runs l in
-      by-answer _ (both-listed (a l) (b l) ∙ rw e (lacks-runs older newer _ _ (rw e at u))) refl refl
+      by-answer _ (both-answer (a l) (b l) ∙ rw e (lacks-runs older newer _ _ (rw e at u))) refl refl
   means-changes _ _ _ (few-entries {runs} {entries} l u v) =
       let e = the-runs l in
       let f = the-entries l in
-      by-answer _ (both-listed (a l) (b l) ∙ rw f (lacks-entries older newer _ _ (rw e at u) (rw f at v))) refl refl
-  means-changes _ _ _ (lists {runs} {entries} l u v) =
+      by-answer _ (both-answer (a l) (b l) ∙ rw f (lacks-entries older newer _ _ (rw e at u) (rw f at v))) refl refl
+  means-changes _ _ _ (both-listed {runs} {entries} l u v) =
       let e = the-runs l in
       let f = the-entries l in
-      by-answer _ (both-listed (a l) (b l) ∙ rw (e, f) (lists-both older newer _ _ (rw e at u) (rw f at v)))
+      by-answer _ (both-answer (a l) (b l) ∙ rw (e, f) (lists-both older newer _ _ (rw e at u) (rw f at v)))
       (ap (λ (m : List Change). laid out 0 (listWords Ranges m)) (sym e)) (ap (λ (m : List Change). laid more 0 (listWords Entries m)) (sym f))

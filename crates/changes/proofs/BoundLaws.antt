@@ -14,10 +14,10 @@ use Rattle.lookup.specs.declared.Section.the-variants.{Ranges, Entries}
 use Rattle.lookup.specs.Records.{recordAt, recordCount, sectionClass}
 use Rattle.lookup.proofs.RecordLaws.{fits}
 use Rattle.compare.specs.declared.Ahead.{Ahead}
-use Rattle.compare.specs.Walk.{Walk, AheadOf}
+use Rattle.compare.specs.Walk.{Walk, AheadOf, codePoints}
 use Rattle.compare.proofs.WalkLaws.{walk-begins, ends-ahead, gap-ahead, range-ahead, ready, Least, both-ahead}
-use Rattle.changes.specs.ChangeList.{codePoints, runsOf, entriesOf}
-use Rattle.changes.specs.Changes.{changesOf}
+use Rattle.changes.specs.ChangeList.{runsOf, entriesOf}
+use Rattle.changes.specs.Answer.{changesOf}
 use Rattle.changes.specs.Walked.{restOf}
 use Rattle.changes.proofs.StepLaws.{whole-list, no-rest, same-step, changed-step}
 
@@ -239,22 +239,22 @@ module _ (older newer : List ℕ) (oa : refusalOf older ≡ none) (na : refusalO
       go (no c) d = omega (arith, few .most, o .begun c, w .all)
 
   -- by the numbers of records
-  pub runs-few : length (runsOf older newer) ≤ 2 * (recordCount older Ranges + recordCount newer Ranges) - 1
-  runs-few = omega (arith, few-edges Ranges)
+  pub runs-by-records : length (runsOf older newer) ≤ 2 * (recordCount older Ranges + recordCount newer Ranges) - 1
+  runs-by-records = omega (arith, few-edges Ranges)
 
-  pub entries-few : length (entriesOf older newer) ≤ recordCount older Entries + recordCount newer Entries
-  entries-few = omega (arith, few-edges Entries)
+  pub entries-by-records : length (entriesOf older newer) ≤ recordCount older Entries + recordCount newer Entries
+  entries-by-records = omega (arith, few-edges Entries)
 
   -- by the limits
-  pub few-runs : length (runsOf older newer) ≤ 2 * (maxRanges + maxRanges) - 1
-  few-runs = omega (arith, runs-few, fits older oa .few-ranges, fits newer na .few-ranges)
+  pub runs-by-limits : length (runsOf older newer) ≤ 2 * (maxRanges + maxRanges) - 1
+  runs-by-limits = omega (arith, runs-by-records, fits older oa .few-ranges, fits newer na .few-ranges)
 
-  pub few-entries : length (entriesOf older newer) ≤ maxEntries + maxEntries
-  few-entries = omega (arith, entries-few, fits older oa .few-entries, fits newer na .few-entries)
+  pub entries-by-limits : length (entriesOf older newer) ≤ maxEntries + maxEntries
+  entries-by-limits = omega (arith, entries-by-records, fits older oa .few-entries, fits newer na .few-entries)
 
 -- in either section
 pub few-changes :
     (section : Section) (older newer : List ℕ) → refusalOf older ≡ none → refusalOf newer ≡ none
     → length (changesOf section older newer) ≤ 2 * (recordCount older section + recordCount newer section) - 1
-few-changes Ranges older newer oa na = omega (arith, runs-few older newer oa na)
-few-changes Entries older newer oa na = omega (arith, entries-few older newer oa na)
+few-changes Ranges older newer oa na = omega (arith, runs-by-records older newer oa na)
+few-changes Entries older newer oa na = omega (arith, entries-by-records older newer oa na)

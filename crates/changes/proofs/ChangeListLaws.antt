@@ -12,18 +12,9 @@ use borrow.Author.Tests.{eqb-true, eqb-false, eq-eqb}
 use Rattle.lists.proofs.BoolLaws.{split}
 use Rattle.utf8.specs.Scalar.{isScalar, surrogate, past-last}
 use Rattle.utf8.proofs.ScalarLaws.{means-scalar}
-use Rattle.changes.specs.Change.{Change, Holds, Each, Neighbours, empty, one, two, Changed, AllChanges, Runs, Singles}
-use Rattle.changes.specs.ChangeList.{begunAt, goesOn, only, changesFrom, codePoints}
-
--- how two changes of a list stand to each other, and one by itself, in `Change.antt`
-abbrev pub Before : Change → Change → Type 0
-Before c d = c .last < d .first
-
-abbrev Apart : Change → Change → Type 0
-Apart c d = c .last + 1 ≡ d .first → c .older ≡ d .older → c .newer ≡ d .newer → ⊥
-
-abbrev Alone : Change → Type 0
-Alone c = c .first ≡ c .last
+use Rattle.changes.specs.Change.{Change, Holds, Each, Neighbours, empty, one, two, Before, Apart, Alone, Changed, AllChanges, Runs, Singles}
+use Rattle.changes.specs.ChangeList.{begunAt, goesOn, only, changesFrom}
+use Rattle.compare.specs.Walk.{codePoints}
 
 -- what holds of x, and of y where that is after x, holds of y
 or-later : (P : ℕ → Type 0) {x : ℕ} → P x → (y : ℕ) → x ≤ y → (x < y → P y) → P y

@@ -26,7 +26,7 @@ use Rattle.pair.specs.declared.Pair.the-variants as pair
 use Rattle.pair.specs.Means.{OnlyPermitted, FirstChange, PermittedAt, PairMeans, bad-older, bad-newer, other-profile, bad-change, all-permitted}
 use Rattle.pair.specs.Pair.{pairOf}
 use Rattle.pair.proofs.PairLaws.{pair-means, means-pair, permitted-means}
-use Rattle.changes.specs.Change.{Change, Holds, Each, Neighbours, Changed, AllChanges, Runs, Singles}
+use Rattle.changes.specs.Change.{Change, Holds, Each, Neighbours, Before, Changed, AllChanges, Runs, Singles}
 use Rattle.changes.specs.ChangeList.{runsOf, entriesOf}
 use Rattle.changes.specs.Applied.{changedBy, PermittedChange, FirstNot, here, later}
 use Rattle.changes.proofs.ProfileLaws.{same-entries, same-roles}
@@ -36,10 +36,10 @@ use Rattle.changes.proofs.ChangeListLaws.{
   each-cons,
   each-head,
   each-tail,
-  Before,
   next-tail,
   ends-before,
   changes-scalar,
+  parted,
   runs-listed,
   singles-listed,
   runs-unique,
@@ -121,6 +121,10 @@ module _ (older newer : List ℕ) (a : Accepted older) (b : Accepted newer) wher
   pub runs-are : Runs (rangeClass older) (rangeClass newer) (runsOf older newer)
   unfolding runsOf
   runs-are = runs-listed _ _ (class-zero older a) (class-zero newer b)
+
+  -- no run holds both D7FF and E000 hex
+  pub runs-parted : {c : Change} → List·Memᴰ c (runsOf older newer) → Holds c 0xD7FF → Holds c 0xE000 → ⊥
+  runs-parted = parted (runs-are .all)
 
   pub entries-are : Singles (entryRole older) (entryRole newer) (entriesOf older newer)
   unfolding entriesOf
@@ -214,3 +218,11 @@ module _ (older newer : List ℕ) where
     where
       go : PairMeans older newer (pair.Refused (refusal.Change x)) → Ten x
       go (bad-change a b s h) = (a, b, no-entries older newer a b .1 s, at-change older newer a b h)
+
+  pub pair-eleven :
+      (pairOf older newer ≡ pair.Refused refusal.Profiles) ↔ (Accepted older × Accepted newer × (entriesOf older newer ≡ [] → ⊥))
+  pair-eleven =
+      (λ e. go (pair-means older newer _ e), λ (a, b, f). means-pair older newer _ (other-profile a b (λ s. f (no-entries older newer a b .1 s))))
+    where
+      go : PairMeans older newer (pair.Refused refusal.Profiles) → Accepted older × Accepted newer × (entriesOf older newer ≡ [] → ⊥)
+      go (other-profile a b f) = (a, b, λ e. f (no-entries older newer a b .0 e))

@@ -16,11 +16,10 @@ use Rattle.lookup.specs.declared.Section.{Section}
 use Rattle.lookup.specs.declared.Section.the-variants.{Ranges, Entries}
 use Rattle.compare.specs.declared.Ahead.{Ahead}
 use Rattle.compare.specs.declared.Step.{Step}
-use Rattle.compare.specs.Walk.{AheadOf, Ready, StepOf}
+use Rattle.compare.specs.Walk.{AheadOf, Ready, StepOf, codePoints}
 use Rattle.compare.proofs.WalkLaws.{ready}
 use Rattle.changes.specs.Change.{Change}
-use Rattle.changes.specs.ChangeList.{codePoints}
-use Rattle.changes.specs.Changes.{changesOf, changeWords, changeSize, listWords}
+use Rattle.changes.specs.Answer.{changesOf, changeWords, changeSize, listWords}
 use Rattle.changes.specs.Walked.{changeOf, restOf}
 use Rattle.changes.proofs.StepLaws.{whole-list, no-rest, same-step, changed-step}
 

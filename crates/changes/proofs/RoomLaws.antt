@@ -16,26 +16,26 @@ use Rattle.lookup.specs.declared.Section.the-variants.{Ranges, Entries}
 use Rattle.compare.specs.declared.Judged.{Judged}
 use Rattle.compare.specs.Judged.{judgedBy}
 use Rattle.changes.specs.ChangeList.{runsOf, entriesOf}
-use Rattle.changes.specs.Changes.{changeSize, listedOf, changesBy, bufferAfter, answerOf, runsAfter, entriesAfter}
-use Rattle.changes.specs.Walked.{missingOf}
+use Rattle.changes.specs.Answer.{changeSize, listedOf, changesBy, bufferAfter, answerOf, runsAfter, entriesAfter}
+use Rattle.changes.specs.Walked.{neededOf}
 use Rattle.changes.specs.declared.Changes.{Changes}
 use Rattle.changes.specs.declared.Changes.the-variants as changes
 
--- a number of changes that is missing is the number there is, and it is above the room
-pub record Missing (room count k : ℕ) : Type 0 where
+-- where the number needed is not 0, it is the number of changes, and there is room for fewer
+pub record Needed (room count k : ℕ) : Type 0 where
   pub above : room < count
   pub all : k ≡ count
 
-pub missing : (room count : ℕ) {k : ℕ} → k ≡ missingOf room count → (k ≡ 0 → ⊥) → Missing room count k
-missing room count {k} e f = go (ltb room count) refl
+pub needed : (room count : ℕ) {k : ℕ} → k ≡ neededOf room count → (k ≡ 0 → ⊥) → Needed room count k
+needed room count {k} e f = go (ltb room count) refl
   where
-    go : (b : Bool) → ltb room count ≡ b → Missing room count k
+    go : (b : Bool) → ltb room count ≡ b → Needed room count k
     go true t = record { above = ltb-true _ _ t; all = e ∙ simp t }
     go false t = absurd (f (e ∙ simp t))
 
--- where none is missing there is room
-pub none-missing : (room count : ℕ) {k : ℕ} → k ≡ missingOf room count → k ≡ 0 → count ≤ room
-none-missing room count {k} e f = go (ltb room count) refl
+-- where it is 0 there is room for all
+pub none-needed : (room count : ℕ) {k : ℕ} → k ≡ neededOf room count → k ≡ 0 → count ≤ room
+none-needed room count {k} e f = go (ltb room count) refl
   where
     go : (b : Bool) → ltb room count ≡ b → count ≤ room
     go true t = let z : k ≡ count = e ∙ simp t in omega (arith, ltb-true room count t)
@@ -43,16 +43,16 @@ none-missing room count {k} e f = go (ltb room count) refl
 
 -- and the words suffice
 pub words-suffice :
-    (section : Section) (words count : ℕ) {k : ℕ} → k ≡ missingOf (words / changeSize section) count → k ≡ 0 → changeSize section * count ≤ words
-words-suffice Ranges words count e f = let l = none-missing (words / 4) count e f in omega arith
-words-suffice Entries words count e f = let l = none-missing (words / 3) count e f in omega arith
+    (section : Section) (words count : ℕ) {k : ℕ} → k ≡ neededOf (words / changeSize section) count → k ≡ 0 → changeSize section * count ≤ words
+words-suffice Ranges words count e f = let l = none-needed (words / 4) count e f in omega arith
+words-suffice Entries words count e f = let l = none-needed (words / 3) count e f in omega arith
 
 -- and back
-pub all-missing : (room count : ℕ) → room < count → count ≡ missingOf room count
-all-missing room count l = sym (simp (lt-ltb room count l))
+pub all-needed : (room count : ℕ) → room < count → count ≡ neededOf room count
+all-needed room count l = sym (simp (lt-ltb room count l))
 
-pub missing-none : (room count : ℕ) → count ≤ room → 0 ≡ missingOf room count
-missing-none room count l = sym (simp (le-ltb room count l))
+pub needed-none : (room count : ℕ) → count ≤ room → 0 ≡ neededOf room count
+needed-none room count l = sym (simp (le-ltb room count l))
 
 -- the answers for two accepted images
 module _ (older newer : List ℕ) (words more : ℕ) where

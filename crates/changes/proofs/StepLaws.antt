@@ -16,10 +16,10 @@ use Rattle.lookup.specs.declared.Section.the-variants.{Ranges, Entries}
 use Rattle.lookup.specs.Records.{sectionClass}
 use Rattle.lookup.proofs.RecordLaws.{range-class, entry-role}
 use Rattle.compare.specs.declared.Step.{Step}
-use Rattle.compare.specs.Walk.{StopsBoth, StepOf}
+use Rattle.compare.specs.Walk.{StopsBoth, StepOf, codePoints}
 use Rattle.changes.specs.Change.{Change}
-use Rattle.changes.specs.ChangeList.{begunAt, only, goesOn, changesFrom, codePoints, runsOf, entriesOf}
-use Rattle.changes.specs.Changes.{changesOf}
+use Rattle.changes.specs.ChangeList.{begunAt, only, goesOn, changesFrom, runsOf, entriesOf}
+use Rattle.changes.specs.Answer.{changesOf}
 use Rattle.changes.specs.Walked.{changeOf, areRuns, restOf}
 
 module _ (f g : ℕ → ℕ) where

@@ -27,6 +27,16 @@ pub data Neighbours (R : Change → Change → Type 0) : List Change → Type 0 
   one : {c : Change} → Neighbours R (c ∷ [])
   two : {c d : Change} {l : List Change} → R c d → Neighbours R (d ∷ l) → Neighbours R (c ∷ d ∷ l)
 
+-- c ends before d begins; not both: d begins right after c and has its two values; c is one number
+abbrev pub Before : Change → Change → Type 0
+Before c d = c .last < d .first
+
+abbrev pub Apart : Change → Change → Type 0
+Apart c d = c .last + 1 ≡ d .first → c .older ≡ d .older → c .newer ≡ d .newer → ⊥
+
+abbrev pub Alone : Change → Type 0
+Alone c = c .first ≡ c .last
+
 module _ (f g : ℕ → ℕ) where
   -- the numbers of a change are scalar values that have its two values, which differ, and there is at least one
   pub record Changed (c : Change) : Type 0 where
@@ -41,14 +51,14 @@ module _ (f g : ℕ → ℕ) where
   pub record AllChanges (l : List Change) : Type 0 where
     pub told : Each Changed l
     pub covered : (x : ℕ) → isScalar x ≡ true → (f x ≡ g x → ⊥) → (c : Change) × List·Memᴰ c l × Holds c x
-    pub rises : Neighbours (λ (c d : Change). c .last < d .first) l
+    pub rises : Neighbours Before l
 
   -- runs: changes as long as they can be. Of two neighbours that touch, one has another older or newer value.
   pub record Runs (l : List Change) : Type 0 where
     pub all : AllChanges l
-    pub whole : Neighbours (λ (c d : Change). c .last + 1 ≡ d .first → c .older ≡ d .older → c .newer ≡ d .newer → ⊥) l
+    pub whole : Neighbours Apart l
 
   -- changes of one number each
   pub record Singles (l : List Change) : Type 0 where
     pub all : AllChanges l
-    pub alone : Each (λ (c : Change). c .first ≡ c .last) l
+    pub alone : Each Alone l

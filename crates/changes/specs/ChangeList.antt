@@ -3,8 +3,8 @@ use Prim.Native.Nat.{ℕ, zero, suc, _+_}
 use mathlib.Core.Bool.{Bool, true, false, _&&_, cond}
 use mathlib.Core.List.{List, [], _∷_}
 use lib.Dec.{eqb}
-use Rattle.image.specs.Limits.{lastCodePoint}
 use Rattle.image.specs.Check.{rangeClass, entryRole}
+use Rattle.compare.specs.Walk.{codePoints}
 use Rattle.changes.specs.Change.{Change}
 
 -- the first change of a list, begun at x
@@ -21,8 +21,8 @@ module _ (f g : ℕ → ℕ) where
   abbrev pub only : ℕ → Change
   only x = record { first = x; last = x; older = f x; newer = g x }
 
-  -- x before the changes of the numbers after it: if its values differ, it begins the first of them, where that run goes on
-  -- from x, or it is one more
+  -- the changes from x on, by those after x: the same where x's two values are equal; else x begins the first of them, where
+  -- x + 1 has the same two values and they are listed as runs; else x is one more
   abbrev pub withNumber : Bool → ℕ → List Change → List Change
   withNumber runs x l = cond (eqb (f x) (g x)) l (cond (runs && goesOn x) (begunAt x l) (only x ∷ l))
 
@@ -30,10 +30,6 @@ module _ (f g : ℕ → ℕ) where
   unfoldable pub changesFrom : Bool → ℕ → ℕ → List Change
   changesFrom runs zero x = []
   changesFrom runs (suc k) x = withNumber runs x (changesFrom runs k (suc x))
-
--- one more than the last code point
-abbrev pub codePoints : ℕ
-codePoints = lastCodePoint + 1
 
 -- the runs of scalar values whose class in the ranges differs
 unfoldable pub runsOf : List ℕ → List ℕ → List Change

@@ -1,6 +1,6 @@
 pub mod Change
 pub mod ChangeList
 pub mod Applied
-pub mod Changes
+pub mod Answer
 pub mod Walked
 pub mod Means

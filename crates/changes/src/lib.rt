@@ -9,8 +9,8 @@ ghost use lib.ListN.{length};
 ghost use Rattle.lists.specs.Laid.{laid};
 ghost use Rattle.image.specs.Check.{refusalOf};
 ghost use Rattle.lookup.specs.declared.Section.the-variants.{Ranges, Entries};
-ghost use Rattle.changes.specs.Changes.{changesOf, changeWords, changeSize, listWords, listedOf, bufferAfter, answerOf, runsAfter, entriesAfter};
-ghost use Rattle.changes.specs.Walked.{changeOf, missingOf};
+ghost use Rattle.changes.specs.Answer.{changesOf, changeWords, changeSize, listWords, listedOf, bufferAfter, answerOf, runsAfter, entriesAfter};
+ghost use Rattle.changes.specs.Walked.{changeOf, neededOf};
 use compare::CODE_POINTS;
 use compare::Judged;
 use compare::Step;
@@ -121,12 +121,12 @@ fn write_changes(older: &[u8], newer: &[u8], section: Section, out: &mut [u32]) 
     count
 }
 
-// The number of changes in a section, where there is room for fewer; else 0. Room for one less than twice the records is
+// The number of changes in a section where there is room for fewer, else 0. Room for one less than twice the records is
 // always enough: then the changes are not counted.
-fn count_missing(older: &[u8], newer: &[u8], section: Section, room: usize) -> usize
+fn count_needed(older: &[u8], newer: &[u8], section: Section, room: usize) -> usize
     requires { ⌜ refusalOf (now older) ≡ none ⌝ }
     requires { ⌜ refusalOf (now newer) ≡ none ⌝ }
-    ensures { λ r. ⌜ r ≡ missingOf room (length (changesOf section (now (older .entry)) (now (newer .entry)))) ⌝ }
+    ensures { λ r. ⌜ r ≡ neededOf room (length (changesOf section (now (older .entry)) (now (newer .entry)))) ⌝ }
 {
     let n = lookup::count_records(older, section);
     let m = lookup::count_records(newer, section);
@@ -148,13 +148,13 @@ fn list_accepted(older: &[u8], newer: &[u8], runs: &mut [u32], entries: &mut [u3
     ensures { λ r. ⌜ now (runs .exit) ≡ bufferAfter Ranges (now (older .entry)) (now (newer .entry)) r (now (runs .entry)) ⌝ }
     ensures { λ r. ⌜ now (entries .exit) ≡ bufferAfter Entries (now (older .entry)) (now (newer .entry)) r (now (entries .entry)) ⌝ }
 {
-    let more_runs = count_missing(older, newer, Section::Ranges, runs.len() / RUN_WORDS);
-    if more_runs != 0 {
-        return Changes::Refused(Refusal::Room(more_runs));
+    let runs_needed = count_needed(older, newer, Section::Ranges, runs.len() / RUN_WORDS);
+    if runs_needed != 0 {
+        return Changes::Refused(Refusal::Room(runs_needed));
     }
-    let more_entries = count_missing(older, newer, Section::Entries, entries.len() / ENTRY_WORDS);
-    if more_entries != 0 {
-        return Changes::Refused(Refusal::Room(more_entries));
+    let entries_needed = count_needed(older, newer, Section::Entries, entries.len() / ENTRY_WORDS);
+    if entries_needed != 0 {
+        return Changes::Refused(Refusal::Room(entries_needed));
     }
     let r = write_changes(older, newer, Section::Ranges, runs);
     let e = write_changes(older, newer, Section::Entries, entries);
@@ -164,8 +164,8 @@ fn list_accepted(older: &[u8], newer: &[u8], runs: &mut [u32], entries: &mut [u3
     }
 }
 
-// The lists of the changes between two images: runs, four words each, and profile entries, three words each.
-// A refused call leaves both buffers as they were.
+// The lists of the changes between two images: of runs first, last, older class, newer class; of profile entries code point,
+// older role, newer role, 0 for none. A refused call leaves both buffers as they were.
 pub fn list_changes(older: &[u8], newer: &[u8], runs: &mut [u32], entries: &mut [u32]) -> Changes
     ensures { λ r. ⌜ r ≡ answerOf (now (older .entry)) (now (newer .entry)) (length (now (runs .entry))) (length (now (entries .entry))) ⌝ }
     ensures { λ _. ⌜ now (runs .exit) ≡ runsAfter (now (older .entry)) (now (newer .entry)) (now (runs .entry)) (now (entries .entry)) ⌝ }

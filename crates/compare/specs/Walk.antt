@@ -12,6 +12,10 @@ use Rattle.lookup.specs.Placed.{Placed}
 use Rattle.compare.specs.declared.Ahead.{Ahead}
 use Rattle.compare.specs.declared.Step.{Step}
 
+-- one more than the last code point
+abbrev pub codePoints : ℕ
+codePoints = lastCodePoint + 1
+
 -- s is an accepted image, and i is the place of x among the records of a section
 pub record Walk (s : List ℕ) (section : Section) (i x : ℕ) : Type 0 where
   pub accepted : refusalOf s ≡ none

@@ -22,14 +22,15 @@ pub enum Judged {
     Accepted,
 }
 
-// Code points from a given one to `last` that have one class in a section of an image, and the place of what follows them.
+// Code points from a given one to `last` that have one class in the ranges of an image, or one role in its entries, and the
+// place of what follows them.
 pub struct Ahead {
     pub last: u32,
     pub class: u32,
     pub next: usize,
 }
 
-// Code points from a given one to `last` that have one class in each of two images.
+// Code points from a given one to `last`, with what each of two images has there; `last` is the smaller of their two.
 pub struct Step {
     pub last: u32,
     pub older: Ahead,
@@ -65,7 +66,7 @@ pub fn look_ahead(image: &[u8], section: Section, n: usize, i: usize, x: u32) ->
     }
 }
 
-// What there is at code point x, where `a` is what was ahead: the rest of it, or what follows it.
+// What begins at code point x, where `a` began at x or before it: `a`, or what follows it where its last code point is passed.
 fn advance(image: &[u8], section: Section, n: usize, a: Ahead, x: u32) -> Ahead
     requires { ⌜ Ready (now image) section x a ⌝ }
     requires { ⌜ n ≡ recordCount (now image) section ⌝ }

@@ -11,7 +11,7 @@ ghost use Rattle.image.specs.Check.{refusalOf, checkOf, readOf, wordsAfter};
 ghost use Rattle.writer.specs.Write.{writeOf, bytesAfter};
 ghost use Rattle.lookup.specs.Lookup.{lookupOf};
 ghost use Rattle.pair.specs.Pair.{pairOf};
-ghost use Rattle.changes.specs.Changes.{answerOf, runsAfter, entriesAfter};
+ghost use Rattle.changes.specs.Answer.{answerOf, runsAfter, entriesAfter};
 ghost use Rattle.grammar.specs.Reading.{countOf, listOf, listWords};
 ghost use Rattle.scan.specs.Counted.{countedBy};
 ghost use Rattle.token.specs.Taken.{takenOf};

@@ -15,10 +15,10 @@ use Rattle.lookup.proofs.RecordLaws.{range-class}
 use Rattle.lookup.proofs.ClassLaws.{class-scalar}
 use Rattle.compare.specs.declared.Ahead.{Ahead}
 use Rattle.compare.specs.declared.Step.{Step}
-use Rattle.compare.specs.Walk.{AheadOf, Ready, StepOf}
+use Rattle.compare.specs.Walk.{AheadOf, Ready, StepOf, codePoints}
 use Rattle.compare.proofs.WalkLaws.{ready}
 use Rattle.pair.specs.Change.{permitted}
-use Rattle.pair.specs.Pair.{forbiddenAt, codePoints, firstForbidden}
+use Rattle.pair.specs.Pair.{forbiddenAt, firstForbidden}
 
 and-none : (b : Bool) → (b && false) ≡ false
 and-none true = refl

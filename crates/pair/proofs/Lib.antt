@@ -1,5 +1,5 @@
 pub mod ChangeLaws
 pub mod ForbidLaws
-pub mod BothLaws
+pub mod RequiredLaws
 pub mod ProfileLaws
 pub mod PairLaws

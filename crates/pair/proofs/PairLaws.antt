@@ -36,7 +36,8 @@ use Rattle.pair.specs.Means.{
   bad-change,
   all-permitted,
 }
-use Rattle.pair.specs.Pair.{forbiddenAt, codePoints, firstForbidden, differsAt, sameEntries, sameProfile, comparedOf, pairBy, pairOf}
+use Rattle.pair.specs.Pair.{forbiddenAt, firstForbidden, differsAt, sameEntries, sameProfile, comparedOf, pairBy, pairOf}
+use Rattle.compare.specs.Walk.{codePoints}
 use Rattle.pair.specs.declared.Pair.{Pair}
 use Rattle.pair.specs.declared.Pair.the-variants as pair
 use Rattle.pair.proofs.ChangeLaws.{permitted-is, is-permitted}

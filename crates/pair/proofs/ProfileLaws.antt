@@ -9,7 +9,7 @@ use Rattle.lists.proofs.FirstLaws.{first-is, first-none}
 use Rattle.image.specs.Limits.{entryBytes}
 use Rattle.image.specs.Profile.{pointAt, roleAt}
 use Rattle.pair.specs.Pair.{differsAt, sameEntries}
-use Rattle.pair.specs.Both.{wordsDiffer, EntriesFrom}
+use Rattle.pair.specs.Required.{wordsDiffer, EntriesFrom}
 
 -- entry i stands i entries after the first
 pub entry-words :

@@ -1,4 +1,4 @@
 pub mod Change
 pub mod Pair
-pub mod Both
+pub mod Required
 pub mod Means

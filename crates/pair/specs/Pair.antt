@@ -6,13 +6,13 @@ use lib.Dec.{ltb, eqb}
 use Rattle.lists.specs.First.{firstWhere}
 use Rattle.utf8.specs.Scalar.{isScalar}
 use Rattle.refusal.specs.declared.Refusal.the-variants as refusal
-use Rattle.image.specs.Limits.{lastCodePoint}
 use Rattle.image.specs.Header.{entryCount}
 use Rattle.image.specs.Profile.{pointAt, roleAt}
 use Rattle.image.specs.Check.{refusalOf, rangeClass}
 use Rattle.compare.specs.declared.Judged.{Judged}
 use Rattle.compare.specs.declared.Judged.the-variants as judged
 use Rattle.compare.specs.Judged.{judgedBy}
+use Rattle.compare.specs.Walk.{codePoints}
 use Rattle.pair.specs.Change.{permitted}
 use Rattle.pair.specs.declared.Pair.{Pair}
 use Rattle.pair.specs.declared.Pair.the-variants as pair
@@ -20,10 +20,6 @@ use Rattle.pair.specs.declared.Pair.the-variants as pair
 -- x is a scalar value whose classes in the ranges are no permitted change
 unfoldable pub forbiddenAt : List ℕ → List ℕ → ℕ → Bool
 forbiddenAt older newer x = isScalar x && not (permitted (rangeClass older x) (rangeClass newer x))
-
--- one more than the last code point
-abbrev pub codePoints : ℕ
-codePoints = lastCodePoint + 1
 
 -- the smallest code point with a forbidden change; 110000 hex where there is none
 unfoldable pub firstForbidden : List ℕ → List ℕ → ℕ

@@ -7,7 +7,7 @@ ghost use Rattle.image.specs.Limits.{entryBytes};
 ghost use Rattle.image.specs.Check.{refusalOf};
 ghost use Rattle.pair.specs.Change.{isContinueClass, permitted};
 ghost use Rattle.pair.specs.Pair.{firstForbidden, sameEntries, sameProfile, comparedOf, pairOf};
-ghost use Rattle.pair.specs.Both.{BothAccepted, EntriesFrom, wordsDiffer};
+ghost use Rattle.pair.specs.Required.{BothAccepted, EntriesFrom, wordsDiffer};
 use compare::CODE_POINTS;
 use compare::Judged;
 use image::ENTRY_BYTES;

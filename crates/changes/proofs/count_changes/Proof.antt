@@ -4,7 +4,7 @@ use mathlib.Core.Logic.{⊎-elim}
 use native.Mathlib.Omega.{arith}
 use borrow.Author.Needs.{needs}
 use Rattle.compare.proofs.WalkLaws.{walk-begins}
-use Rattle.changes.specs.ChangeList.{codePoints}
+use Rattle.compare.specs.Walk.{codePoints}
 use Rattle.changes.proofs.LoopLaws.{changed, unchanged, Counting, counting-begins, counting-passed, counting-next, counting-ends}
 use Rattle.changes.proofs.count_changes.Statement.{statement}
 use Rattle.changes.proofs.count_changes.Tie as tie

@@ -5,8 +5,8 @@ use native.Mathlib.Omega.{arith}
 use borrow.Author.Needs.{needs}
 use lib.ListN.{length, length-take, length-drop}
 use Rattle.compare.proofs.WalkLaws.{walk-begins}
-use Rattle.changes.specs.ChangeList.{codePoints}
-use Rattle.changes.specs.Changes.{changeSize}
+use Rattle.compare.specs.Walk.{codePoints}
+use Rattle.changes.specs.Answer.{changeSize}
 use Rattle.changes.proofs.LoopLaws.{changed, unchanged, Writing, counting-ends, writing-begins, writing-passed, change-fits, writing-next, writing-ends}
 use Rattle.changes.proofs.write_changes.Statement.{statement}
 use Rattle.changes.proofs.write_changes.Tie as tie

@@ -1,6 +1,6 @@
 -- `pair::entries_differ` meets its contract. Assumes nothing.
 use borrow.Author.Tests.{eq-eqb, ne-eqb}
-use Rattle.pair.specs.Both.{wordsDiffer}
+use Rattle.pair.specs.Required.{wordsDiffer}
 use borrow.Author.Needs.{needs}
 use Rattle.pair.proofs.entries_differ.Statement.{statement}
 use Rattle.pair.proofs.entries_differ.Tie as tie

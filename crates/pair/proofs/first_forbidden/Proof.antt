@@ -5,7 +5,7 @@ use native.Mathlib.Omega.{arith}
 use borrow.Author.Needs.{needs}
 use Rattle.lookup.specs.declared.Section.the-variants.{Ranges}
 use Rattle.compare.proofs.WalkLaws.{walk-begins}
-use Rattle.pair.specs.Pair.{codePoints}
+use Rattle.compare.specs.Walk.{codePoints}
 use Rattle.pair.proofs.ForbidLaws.{Clear, clear-begin, clear-next, clear-here, clear-end}
 use Rattle.pair.proofs.first_forbidden.Statement.{statement}
 use Rattle.pair.proofs.first_forbidden.Tie as tie

@@ -3,7 +3,7 @@ use mathlib.Core.Path.{sym, _∙_}
 use native.Mathlib.Omega.{arith}
 use borrow.Author.Tests.{eq-eqb, ne-eqb}
 use Rattle.pair.specs.Pair.{sameProfile}
-use Rattle.pair.proofs.BothLaws.{fill, entries-begin}
+use Rattle.pair.proofs.RequiredLaws.{fill, entries-begin}
 use borrow.Author.Needs.{needs}
 use Rattle.pair.proofs.has_same_profile.Statement.{statement}
 use Rattle.pair.proofs.has_same_profile.Tie as tie

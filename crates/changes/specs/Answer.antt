@@ -36,7 +36,8 @@ abbrev pub listWords : Section → List Change → List ℕ
 listWords section [] = []
 listWords section (c ∷ l) = changeWords section c ++ listWords section l
 
--- the lists of two accepted images: 8 for the runs, then 8 for the entries, with the records needed
+-- the lists of two accepted images: 8 for the runs, then 8 for the entries, with the records needed; `Listed` holds the number of
+-- runs, then that of entries, as it is declared
 unfoldable pub listedOf : List ℕ → List ℕ → ℕ → ℕ → Changes
 listedOf older newer runWords entryWords =
     let runs = length (runsOf older newer) in
@@ -44,6 +45,7 @@ listedOf older newer runWords entryWords =
     cond (ltb (runWords / changeSize Ranges) runs) (changes.Refused (refusal.Room runs))
     (cond (ltb (entryWords / changeSize Entries) entries) (changes.Refused (refusal.Room entries)) (changes.Listed runs entries))
 
+-- refusals 1 to 4 come first
 abbrev pub changesBy : Judged → Changes → Changes
 changesBy (judged.Older r) c = changes.Older r
 changesBy (judged.Newer r) c = changes.Newer r

@@ -1,15 +1,15 @@
--- `changes::count_missing` meets its contract. Assumes nothing.
+-- `changes::count_needed` meets its contract. Assumes nothing.
 use Prim.Native.Nat.{ℕ, _≤_}
 use mathlib.Core.Path.{_∙_}
 use native.Mathlib.Omega.{arith}
 use borrow.Author.Needs.{needs}
 use lib.ListN.{length}
 use Rattle.lookup.proofs.RecordLaws.{few-records}
-use Rattle.changes.specs.Changes.{changesOf}
+use Rattle.changes.specs.Answer.{changesOf}
 use Rattle.changes.proofs.BoundLaws.{few-changes}
-use Rattle.changes.proofs.RoomLaws.{all-missing, missing-none}
-use Rattle.changes.proofs.count_missing.Statement.{statement}
-use Rattle.changes.proofs.count_missing.Tie as tie
+use Rattle.changes.proofs.RoomLaws.{all-needed, needed-none}
+use Rattle.changes.proofs.count_needed.Statement.{statement}
+use Rattle.changes.proofs.count_needed.Tie as tie
 
 -- the number of changes
 abbrev changes : tie.Start → ℕ
@@ -34,22 +34,22 @@ returns c =
     let n = b .before .count-records .ensures in
     let m = b .count-records2 .ensures in
     let h = c .if1 .taken in
-    missing-none (s .args .room) (changes s) (omega arith)
+    needed-none (s .args .room) (changes s) (omega arith)
 
 returns-2 : tie.Need-returns-2
 returns-2 c =
     let s = c .before .before .before .before .before .before .before in
     let e = c .before .count-changes .ensures in
-    e ∙ all-missing (s .args .room) (changes s) (omega (arith, c .if2 .taken))
+    e ∙ all-needed (s .args .room) (changes s) (omega (arith, c .if2 .taken))
 
 returns-3 : tie.Need-returns-3
 returns-3 c =
     let s = c .before .before .before .before .before .before .before in
     let e = c .before .count-changes .ensures in
-    missing-none (s .args .room) (changes s) (omega (arith, c .if2 .left))
+    needed-none (s .args .room) (changes s) (omega (arith, c .if2 .left))
 
-pub count-missing-spec : {M : Type 1} → statement M
-count-missing-spec =
+pub count-needed-spec : {M : Type 1} → statement M
+count-needed-spec =
     tie.close
     (tie.spec
     (λ c κs. search needs)

@@ -9,7 +9,7 @@ use Rattle.image.specs.Limits.{maxRanges, maxEntries}
 use Rattle.image.specs.Header.{rangeCount, entryCount, entriesAt, imageEnd}
 use Rattle.image.specs.Check.{refusalOf}
 use Rattle.image.proofs.ImageLaws.{accepted, accepted-size}
-use Rattle.pair.specs.Both.{BothAccepted, EntriesFrom}
+use Rattle.pair.specs.Required.{BothAccepted, EntriesFrom}
 
 -- the header, n ranges and the entries fill an image
 pub record Filled (s : List ℕ) (n : ℕ) : Type 0 where
