@@ -67,7 +67,7 @@ wordsBy (changes.Listed n m) out words = laid out 0 words
 abbrev pub bufferAfter : Section → List ℕ → List ℕ → Changes → List ℕ → List ℕ
 bufferAfter section older newer answer out = wordsBy answer out (listWords section (changesOf section older newer))
 
--- the two buffers after the call, which were `out` and `more`
+-- the two buffers after the call: that for the runs, which was `out`, and that for the entries, which was `more`
 unfoldable pub runsAfter : List ℕ → List ℕ → List ℕ → List ℕ → List ℕ
 runsAfter older newer out more = bufferAfter Ranges older newer (answerOf older newer (length out) (length more)) out
 

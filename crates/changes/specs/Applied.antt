@@ -1,4 +1,4 @@
--- What a list of changes does to a value, and the first of its changes for which something does not hold.
+-- What a list of changes does to a value, and the first of its changes for which something does not hold (docs/RULES.md, "What changed").
 use Prim.Native.Nat.{ℕ}
 use mathlib.Core.List.{List, [], _∷_}
 use mathlib.Core.Bool.{_&&_, cond}

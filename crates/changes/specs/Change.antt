@@ -27,13 +27,15 @@ pub data Neighbours (R : Change → Change → Type 0) : List Change → Type 0 
   one : {c : Change} → Neighbours R (c ∷ [])
   two : {c d : Change} {l : List Change} → R c d → Neighbours R (d ∷ l) → Neighbours R (c ∷ d ∷ l)
 
--- c ends before d begins; not both: d begins right after c and has its two values; c is one number
+-- c ends before d begins
 abbrev pub Before : Change → Change → Type 0
 Before c d = c .last < d .first
 
+-- c and d could not be one change: d doesn't begin right after c, or has another older or newer value
 abbrev pub Apart : Change → Change → Type 0
 Apart c d = c .last + 1 ≡ d .first → c .older ≡ d .older → c .newer ≡ d .newer → ⊥
 
+-- c is of one number
 abbrev pub Alone : Change → Type 0
 Alone c = c .first ≡ c .last
 
@@ -53,7 +55,7 @@ module _ (f g : ℕ → ℕ) where
     pub covered : (x : ℕ) → isScalar x ≡ true → (f x ≡ g x → ⊥) → (c : Change) × List·Memᴰ c l × Holds c x
     pub rises : Neighbours Before l
 
-  -- runs: changes as long as they can be. Of two neighbours that touch, one has another older or newer value.
+  -- runs: changes as long as they can be. No two neighbours could be one.
   pub record Runs (l : List Change) : Type 0 where
     pub all : AllChanges l
     pub whole : Neighbours Apart l

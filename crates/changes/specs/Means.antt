@@ -1,5 +1,5 @@
 -- What each answer of the list of changes says of the two images, and what the two buffers then hold, exactly when
--- (docs/RULES.md, "What changed"). `proofs/AnswerLaws.antt` joins this to the answers of `Changes.antt`.
+-- (docs/RULES.md, "What changed"). `proofs/AnswerLaws.antt` joins this to the answers of `Answer.antt`.
 use Prim.Native.Nat.{ℕ, _/_, _≤_, _<_}
 use mathlib.Core.List.{List}
 use mathlib.Core.Option.{some}
@@ -23,8 +23,8 @@ pub record BothLists (older newer : List ℕ) (runs entries : List Change) : Typ
   pub class-runs : Runs (rangeClass older) (rangeClass newer) runs
   pub role-changes : Singles (entryRole older) (entryRole newer) entries
 
--- for a buffer `out` for the runs and a buffer `more` for the entries: the older image's refusal of 1 to 4; then the newer's; then 8 with the number of runs; then 8 with
--- that of entries; or both numbers, and each list at its buffer's front
+-- for a buffer `out` for the runs and a buffer `more` for the entries: the older image's refusal of 1 to 4; then the newer's; then 8
+-- with the number of runs; then 8 with that of entries; or both numbers, and each list at its buffer's front
 pub data ChangesMeans (older newer out more : List ℕ) : Changes → List ℕ → List ℕ → Type 0 where
   bad-older : {r : Refusal} → RefusalMeans older (some r) → ChangesMeans older newer out more (changes.Older r) out more
   bad-newer : {r : Refusal} → Accepted older → RefusalMeans newer (some r) → ChangesMeans older newer out more (changes.Newer r) out more
