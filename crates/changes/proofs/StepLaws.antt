@@ -1,22 +1,19 @@
 -- The list of changes, a step of the walk at a time. Assumes nothing.
 use Prim.Native.Nat.{ℕ, zero, suc, _+_, _-_, _≤_, _<_}
-use mathlib.Core.Path.{_≡_, refl, sym, ap, _∙_, fun-ext}
+use mathlib.Core.Path.{_≡_, refl, sym, ap, _∙_}
 use mathlib.Core.Bool.{Bool, true, false, _&&_}
 use mathlib.Core.List.{List, [], _∷_}
 use native.Mathlib.Nat.{zero-add, add-zero}
-use native.Mathlib.Numerals.{add-one}
 use native.Mathlib.Omega.{arith}
-use native.Mathlib.Decide.{decLt}
 use lib.Dec.{eqb}
 use borrow.Author.Tests.{eq-eqb, ne-eqb, eqb-true}
 use Rattle.lists.proofs.BoolLaws.{and-left, and-right}
-use Rattle.image.specs.Check.{rangeClass, entryRole}
 use Rattle.lookup.specs.declared.Section.{Section}
 use Rattle.lookup.specs.declared.Section.the-variants.{Ranges, Entries}
 use Rattle.lookup.specs.Records.{sectionClass}
 use Rattle.lookup.proofs.RecordLaws.{range-class, entry-role}
 use Rattle.compare.specs.declared.Step.{Step}
-use Rattle.compare.specs.Walk.{StopsBoth, StepOf, codePoints}
+use Rattle.compare.specs.Walk.{StepOf, codePoints}
 use Rattle.changes.specs.Change.{Change}
 use Rattle.changes.specs.ChangeList.{begunAt, only, goesOn, changesFrom, runsOf, entriesOf}
 use Rattle.changes.specs.Answer.{changesOf}

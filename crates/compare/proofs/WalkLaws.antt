@@ -21,7 +21,6 @@ use Rattle.lookup.proofs.RisingLaws.{class-held, class-gap}
 use Rattle.lookup.proofs.ClassLaws.{class-scalar}
 use Rattle.lookup.proofs.RecordLaws.{records-rise}
 use Rattle.compare.specs.declared.Ahead.{Ahead}
-use Rattle.compare.specs.declared.Step.{Step}
 use Rattle.compare.specs.Walk.{Walk, Stops, AheadOf, Ready, StopsBoth, StepOf}
 
 -- a walk begins at code point 0

@@ -1,5 +1,5 @@
 -- What the pair check of two images answers (docs/RULES.md, "Permitted changes", and refusals 10 and 11).
-use Prim.Native.Nat.{ℕ, _+_}
+use Prim.Native.Nat.{ℕ}
 use mathlib.Core.List.{List}
 use mathlib.Core.Bool.{Bool, not, _&&_, _||_, cond}
 use lib.Dec.{ltb, eqb}

@@ -1,5 +1,4 @@
 -- `compare::advance` meets its contract. Assumes nothing.
-use borrow.Author.Needs.{needs}
 use Rattle.compare.proofs.advance.Statement.{statement}
 use Rattle.compare.proofs.advance.Tie as tie
 
