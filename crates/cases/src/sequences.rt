@@ -13,15 +13,20 @@ fn show(s: &[u8]) {
             printing::print_text(b" length ");
             printing::print_number(len);
         }
-        Step::IllFormed => printing::print_text(b"ill-formed"),
+        Step::IllFormed { len } => {
+            printing::print_text(b"ill-formed ");
+            printing::print_number(len);
+        }
         Step::End => printing::print_text(b"end"),
     }
     let text = utf8::check_text(s);
     match text {
         Text::WellFormed => printing::print_text(b", text well-formed\n"),
-        Text::IllFormed(p) => {
+        Text::IllFormed { place, len } => {
             printing::print_text(b", text ill-formed at ");
-            printing::print_number(p);
+            printing::print_number(place);
+            printing::print_text(b" length ");
+            printing::print_number(len);
             printing::print_text(b"\n");
         }
     }

@@ -14,8 +14,8 @@ pub enum Refusal {
     Entry(usize),
     // 5: the text is too long.
     TextLength,
-    // 6: no well-formed UTF-8 sequence begins at this byte place, the first such.
-    IllFormed(usize),
+    // 6: no well-formed UTF-8 sequence begins at this byte place, the first such; the length of the maximal subpart there.
+    IllFormed { place: usize, len: usize },
     // 7: no token begins at this byte place, after the longest run of tokens.
     Characters(usize),
     // 8: more room is needed; the number of records.
@@ -42,7 +42,7 @@ pub fn number(r: Refusal) -> u32
         Refusal::Range(_) => 3,
         Refusal::Entry(_) => 4,
         Refusal::TextLength => 5,
-        Refusal::IllFormed(_) => 6,
+        Refusal::IllFormed { place: _, len: _ } => 6,
         Refusal::Characters(_) => 7,
         Refusal::Room(_) => 8,
         Refusal::NotScalar(_) => 9,
@@ -63,7 +63,7 @@ pub fn carried_count(r: Refusal) -> usize
         Refusal::Range(_) => 1,
         Refusal::Entry(_) => 1,
         Refusal::TextLength => 0,
-        Refusal::IllFormed(_) => 1,
+        Refusal::IllFormed { place: _, len: _ } => 2,
         Refusal::Characters(_) => 1,
         Refusal::Room(_) => 1,
         Refusal::NotScalar(_) => 1,
@@ -74,7 +74,7 @@ pub fn carried_count(r: Refusal) -> usize
     }
 }
 
-// The number that the refusal carries, or 0.
+// The first number that the refusal carries, or 0.
 pub fn carried(r: Refusal) -> usize
     ensures { λ n. ⌜ n ≡ getD (carriedBy r) 0 0 ⌝ }
 {
@@ -84,13 +84,34 @@ pub fn carried(r: Refusal) -> usize
         Refusal::Range(i) => i,
         Refusal::Entry(i) => i,
         Refusal::TextLength => 0,
-        Refusal::IllFormed(p) => p,
+        Refusal::IllFormed { place, len: _ } => place,
         Refusal::Characters(p) => p,
         Refusal::Room(n) => n,
         Refusal::NotScalar(x) => x,
         Refusal::Change(x) => x,
         Refusal::Profiles => 0,
         Refusal::Buffer(n) => n,
+        Refusal::Shape => 0,
+    }
+}
+
+// The second number that the refusal carries, or 0.
+pub fn carried_second(r: Refusal) -> usize
+    ensures { λ n. ⌜ n ≡ getD (carriedBy r) 1 0 ⌝ }
+{
+    match r {
+        Refusal::Length => 0,
+        Refusal::Header => 0,
+        Refusal::Range(_) => 0,
+        Refusal::Entry(_) => 0,
+        Refusal::TextLength => 0,
+        Refusal::IllFormed { place: _, len } => len,
+        Refusal::Characters(_) => 0,
+        Refusal::Room(_) => 0,
+        Refusal::NotScalar(_) => 0,
+        Refusal::Change(_) => 0,
+        Refusal::Profiles => 0,
+        Refusal::Buffer(_) => 0,
         Refusal::Shape => 0,
     }
 }

@@ -240,14 +240,17 @@ fn count_pending(state: u32) -> usize
 }
 
 // The refusal where no token begins at a place: the text from there on is first checked as UTF-8.
-fn refuse_at(text: &[u8], at: usize) -> Refusal
+pub fn refuse_at(text: &[u8], at: usize) -> Refusal
     requires { ⌜ at ≤ length (now text) ⌝ }
     ensures { λ r. ⌜ r ≡ stopRefusal at (textOf (drop at (now (text .entry)))) ⌝ }
 {
     let form = utf8::check_text(&text[at..]);
     match form {
         Text::WellFormed => Refusal::Characters(at),
-        Text::IllFormed(p) => Refusal::IllFormed(at + p),
+        Text::IllFormed { place, len } => Refusal::IllFormed {
+            place: at + place,
+            len,
+        },
     }
 }
 
@@ -268,7 +271,7 @@ pub fn count_tokens<'a>(image: &'a [u8], table: &'a [u8; 128], text: &'a [u8]) -
         let c = character::read(image, table, memo, text, at);
         let len = c.len;
         if len == 0 {
-            return Counted::Refused(Refusal::IllFormed(at));
+            return Counted::Refused(refuse_at(text, at));
         }
         memo = c.memo;
         let next = at + len;

@@ -109,7 +109,7 @@ pub fn take_checked<'a>(image: &'a [u8], text: &'a [u8], place: usize) -> Taken
     let first = scan::first_token(image, &table, &text[place..]);
     match first {
         First::Nothing => Taken::Done,
-        First::IllFormed => Taken::Refused(Refusal::IllFormed(place)),
+        First::IllFormed => Taken::Refused(scan::refuse_at(text, place)),
         First::NoToken => Taken::Refused(Refusal::Characters(place)),
         First::Token { kind, end } => Taken::Token {
             kind,

@@ -21,16 +21,16 @@ pub struct Lead {
 pub enum Step {
     // A well-formed sequence of `len` bytes, and its code point.
     Scalar { code: u32, len: usize },
-    // Bytes that begin no well-formed sequence.
-    IllFormed,
+    // Bytes that begin no well-formed sequence, and the length of the maximal subpart there.
+    IllFormed { len: usize },
     // Nothing.
     End,
 }
 
-// Whether a text is well-formed, or the first place at which no well-formed sequence begins.
+// Whether a text is well-formed, or the first place at which no well-formed sequence begins, and the length of the maximal subpart there.
 pub enum Text {
     WellFormed,
-    IllFormed(usize),
+    IllFormed { place: usize, len: usize },
 }
 
 // Whether a number is a Unicode scalar value.
@@ -139,7 +139,10 @@ fn misses(s: &[u8], i: usize, low: u8, high: u8) -> bool
     high < b
 }
 
-// The sequence at the head of `s` as one number; 0 where none begins.
+// Bytes that begin no sequence as one number: this, times the length of their maximal subpart.
+const ILL: usize = 8;
+
+// What stands at the head of `s`, as one number; 0 for nothing.
 fn pack(s: &[u8]) -> usize
     ensures { λ r. ⌜ r ≡ packed (stepOf (now (s .entry))) ⌝ }
 {
@@ -150,32 +153,33 @@ fn pack(s: &[u8]) -> usize
     let lead = read_lead(a);
     let len = lead.len;
     if len == 0 {
-        return 0;
+        return ILL;
     }
     if len == 1 {
         return pack1(a);
     }
     if misses(s, 1, lead.low, lead.high) {
-        return 0;
+        return ILL;
     }
     let b = s[1];
     if len == 2 {
         return pack2(a, b);
     }
     if misses(s, 2, 0x80, 0xBF) {
-        return 0;
+        return 2 * ILL;
     }
     let c = s[2];
     if len == 3 {
         return pack3(a, b, c);
     }
     if misses(s, 3, 0x80, 0xBF) {
-        return 0;
+        return 3 * ILL;
     }
     pack4(a, b, c, s[3])
 }
 
-// The sequence at a place of `s` as one number: 8 times its code point, and its length; 0 where none begins.
+// What stands at a place of `s` as one number: 8 times a sequence's code point, and its length; 8 times the length of a maximal subpart
+// where no sequence begins; 0 at the end.
 pub fn decode_packed(s: &[u8], at: usize) -> usize
     requires { ⌜ at ≤ length (now s) ⌝ }
     ensures { λ r. ⌜ r ≡ packed (stepOf (drop at (now (s .entry)))) ⌝ }
@@ -193,7 +197,7 @@ pub fn decode(s: &[u8]) -> Step
     let d = pack(s);
     let len = d % 8;
     if len == 0 {
-        return Step::IllFormed;
+        return Step::IllFormed { len: d / 8 };
     }
     Step::Scalar {
         code: (d / 8) as u32,
@@ -201,7 +205,7 @@ pub fn decode(s: &[u8]) -> Step
     }
 }
 
-// The first place of `s` at which no well-formed sequence begins, or that there is none.
+// The first place of `s` at which no well-formed sequence begins and the length of the maximal subpart there, or that there is none.
 pub fn check_text(s: &[u8]) -> Text
     ensures { λ r. ⌜ r ≡ textOf (now (s .entry)) ⌝ }
 {
@@ -211,9 +215,13 @@ pub fn check_text(s: &[u8]) -> Text
             at += 1;
             continue;
         }
-        let len = decode_packed(s, at) % 8;
+        let d = decode_packed(s, at);
+        let len = d % 8;
         if len == 0 {
-            return Text::IllFormed(at);
+            return Text::IllFormed {
+                place: at,
+                len: d / 8,
+            };
         }
         at += len;
     }
