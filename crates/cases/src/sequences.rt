@@ -2,7 +2,7 @@
 use utf8::Step;
 use utf8::Text;
 
-// What stands at the head, and the first ill-formed place.
+// What stands at the head, and the first ill-formed place, each with its length.
 fn show(s: &[u8]) {
     crate::print_bytes(s, 256);
     let step = utf8::decode(s);
@@ -88,6 +88,22 @@ fn rows_of_four() {
     show(b"\xF0\x90\x80");
 }
 
+// Maximal subparts of one, two and three bytes, at the end and before a byte that does not go on.
+fn subparts() {
+    show(b"\xC0");
+    show(b"\xC0\xA9");
+    show(b"\xFF");
+    show(b"\xE0\x80");
+    show(b"\xED\xA0");
+    show(b"\xF0\x8F");
+    show(b"\xF4\x90");
+    show(b"\xE2\x82A");
+    show(b"\xE1\x80\xE1");
+    show(b"\xF0\x9F");
+    show(b"\xF0\x9F\x98");
+    show(b"\xF0\x9F\x98A");
+}
+
 // Texts whose ill-formed place is not the first.
 fn texts() {
     show(b"setting");
@@ -101,5 +117,6 @@ pub fn run() {
     short_rows();
     rows_of_three();
     rows_of_four();
+    subparts();
     texts();
 }

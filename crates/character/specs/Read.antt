@@ -3,8 +3,8 @@ use Prim.Native.Nat.{ℕ, _/_, _%_, _≤_, _<_}
 use mathlib.Core.Path.{_≡_}
 use mathlib.Core.List.{List}
 use lib.ListN.{length, getD, drop}
-use Rattle.utf8.specs.declared.Step.the-variants.{Scalar, IllFormed}
-use Rattle.utf8.specs.Head.{stepOf}
+use Rattle.utf8.specs.declared.Step.the-variants.{Scalar}
+use Rattle.utf8.specs.Head.{stepOf, IllHead}
 use Rattle.character.specs.Traits.{traitsOf}
 use Rattle.character.specs.declared.Memo.{Memo}
 use Rattle.character.specs.declared.Character.{Character}
@@ -38,5 +38,5 @@ pub record Settled (s : List ℕ) (packed : ℕ) (r : Character) : Type 0 where
 -- the character of `text` at a place, under the image s: its length, code point and traits; length 0 where the text is ill-formed
 pub record ReadAs (s text : List ℕ) (at : ℕ) (r : Character) : Type 0 where
   pub memo : MemoOf s (r .memo)
-  pub none : r .len ≡ 0 → stepOf (drop at text) ≡ IllFormed
+  pub none : r .len ≡ 0 → IllHead (drop at text)
   pub some : 0 < r .len → (stepOf (drop at text) ≡ Scalar (r .code) (r .len)) × (r .traits ≡ traitsOf s (r .code))

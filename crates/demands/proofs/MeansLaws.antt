@@ -39,7 +39,7 @@ module _ (s text : List ℕ) where
 
   form-means : Accepted s → length text ≤ maxText → (t : Text) → TextMeans text t → OutcomeMeans (unless (formRefusalBy t) (judged (readingOf s text .tokens) (readingOf s text .left)))
   form-means a l t (well-formed e) = judged-means (readingOf s text .tokens) (readingOf s text .left) (reading-divides (record { image = a; short = l; wellFormed = e }))
-  form-means a l t (bad-form e h p) = refuses (ill-formed a l (bad-form e h p))
+  form-means a l t (bad-form e h p m) = refuses (ill-formed a l (bad-form e h p m))
 
   length-means : Accepted s → (b : Bool) → ltb maxText (length text) ≡ b →
       OutcomeMeans (unless (refusedIf b refusal.TextLength) (unless (formRefusal text) (judged (readingOf s text .tokens) (readingOf s text .left))))
@@ -71,7 +71,7 @@ module _ (s text : List ℕ) where
   means-outcome o (divides d) = judged-by d
   means-outcome o (refuses (of-image {r} m)) = rw (means-refusal s (some r) m)
   means-outcome o (refuses (too-long a l)) = rw (refused-none s a, lt-ltb maxText (length text) l)
-  means-outcome o (refuses (ill-formed {p} a l m)) = rw (refused-none s a, le-ltb maxText (length text) l, means-text text (form.IllFormed p) m)
+  means-outcome o (refuses (ill-formed {p} {n} a l m)) = rw (refused-none s a, le-ltb maxText (length text) l, means-text text (form.IllFormed p n) m)
   means-outcome o (refuses (no-token t)) = judged-by (t .divided) ∙ ap (λ (p : ℕ). refused (refusal.Characters p)) (sym (t .place))
 
   -- counting

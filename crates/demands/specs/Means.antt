@@ -25,8 +25,8 @@ module _ (s text : List ℕ) where
     of-image : {r : Refusal} → RefusalMeans s (some r) → Refuses r
     -- 5: the text is too long
     too-long : Accepted s → maxText < length text → Refuses refusal.TextLength
-    -- 6: p is the first place at which no well-formed sequence begins
-    ill-formed : {p : ℕ} → Accepted s → length text ≤ maxText → TextMeans text (form.IllFormed p) → Refuses (refusal.IllFormed p)
+    -- 6: p is the first place at which no well-formed sequence begins, and n bytes there are the maximal subpart
+    ill-formed : {p n : ℕ} → Accepted s → length text ≤ maxText → TextMeans text (form.IllFormed p n) → Refuses (refusal.IllFormed p n)
     -- 7: the longest run of tokens from byte 0 ends at p, and no token begins there
     no-token : {p : ℕ} → Stopped s text p → Refuses (refusal.Characters p)
 

@@ -57,7 +57,7 @@ module _ (s text : List ℕ) where
 
   by-form : (t : Text) (o : Outcome (List (Tok Character Kind))) → Read o → Read (unless (formRefusalBy t) o)
   by-form form.WellFormed o h = h
-  by-form (form.IllFormed p) o h = λ n e. impossible (cc)
+  by-form (form.IllFormed p m) o h = λ n e. impossible (cc)
 
   by-length : (b : Bool) (o : Outcome (List (Tok Character Kind))) → Read o → Read (unless (refusedIf b refusal.TextLength) o)
   by-length true o h = λ n e. impossible (cc)

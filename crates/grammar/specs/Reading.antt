@@ -42,10 +42,10 @@ tokensOf s text = readingOf s text .tokens
 unfoldable pub lengthRefusal : List ℕ → Option Refusal
 lengthRefusal text = refusedIf (ltb maxText (length text)) refusal.TextLength
 
--- 6: the first place in the whole text at which no well-formed sequence begins
+-- 6: the first place in the whole text at which no well-formed sequence begins, and the length of the maximal subpart there
 abbrev pub formRefusalBy : Text → Option Refusal
 formRefusalBy WellFormed = none
-formRefusalBy (IllFormed p) = some (refusal.IllFormed p)
+formRefusalBy (IllFormed p n) = some (refusal.IllFormed p n)
 
 abbrev pub formRefusal : List ℕ → Option Refusal
 formRefusal text = formRefusalBy (textOf text)

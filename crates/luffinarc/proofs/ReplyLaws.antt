@@ -3,8 +3,7 @@ use Prim.Native.Nat.{ℕ, _≤_}
 use mathlib.Core.Path.{_≡_, refl, subst, sym, ap}
 use mathlib.Core.List.{List, [], _∷_}
 use native.Mathlib.Omega.{arith}
-use lib.ListN.{getD}
-use Rattle.refusal.specs.Refusal.{numberOf, carriedBy}
+use Rattle.refusal.specs.Refusal.{numberOf}
 use Rattle.refusal.specs.declared.Refusal.{Refusal}
 use Rattle.refusal.specs.declared.Refusal.the-variants.{
   Length,
@@ -31,21 +30,21 @@ use Rattle.luffinarc.specs.ImageReply.{checkedBy, arrayBy, TellsChecked}
 pub told : {T : Type 0} (reply : T → Reply) {x y : T} {n : ℕ} {a : List ℕ} → x ≡ y → Tells (reply y) n a → Tells (reply x) n a
 told reply {n = n} {a} e h = subst (λ z. Tells (reply z) n a) (sym e) h
 
--- a refusal carries at most one number, and has a number of 1 to 13
-pub known : (r : Refusal) → (0 ≡ getD (carriedBy r) 1 0) × (1 ≤ numberOf r) × (numberOf r ≤ 13)
-known Length = (refl, omega arith, omega arith)
-known Header = (refl, omega arith, omega arith)
-known (Range i) = (refl, omega arith, omega arith)
-known (Entry i) = (refl, omega arith, omega arith)
-known TextLength = (refl, omega arith, omega arith)
-known (IllFormed p) = (refl, omega arith, omega arith)
-known (Characters p) = (refl, omega arith, omega arith)
-known (Room n) = (refl, omega arith, omega arith)
-known (NotScalar x) = (refl, omega arith, omega arith)
-known (Change x) = (refl, omega arith, omega arith)
-known Profiles = (refl, omega arith, omega arith)
-known (Buffer n) = (refl, omega arith, omega arith)
-known Shape = (refl, omega arith, omega arith)
+-- a refusal has a number of 1 to 13
+pub known : (r : Refusal) → (1 ≤ numberOf r) × (numberOf r ≤ 13)
+known Length = (omega arith, omega arith)
+known Header = (omega arith, omega arith)
+known (Range i) = (omega arith, omega arith)
+known (Entry i) = (omega arith, omega arith)
+known TextLength = (omega arith, omega arith)
+known (IllFormed p n) = (omega arith, omega arith)
+known (Characters p) = (omega arith, omega arith)
+known (Room n) = (omega arith, omega arith)
+known (NotScalar x) = (omega arith, omega arith)
+known (Change x) = (omega arith, omega arith)
+known Profiles = (omega arith, omega arith)
+known (Buffer n) = (omega arith, omega arith)
+known Shape = (omega arith, omega arith)
 
 -- so the result tells a refusal from the other answers
 pub apart : (r : Refusal) → (numberOf r ≡ 0 → ⊥) × (numberOf r ≡ done → ⊥)

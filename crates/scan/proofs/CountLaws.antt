@@ -5,14 +5,12 @@ use mathlib.Core.List.{List, [], _∷_, _++_}
 use mathlib.Core.Option.{Option, none, some}
 use native.Mathlib.Omega.{arith}
 use lib.ListN.{length, drop, length-append}
-use Rattle.refusal.specs.declared.Refusal.the-variants as refusal
 use Rattle.refusal.specs.Outcome.{Outcome, refused, unless, outcomeMap}
 use Rattle.utf8.specs.declared.Text.{Text}
 use Rattle.utf8.specs.declared.Text.the-variants as form
-use Rattle.utf8.specs.declared.Step.the-variants as utf8-step
-use Rattle.utf8.specs.Head.{stepOf}
+use Rattle.utf8.specs.Head.{IllHead}
 use Rattle.utf8.specs.Text.{Character, textOf}
-use Rattle.utf8.proofs.TextLaws.{shift, ill-here, end-here}
+use Rattle.utf8.proofs.TextLaws.{shift, text-ill, end-here}
 use Rattle.grammar.specs.Step.{idle, under, held, underWay, preceded, tokensLeft, settle, finish}
 use Rattle.grammar.specs.Grammar.{Kind}
 use Rattle.grammar.specs.Kinds.{kindOf}
@@ -38,7 +36,7 @@ pub record Counting (s text : List ℕ) (state count mid at : ℕ) : Type 0 wher
 stop-by : (p : ℕ) (f : Text) (ts : Tokens) (c : Character) (l : List Character) → tokensWidth ts ≡ p →
     unless (formRefusalBy (shift p f)) (judged ts (c ∷ l)) ≡ refused (stopRefusal p f)
 stop-by p form.WellFormed ts c l w = rw w
-stop-by p (form.IllFormed n) ts c l w = refl
+stop-by p (form.IllFormed q n) ts c l w = refl
 
 stops-at : (s text : List ℕ) (p : ℕ) (ts us : Tokens) (c : Character) (l : List Character) → Place text p → p ≡ tokensWidth ts + tokensWidth us →
     preceded ts (tokensLeft us (c ∷ l)) ≡ readingOf s text → Refused (stopRefusal p (textOf (drop p text))) ≡ countThrough s text
@@ -57,9 +55,9 @@ module _ {s text : List ℕ} {state count mid at : ℕ} (i : Counting s text sta
   pub counting-less : state < states
   counting-less = stands-less s state (tokensWidth (i .tokens)) mid at (i .under-way) (i .reached .stands)
 
-  pub counts-ill : stepOf (drop at text) ≡ utf8-step.IllFormed → Refused (refusal.IllFormed at) ≡ countThrough s text
+  pub counts-ill : IllHead (drop at text) → Refused (stopRefusal at (textOf (drop at text))) ≡ countThrough s text
   unfolding countThrough readThrough
-  counts-ill e = rw (← i .reached .place .form, ill-here text at e)
+  counts-ill e = rw (← i .reached .place .form, text-ill (drop at text) e)
 
   pub counting-after : {r state′ start′ mid′ at′ : ℕ} → After s text (i .tokens) (i .under-way) r state′ start′ mid′ at′ →
       Counting s text state′ (count + r) mid′ at′

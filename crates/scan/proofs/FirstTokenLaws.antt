@@ -8,9 +8,9 @@ use lib.ListN.{length, drop, drop-of-length-le}
 use Rattle.lists.proofs.BoolLaws.{impossible}
 use Rattle.utf8.specs.declared.Step.{Step}
 use Rattle.utf8.specs.declared.Step.the-variants as utf8-step
-use Rattle.utf8.specs.Head.{stepOf}
+use Rattle.utf8.specs.Head.{stepOf, IllHead}
 use Rattle.utf8.specs.Text.{Character, decode, widthOf}
-use Rattle.utf8.proofs.SequenceLaws.{step-empty}
+use Rattle.utf8.proofs.SequenceLaws.{step-empty, ill-at}
 use Rattle.utf8.proofs.TextLaws.{decode-ill, decode-end}
 use Rattle.grammar.specs.Scan.{Tok, walk}
 use Rattle.grammar.specs.Step.{idle, under, held, tok, underWay, finish}
@@ -49,7 +49,7 @@ module _ (s text : List ℕ) where
     where
       go : (x : Step) → stepOf text ≡ x → firstIn (tokensOf s text) ≡ firstBy (tokensOf s text) x
       go (utf8-step.Scalar x n) f = refl
-      go utf8-step.IllFormed f = let z = no-tokens (ap (λ d. d .characters) (decode-ill text f)) in impossible (cc)
+      go (utf8-step.IllFormed n) f = let z = no-tokens (ap (λ d. d .characters) (decode-ill text (ill-at text n f))) in impossible (cc)
       go utf8-step.End f = let z = no-tokens (ap (λ d. d .characters) (decode-end text f)) in impossible (cc)
 
   module _ (state mid at : ℕ) where
@@ -74,9 +74,9 @@ module _ {s text : List ℕ} {state mid at : ℕ} (i : Searching s text state mi
   pub searching-less : state < states
   searching-less = stands-less s state 0 mid at (i .under-way) (i .reached .stands)
 
-  pub first-ill : stepOf (drop at text) ≡ utf8-step.IllFormed → at ≡ 0 → IllFormed ≡ firstOf s text
+  pub first-ill : IllHead (drop at text) → at ≡ 0 → IllFormed ≡ firstOf s text
   unfolding firstOf
-  first-ill e z = let f : stepOf text ≡ utf8-step.IllFormed = rw z at e in rw f
+  first-ill e z = let f : IllHead text = rw z at e in rw f
 
   pub first-nothing : length text ≤ at → at ≡ 0 → Nothing ≡ firstOf s text
   unfolding firstOf

@@ -8,7 +8,7 @@ use native.Mathlib.Omega.{arith}
 use lib.ListN.{length, drop, length-append, drop-of-length-le}
 use lib.Seq.{drop-drop}
 use Rattle.utf8.specs.declared.Step.the-variants as utf8-step
-use Rattle.utf8.specs.Head.{stepOf}
+use Rattle.utf8.specs.Head.{stepOf, IllHead}
 use Rattle.utf8.specs.Text.{Character, decode, textOf}
 use Rattle.utf8.proofs.TextLaws.{decode-scalar, decode-ill, decode-empty, shift, shift-zero, turn}
 use Rattle.image.specs.Check.{refusalOf}
@@ -72,7 +72,7 @@ pub record Look (s text : List ℕ) (state at len traits turn : ℕ) : Type 0 wh
 pub record NoCharacter (text : List ℕ) (at : ℕ) : Type 0 where
   pub none : charactersAt text at ≡ []
 
-pub at-ill : (text : List ℕ) (at : ℕ) → stepOf (drop at text) ≡ utf8-step.IllFormed → NoCharacter text at
+pub at-ill : (text : List ℕ) (at : ℕ) → IllHead (drop at text) → NoCharacter text at
 at-ill text at e = record { none = ap (λ d. d .characters) (decode-ill (drop at text) e) }
 
 pub at-end : (text : List ℕ) (at : ℕ) → length text ≤ at → NoCharacter text at

@@ -29,4 +29,4 @@ countThrough s text = countedBy (outcomeMap length (readThrough s text))
 -- the refusal where no token begins at a place: 6 comes first, if the text from there on has an ill-formed place
 abbrev pub stopRefusal : ℕ → Text → Refusal
 stopRefusal at WellFormed = refusal.Characters at
-stopRefusal at (IllFormed p) = refusal.IllFormed (at + p)
+stopRefusal at (IllFormed p n) = refusal.IllFormed (at + p) n

@@ -20,7 +20,7 @@ firstIn (t ∷ ts) = Token (kindNumber (t .kind)) (tokenWidth t)
 
 abbrev pub firstBy : List (Tok Character Kind) → Step → First
 firstBy ts (step.Scalar x n) = firstIn ts
-firstBy ts step.IllFormed = IllFormed
+firstBy ts (step.IllFormed n) = IllFormed
 firstBy ts step.End = Nothing
 
 -- the first token, where it is complete at a place: the one under way, up to there or to the medial that waits

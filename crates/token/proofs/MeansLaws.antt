@@ -7,11 +7,14 @@ use native.Mathlib.Omega.{arith}
 use native.Mathlib.Decide.{decLt}
 use lib.ListN.{length, drop, length-append, length-drop, drop-of-length-le}
 use Rattle.refusal.specs.declared.Refusal.{Refusal}
+use Rattle.refusal.specs.declared.Refusal.the-variants as refusal
 use Rattle.utf8.specs.declared.Step.{Step}
 use Rattle.utf8.specs.declared.Step.the-variants as step
+use Rattle.utf8.specs.Subpart.{MaximalSubpart}
 use Rattle.utf8.specs.Head.{stepOf, StepMeans, sequence, no-sequence, empty}
 use Rattle.utf8.specs.Text.{Character, Encoded, ends as no-more, takes as reads, decode}
 use Rattle.utf8.proofs.TextLaws.{decode-means, means-decode}
+use Rattle.utf8.proofs.SubpartLaws.{means-subpart}
 use Rattle.utf8.proofs.SequenceLaws.{step-means, means-step}
 use Rattle.image.specs.Check.{refusalOf}
 use Rattle.image.proofs.ImageLaws.{refusal-means, means-refusal, accepted, refused-none}
@@ -24,6 +27,7 @@ use Rattle.scan.specs.declared.First.{First}
 use Rattle.scan.specs.declared.First.the-variants as first
 use Rattle.scan.specs.First.{firstIn, firstBy, firstOf}
 use Rattle.token.specs.declared.Taken.{Taken}
+use Rattle.token.specs.declared.Taken.the-variants.{Refused}
 use Rattle.token.specs.Taken.{takenOf}
 use Rattle.token.specs.Means.{Placed, TakenMeans, of-image, too-long, past-end, ill-formed, no-token, done, token}
 use Rattle.token.proofs.TakenLaws.{takenBy, taken-refused, taken-long, taken-past, taken-first}
@@ -46,18 +50,20 @@ first-is s part (reads q r p f e) d h =
     ap (firstBy (tokensOf s part)) (means-step part _ (sequence q r p f refl refl)) ∙ ap firstIn (tokens-are s part (reads q r p f e) d)
 
 module _ (s text : List ℕ) (place : ℕ) where
-  placed-means : Placed s text place → TakenMeans s text place (takenBy place (firstOf s (drop place text)))
+  placed-means : Placed s text place → TakenMeans s text place (takenBy text place (firstOf s (drop place text)))
   unfolding firstOf
   placed-means h = go (stepOf (drop place text)) (step-means (drop place text) (stepOf (drop place text)) refl)
     where
       by-tokens : {c : Character} {cs : List Character} {rest : List ℕ} {ts : List (Tok Character Kind)} {left : List Character} →
-          Encoded (drop place text) (c ∷ cs) rest → Division (TokenOf (meaningOf s)) (c ∷ cs) ts left → TakenMeans s text place (takenBy place (firstIn ts))
+          Encoded (drop place text) (c ∷ cs) rest → Division (TokenOf (meaningOf s)) (c ∷ cs) ts left → TakenMeans s text place (takenBy text place (firstIn ts))
       by-tokens e (ends n) = no-token h e n
       by-tokens e (takes L d) = token h e L
 
-      go : (t : Step) → StepMeans (drop place text) t → TakenMeans s text place (takenBy place (firstBy (tokensOf s (drop place text)) t))
+      go : (t : Step) → StepMeans (drop place text) t → TakenMeans s text place (takenBy text place (firstBy (tokensOf s (drop place text)) t))
       go t (empty e) = done h (let n = ap length e in let l = length-drop place text in let w = h .within in omega arith)
-      go t (no-sequence l n) = ill-formed h (let k = length-drop place text in omega arith) n
+      go t (no-sequence {n = k} l n m) =
+          let e = means-subpart (drop place text) k l m in
+          ill-formed h (let k = length-drop place text in omega arith) n (subst (MaximalSubpart (drop place text)) (sym e) m)
       go t (sequence q r p f c l) =
           let e = reads q r p f (decode-means r) in
           let d = tokens-divide (meaningOf s) _ in
@@ -83,7 +89,7 @@ module _ (s text : List ℕ) (place : ℕ) where
   pub taken-means : (t : Taken) → takenOf s text place ≡ t → TakenMeans s text place t
   taken-means t e = subst (TakenMeans s text place) e own-means
 
-  placed-taken : Placed s text place → (f : First) → firstOf s (drop place text) ≡ f → takenOf s text place ≡ takenBy place f
+  placed-taken : Placed s text place → (f : First) → firstOf s (drop place text) ≡ f → takenOf s text place ≡ takenBy text place f
   placed-taken h f e = sym (taken-first s text place (refused-none s (h .image)) (h .short) (h .within) f e)
 
   pub means-taken : (t : Taken) → TakenMeans s text place t → takenOf s text place ≡ t
@@ -91,9 +97,10 @@ module _ (s text : List ℕ) (place : ℕ) where
   means-taken t (of-image {r} m) = sym (taken-refused s text place (means-refusal s (some r) m))
   means-taken t (too-long a l) = sym (taken-long s text place (refused-none s a) l)
   means-taken t (past-end a l h) = sym (taken-past s text place (refused-none s a) l h)
-  means-taken t (ill-formed h l n) =
-      let k = length-drop place text in
-      placed-taken h first.IllFormed (ap (firstBy (tokensOf s (drop place text))) (means-step (drop place text) step.IllFormed (no-sequence (omega arith) n)))
+  means-taken t (ill-formed {n = k} h l n m) =
+      let d = length-drop place text in
+      placed-taken h first.IllFormed (ap (firstBy (tokensOf s (drop place text))) (means-step (drop place text) (step.IllFormed k) (no-sequence (omega arith) n m)))
+      ∙ ap (λ (j : ℕ). Refused (refusal.IllFormed place j)) (means-subpart (drop place text) k (omega arith) m)
   means-taken t (no-token h e n) = placed-taken h first.NoToken (first-is s (drop place text) e (ends n) (omega arith))
   means-taken t (done h e) =
       let d : drop place text ≡ [] = drop-of-length-le text (let l : length text ≤ place = omega (arith, e) in l) in

@@ -7,6 +7,7 @@ use mathlib.Core.Option.{some}
 use lib.ListN.{length, drop}
 use Rattle.refusal.specs.declared.Refusal.{Refusal}
 use Rattle.refusal.specs.declared.Refusal.the-variants as refusal
+use Rattle.utf8.specs.Subpart.{MaximalSubpart}
 use Rattle.utf8.specs.Head.{NoSequence}
 use Rattle.utf8.specs.Text.{Character, Encoded, widthOf}
 use Rattle.image.specs.Accepted.{Accepted}
@@ -31,8 +32,10 @@ pub data TakenMeans (s text : List ℕ) (place : ℕ) : Taken → Type 0 where
   too-long : Accepted s → maxText < length text → TakenMeans s text place (Refused refusal.TextLength)
   -- 13: the place lies past the text's end
   past-end : Accepted s → length text ≤ maxText → length text < place → TakenMeans s text place (Refused refusal.Shape)
-  -- 6: no well-formed sequence begins at the place, and it isn't the end
-  ill-formed : Placed s text place → place < length text → NoSequence (drop place text) → TakenMeans s text place (Refused (refusal.IllFormed place))
+  -- 6: no well-formed sequence begins at the place, and it isn't the end; n bytes there are the maximal subpart
+  ill-formed :
+      {n : ℕ} → Placed s text place → place < length text → NoSequence (drop place text) → MaximalSubpart (drop place text) n →
+      TakenMeans s text place (Refused (refusal.IllFormed place n))
   -- 7: no token begins the characters from the place up to the first ill-formed place, and there is one
   no-token :
       {c : Character} {cs : List Character} {rest : List ℕ} → Placed s text place → Encoded (drop place text) (c ∷ cs) rest →

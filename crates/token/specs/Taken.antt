@@ -9,6 +9,7 @@ use Rattle.refusal.specs.declared.Refusal.{Refusal}
 use Rattle.refusal.specs.declared.Refusal.the-variants as refusal
 use Rattle.utf8.specs.declared.Text.{Text}
 use Rattle.utf8.specs.declared.Text.the-variants.{WellFormed, IllFormed}
+use Rattle.utf8.specs.Subpart.{subpartOf}
 use Rattle.utf8.specs.Text.{Character, textOf}
 use Rattle.image.specs.Check.{refusalOf}
 use Rattle.grammar.specs.Scan.{Tok}
@@ -31,7 +32,7 @@ placeRefusal text place = refusedIf (ltb (length text) place) refusal.Shape
 -- q: the first ill-formed place at or after a place, counted from that place, or the text's end
 abbrev pub stopBy : ℕ → ℕ → Text → ℕ
 stopBy place end WellFormed = end
-stopBy place end (IllFormed p) = place + p
+stopBy place end (IllFormed p n) = place + p
 
 unfoldable pub stopOf : List ℕ → ℕ → ℕ
 stopOf text place = stopBy place (length text) (textOf (drop place text))
@@ -41,12 +42,12 @@ abbrev pub firstAt : ℕ → List (Tok Character Kind) → Taken
 firstAt place [] = Refused (refusal.Characters place)
 firstAt place (t ∷ ts) = Token (kindNumber (t .kind)) place (place + tokenWidth t)
 
--- if the place is q and not the end, 6; if it is the end, done;
+-- if the place is q and not the end, 6, with the length of the maximal subpart in the whole text from there on; if it is the end, done;
 -- else the first token of the text from the place to q read as a whole text, or 7 if none begins at the place
 unfoldable pub tokenAt : List ℕ → List ℕ → ℕ → Taken
 tokenAt s text place =
     let q = stopOf text place in
-    cond (eqb place q && not (eqb place (length text))) (Refused (refusal.IllFormed place))
+    cond (eqb place q && not (eqb place (length text))) (Refused (refusal.IllFormed place (subpartOf (drop place text))))
     (cond (eqb place (length text)) Done (firstAt place (tokensOf s (take (q - place) (drop place text)))))
 
 -- 1 to 4 of the image, then 5, then 13 for the place; else what stands there

@@ -8,6 +8,7 @@ use native.Mathlib.Omega.{arith}
 use lib.ListN.{length, take, drop, length-append}
 use lib.Seq.{drop-drop, drop-append-seam, drop-append-add, take-append-add}
 use Rattle.utf8.specs.Scalar.{isScalar}
+use Rattle.utf8.specs.Head.{NoSequence}
 use Rattle.utf8.specs.Text.{Character, widthOf, Encoded, ends, takes}
 use Rattle.utf8.proofs.SequenceLaws.{sequence-length, sequence-scalar, none-empty}
 
@@ -39,6 +40,11 @@ encoded-covers (takes {cs = cs} q r e f d) =
     let c = encoded-covers d in
     let l = ap length e ∙ length-append q r in
     record { within = omega (arith, c .within); after = ap (drop (length q + widthOf cs)) e ∙ drop-append-add q r (widthOf cs) ∙ c .after }
+
+-- no sequence begins where the characters end
+pub encoded-stops : {s r : List ℕ} {cs : List Character} → Encoded s cs r → NoSequence r
+encoded-stops (ends n) = n
+encoded-stops (takes q r e f d) = encoded-stops d
 
 -- the text from a boundary between characters on
 pub encoded-next : {s rest : List ℕ} {c : Character} {cs : List Character} → Encoded s (c ∷ cs) rest → Encoded (drop (c .width) s) cs rest

@@ -13,9 +13,11 @@ use Rattle.lists.proofs.BoolLaws.{and-left, and-right, impossible}
 use Rattle.utf8.specs.declared.Lead.{Lead}
 use Rattle.utf8.specs.declared.Step.the-variants.{Scalar, IllFormed, End}
 use Rattle.utf8.specs.Table.{Bytes, _to_, Row, table, inside, fits, codePoint}
-use Rattle.utf8.specs.Head.{stepIn, stepOf}
+use Rattle.utf8.specs.Subpart.{begun, larger, subpartIn, subpartOf}
+use Rattle.utf8.specs.Head.{stepIn, stepOf, IllHead}
 use Rattle.utf8.specs.Lead.{leadOfRow, leads, leadIn, leadOf, trailOf, stepAs, stepBy, byteFits, packed}
-use Rattle.utf8.proofs.TableLaws.{inside-out, inside-below, byte-there, fits-in, fits-out, bytesAt, bytes-at}
+use Rattle.utf8.proofs.TableLaws.{inside-out, inside-below, byte-there, fits-in, fits-out, begun-in, begun-out, bytesAt, bytes-at}
+use Rattle.utf8.proofs.SubpartLaws.{larger-left, larger-right}
 
 -- n numbers from i on have the lead l, by a computed test
 abbrev sameLead : Lead → Lead → Bool
@@ -76,7 +78,7 @@ rising-parts m g gs rs t =
       and-right (leb m (g .low) && leb (g .low) (g .high)) (rising (suc (g .high)) rs) t,
     )
 
-none-below : (rs : List Row) (m b : ℕ) (s : List ℕ) → rising m rs ≡ true → b < m → stepIn rs (b ∷ s) ≡ IllFormed
+none-below : (rs : List Row) (m b : ℕ) (s : List ℕ) → rising m rs ≡ true → b < m → stepIn rs (b ∷ s) ≡ IllFormed (subpartOf (b ∷ s))
 none-below [] m b s t h = refl
 none-below ([] ∷ rs) m b s t h = impossible (cc)
 none-below ((g ∷ gs) ∷ rs) m b s t h =
@@ -84,13 +86,13 @@ none-below ((g ∷ gs) ∷ rs) m b s t h =
     simp (inside-below g b (omega arith)) (none-below rs (suc (g .high)) b s (p .2) (omega arith))
 
 -- the row that has the byte decides, since no later row has it
-row-here : (g : Bytes) (gs : Row) (rs : List Row) (b : ℕ) (s : List ℕ) → inside g b ≡ true → stepIn rs (b ∷ s) ≡ IllFormed → AsLead (g ∷ gs) gs →
+row-here : (g : Bytes) (gs : Row) (rs : List Row) (b : ℕ) (s : List ℕ) → inside g b ≡ true → stepIn rs (b ∷ s) ≡ IllFormed (subpartOf (b ∷ s)) → AsLead (g ∷ gs) gs →
     stepIn ((g ∷ gs) ∷ rs) (b ∷ s) ≡ stepBy (leadOfRow (g ∷ gs)) (b ∷ s)
 unfolding stepBy
 row-here g [] rs b s e f a = simp e
 row-here g (h ∷ gs) rs b s e f a =
     let q : List ℕ = take (suc (suc (length gs))) (b ∷ s) in
-    simp (e, f) (ap (λ (r : Row). cond (fits r s) (Scalar (codePoint q) (suc (suc (length gs)))) IllFormed) a)
+    simp (e, f) (ap (λ (r : Row). cond (fits r s) (Scalar (codePoint q) (suc (suc (length gs)))) (IllFormed (subpartOf (b ∷ s)))) a)
 
 by-rows : (rs : List Row) (m b : ℕ) (s : List ℕ) → rising m rs ≡ true → Shaped rs → stepIn rs (b ∷ s) ≡ stepBy (leadIn rs b) (b ∷ s)
 unfolding stepBy
@@ -115,6 +117,39 @@ unfolding stepOf leadOf
 by-first [] h = absurd (omega arith)
 by-first (b ∷ s) h = by-rows table 0 b s refl table-shaped
 
+-- the ranges that a lead asks for after the first byte
+abbrev trailBy : Lead → Row
+trailBy l = trailOf (l .len) (l .low) (l .high)
+
+-- the bytes that begin a sequence are the first, and those after it that are as its lead asks
+one-below : (rs : List Row) (m b : ℕ) (s : List ℕ) → rising m rs ≡ true → b < m → subpartIn rs (b ∷ s) ≡ 1
+one-below [] m b s t h = refl
+one-below ([] ∷ rs) m b s t h = impossible (cc)
+one-below ((g ∷ gs) ∷ rs) m b s t h =
+    let p = rising-parts m g gs rs t in
+    rw (inside-below g b (omega arith), one-below rs (suc (g .high)) b s (p .2) (omega arith))
+
+subpart-rows : (rs : List Row) (m b : ℕ) (s : List ℕ) → rising m rs ≡ true → Shaped rs → subpartIn rs (b ∷ s) ≡ suc (begun (trailBy (leadIn rs b)) s)
+subpart-rows [] m b s t a = refl
+subpart-rows ([] ∷ rs) m b s t a = impossible (cc)
+subpart-rows ((g ∷ gs) ∷ rs) m b s t a =
+    let p = rising-parts m g gs rs t in
+    go (subpart-rows rs (suc (g .high)) b s (p .2) (a .1)) (inside g b) refl
+  where
+    go :
+        subpartIn rs (b ∷ s) ≡ suc (begun (trailBy (leadIn rs b)) s) → (i : Bool) → inside g b ≡ i
+        → subpartIn ((g ∷ gs) ∷ rs) (b ∷ s) ≡ suc (begun (trailBy (leadIn ((g ∷ gs) ∷ rs) b)) s)
+    go ih true e =
+        let p = rising-parts m g gs rs t in
+        let o = inside-out g b e in
+        rw (e, one-below rs (suc (g .high)) b s (p .2) (omega arith)) (larger-left (suc (begun gs s)) 1 (omega arith) ∙ ap (λ (r : Row). suc (begun r s)) (a .0))
+    go ih false e = rw e (larger-right 0 (subpartIn rs (b ∷ s)) (omega arith) ∙ ih)
+
+subpart-first : (s : List ℕ) → 0 < length s → subpartOf s ≡ suc (begun (trailBy (leadOf (getD s 0 0))) (drop 1 s))
+unfolding subpartOf leadOf
+subpart-first [] h = absurd (omega arith)
+subpart-first (b ∷ s) h = subpart-rows table 0 b s refl table-shaped
+
 lead-short : (rs : List Row) (b : ℕ) → Short rs → leadIn rs b .len ≤ 4
 lead-short [] b h = omega arith
 lead-short (r ∷ rs) b h = go (leads r b) (lead-short rs b (h .1))
@@ -132,9 +167,10 @@ pub record Begun (s : List ℕ) (l : Lead) (p : Row) (n : ℕ) : Type 0 where
   pub lead : l ≡ leadOf (getD s 0 0)
   pub within : n < length s
   pub left : (gs : Row) → fits (p ++ gs) (drop 1 s) ≡ fits gs (drop (suc n) s)
+  pub more : (gs : Row) → begun (p ++ gs) (drop 1 s) ≡ n + begun gs (drop (suc n) s)
 
 pub begins : (s : List ℕ) (l : Lead) → l ≡ leadOf (getD s 0 0) → 0 < length s → Begun s l [] 0
-begins s l e h = record { lead = e; within = h; left = λ gs. refl }
+begins s l e h = record { lead = e; within = h; left = λ gs. refl; more = λ gs. (let z : begun gs (drop 1 s) ≡ 0 + begun gs (drop 1 s) = omega arith in z) }
 
 module _ {s : List ℕ} {l : Lead} {p : Row} {n : ℕ} (d : Begun s l p n) where
   asked : (k : ℕ) → l .len ≡ k → stepOf s ≡ stepAs k (trailOf k (l .low) (l .high)) s
@@ -144,14 +180,18 @@ module _ {s : List ℕ} {l : Lead} {p : Row} {n : ℕ} (d : Begun s l p n) where
       ∙ ap (λ (m : Lead). stepBy m s) (sym (d .lead)) ∙ ap (λ (k : ℕ). stepAs k (trailOf k (l .low) (l .high)) s) e
 
   judged : (k : ℕ) (gs : Row) (t : Bool) → l .len ≡ suc k → trailOf (suc k) (l .low) (l .high) ≡ p ++ gs → fits gs (drop (suc n) s) ≡ t →
-      packed (stepOf s) ≡ packed (cond t (Scalar (codePoint (take (suc k) s)) (suc k)) IllFormed)
+      packed (stepOf s) ≡ packed (cond t (Scalar (codePoint (take (suc k) s)) (suc k)) (IllFormed (subpartOf s)))
   judged k gs t e r f =
       let g = ap (λ (q : Row). fits q (drop 1 s)) r ∙ d .left gs ∙ f in
-      ap packed (asked (suc k) e) ∙ ap (λ (u : Bool). packed (cond u (Scalar (codePoint (take (suc k) s)) (suc k)) IllFormed)) g
+      ap packed (asked (suc k) e) ∙ ap (λ (u : Bool). packed (cond u (Scalar (codePoint (take (suc k) s)) (suc k)) (IllFormed (subpartOf s)))) g
 
-  -- no row has the first byte
-  pub no-lead : l .len ≡ 0 → 0 ≡ packed (stepOf s)
-  no-lead e = sym (ap packed (asked 0 e))
+  -- the maximal subpart, where the ranges asked for begin with those of p
+  subpart-asked : (k : ℕ) (gs : Row) → l .len ≡ k → trailOf k (l .low) (l .high) ≡ p ++ gs → subpartOf s ≡ suc (n + begun gs (drop (suc n) s))
+  subpart-asked k gs e r =
+      subpart-first s (let h = d .within in omega arith)
+      ∙ ap (λ (m : Lead). suc (begun (trailBy m) (drop 1 s))) (sym (d .lead))
+      ∙ ap (λ (k : ℕ). suc (begun (trailOf k (l .low) (l .high)) (drop 1 s))) e
+      ∙ ap (λ (q : Row). suc (begun q (drop 1 s))) r ∙ ap suc (d .more gs)
 
   -- the next byte is in its range
   pub next-in : (g : Bytes) → byteFits g s (suc n) ≡ true → Begun s l (p ++ (g ∷ [])) (suc n)
@@ -159,19 +199,31 @@ module _ {s : List ℕ} {l : Lead} {p : Row} {n : ℕ} (d : Begun s l p n) where
     lead = d .lead;
     within = byte-there g [] s (suc n) f;
     left = λ gs. ap (λ (q : Row). fits q (drop 1 s)) (append-assoc p (g ∷ []) gs) ∙ d .left (g ∷ gs) ∙ fits-in g gs s (suc n) f;
+    more =
+        λ gs.
+        ap (λ (q : Row). begun q (drop 1 s)) (append-assoc p (g ∷ []) gs)
+        ∙ d .more (g ∷ gs) ∙ (let e = begun-in g gs s (suc n) f in let z : n + begun (g ∷ gs) (drop (suc n) s) ≡ suc n + begun gs (drop (suc (suc n)) s) = omega arith in z);
   }
 
-  -- it isn't: no sequence begins
+  -- it isn't: no sequence begins, and the bytes before it are the maximal subpart
   pub next-out :
       (g : Bytes) (gs : Row) (k : ℕ) → l .len ≡ suc k → trailOf (suc k) (l .low) (l .high) ≡ p ++ (g ∷ gs)
-      → byteFits g s (suc n) ≡ false → 0 ≡ packed (stepOf s)
-  next-out g gs k e r f = sym (judged k (g ∷ gs) false e r (fits-out g gs s (suc n) f))
+      → byteFits g s (suc n) ≡ false → suc n * 8 ≡ packed (stepOf s)
+  next-out g gs k e r f =
+      let c = subpart-asked (suc k) (g ∷ gs) e r in
+      let z = begun-out g gs s (suc n) f in
+      let i : suc n ≡ subpartOf s = omega arith in
+      ap (λ (m : ℕ). m * 8) i ∙ sym (judged k (g ∷ gs) false e r (fits-out g gs s (suc n) f))
 
   -- the row ends here
   pub whole : l .len ≡ suc n → trailOf (suc n) (l .low) (l .high) ≡ p ++ [] → codePoint (bytesAt (suc n) 0 s) * 8 + suc n ≡ packed (stepOf s)
   whole e r =
       ap (λ (q : List ℕ). codePoint q * 8 + suc n) (sym (bytes-at s 0 (suc n) (let h = d .within in omega arith)))
       ∙ sym (judged n [] true e r refl)
+
+-- no row has the first byte
+pub no-lead : {s : List ℕ} {l : Lead} → Begun s l [] 0 → l .len ≡ 0 → 8 ≡ packed (stepOf s)
+no-lead d e = ap (λ (m : ℕ). m * 8) (sym (subpart-asked d 0 [] e refl)) ∙ sym (ap packed (asked d 0 e))
 
 -- a byte below 80 is a sequence by itself
 pub ascii : (s : List ℕ) → 0 < length s → getD s 0 0 < 0x80 → Scalar (codePoint (getD s 0 0 ∷ [])) 1 ≡ stepOf s

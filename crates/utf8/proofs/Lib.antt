@@ -1,5 +1,6 @@
 pub mod ScalarLaws
 pub mod TableLaws
+pub mod SubpartLaws
 pub mod LeadLaws
 pub mod SequenceLaws
 pub mod EncodedLaws

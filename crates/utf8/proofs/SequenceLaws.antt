@@ -1,20 +1,22 @@
 -- The step at the head of a text and the sequences of Table 3-7: each finds the other, and nothing else.
 -- Assumes nothing.
 use Prim.Native.Nat.{ℕ, suc, _+_, _≤_, _<_}
-use mathlib.Core.Path.{_≡_, refl, sym, ap, _∙_}
+use mathlib.Core.Path.{_≡_, refl, sym, ap, subst, _∙_}
 use mathlib.Core.Bool.{Bool, true, false, false≢true, cond}
-use mathlib.Core.List.{List, [], _∷_, _++_}
+use mathlib.Core.List.{List, [], _∷_, _++_, append-nil}
 use mathlib.Core.Logic.{inl, inr}
 use native.Mathlib.Omega.{arith}
-use lib.ListN.{length, take, drop, take-append-drop}
+use lib.ListN.{length, take, drop, length-append, length-take, take-append-drop}
 use Rattle.lists.proofs.BoolLaws.{and-left, and-right, impossible}
 use Rattle.utf8.specs.declared.Step.{Step}
 use Rattle.utf8.specs.declared.Step.the-variants.{Scalar, IllFormed, End}
 use Rattle.utf8.specs.Scalar.{isScalar, below-surrogates, above-surrogates}
 use Rattle.utf8.specs.Table.{Bytes, _to_, Row, table, inside, fits, Fills, FillsOne, Sequence, codePoint}
+use Rattle.utf8.specs.Subpart.{subpartOf, Subpart, MaximalSubpart}
 use Rattle.utf8.specs.Head.{stepIn, stepOf, IllHead, NoSequence, StepMeans, sequence, no-sequence, empty}
 use Rattle.utf8.proofs.ScalarLaws.{means-scalar}
 use Rattle.utf8.proofs.TableLaws.{inside-in, inside-out, inside-above}
+use Rattle.utf8.proofs.SubpartLaws.{subpart-means, subpart-unique}
 use Rattle.utf8.proofs.LeadLaws.{rising, rising-parts, at-end}
 
 -- every sequence has one to four bytes and stands for a scalar value
@@ -100,15 +102,15 @@ fits-fills (g ∷ gs) (b ∷ s) e =
 -- what a step says of the bytes at the head; it never says that nothing is left
 abbrev Found : List Row → List ℕ → Step → Type 0
 Found rs s (Scalar x n) = FillsOne rs (take n s) × (x ≡ codePoint (take n s)) × (n ≡ length (take n s))
-Found rs s IllFormed = Unit {0}
+Found rs s (IllFormed n) = n ≡ subpartOf s
 Found rs s End = ⊥
 
 later-row : (r : Row) (rs : List Row) (s : List ℕ) (t : Step) → Found rs s t → Found (r ∷ rs) s t
 later-row r rs s (Scalar x n) f = (inr (f .0), f .1, f .2)
-later-row r rs s IllFormed f = tt
+later-row r rs s (IllFormed n) f = f
 
 found : (rs : List Row) (s : List ℕ) → Found rs s (stepIn rs s)
-found [] s = tt
+found [] s = refl
 found (r ∷ rs) s = go (found rs s) (fits r s) refl
   where
     go :
@@ -158,6 +160,15 @@ sequence-of-step (b ∷ s) x n e =
     let f : Found table (b ∷ s) (Scalar x n) = rw e at (found table (b ∷ s)) in
     record { sequence = f .0; code = f .1; long = f .2 }
 
+-- ill-formed with whatever length is ill-formed with the maximal subpart's
+pub ill-head : (s : List ℕ) (n : ℕ) → stepOf s ≡ IllFormed n → n ≡ subpartOf s
+unfolding stepOf
+ill-head [] n e = impossible (cc)
+ill-head (b ∷ s) n e = rw e at (found table (b ∷ s))
+
+pub ill-at : (s : List ℕ) (n : ℕ) → stepOf s ≡ IllFormed n → IllHead s
+ill-at s n e = e ∙ ap IllFormed (ill-head s n e)
+
 -- where the head is ill-formed no sequence begins
 pub no-sequence-at : (s : List ℕ) → IllHead s → NoSequence s
 no-sequence-at s e q r p f =
@@ -182,15 +193,41 @@ pub step-means : (s : List ℕ) (t : Step) → stepOf s ≡ t → StepMeans s t
 step-means s (Scalar x n) e =
     let f = sequence-of-step s x n e in
     sequence (take n s) (drop n s) (sym (take-append-drop n s)) (f .sequence) (f .code) (f .long)
-step-means s IllFormed e = no-sequence (ill-not-empty s e) (no-sequence-at s e)
+step-means s (IllFormed n) e =
+    let i = ill-at s n e in
+    let l = ill-not-empty s i in
+    no-sequence l (no-sequence-at s i) (subst (MaximalSubpart s) (sym (ill-head s n e)) (subpart-means s l))
 step-means s End e = empty (end-empty s e)
 
 pub means-step : (s : List ℕ) (t : Step) → StepMeans s t → stepOf s ≡ t
 means-step s t (sequence q r p f c l) = ap stepOf p ∙ step-of-sequence q r f ∙ (λ i. Scalar (sym c i) (sym l i))
-means-step s t (no-sequence h n) = go (stepOf s) (step-means s (stepOf s) refl)
+means-step s t (no-sequence {n = m} h n x) = go (stepOf s) (step-means s (stepOf s) refl)
   where
-    go : (u : Step) → StepMeans s u → u ≡ IllFormed
+    go : (u : Step) → StepMeans s u → u ≡ IllFormed m
     go u (sequence q r p f c l) = absurd (n q r p f)
-    go u (no-sequence k m) = refl
+    go u (no-sequence k o y) = ap IllFormed (subpart-unique y x)
     go u (empty e) = let l = ap length e in absurd (omega arith)
 means-step s t (empty e) = ap stepOf e ∙ step-empty
+
+-- a maximal subpart where no sequence begins has one to three bytes, all within the text
+pub record SubpartBounds (s : List ℕ) (n : ℕ) : Type 0 where
+  pub some-bytes : 1 ≤ n
+  pub short : n ≤ 3
+  pub within : n ≤ length s
+
+pub subpart-bounds : {s : List ℕ} {n : ℕ} → 0 < length s → NoSequence s → MaximalSubpart s n → SubpartBounds s n
+subpart-bounds {s} {n} h none m =
+    record { some-bytes = at-least; short = go (m .subpart); within = let w = ap length (m .whole) in omega (arith, length-append (m .bytes) (m .others), m .long) }
+  where
+    at-least : 1 ≤ n
+    at-least =
+        let l = m .longest (take 1 s) (drop 1 s) (sym (take-append-drop 1 s)) (inr (simp length-take (omega arith))) in
+        omega (arith, simp length-take at l)
+
+    go : Subpart (m .bytes) → n ≤ 3
+    go (inr e) = omega (arith, m .long)
+    go (inl i) = by-others (i .others) (i .sequence)
+      where
+        by-others : (o : List ℕ) → Sequence (m .bytes ++ o) → n ≤ 3
+        by-others [] f = absurd (none (m .bytes) (m .others) (m .whole) (rw append-nil at f))
+        by-others (b ∷ o) f = omega (arith, sequence-length (m .bytes ++ (b ∷ o)) f .1, length-append (m .bytes) (b ∷ o), m .long)

@@ -2,7 +2,7 @@
 -- Assumes nothing.
 use Prim.Native.Nat.{ℕ, zero, suc, _+_, _≤_, _<_}
 use mathlib.Core.Path.{_≡_, refl, sym, ap, _∙_}
-use mathlib.Core.Bool.{Bool, true, false, not, _&&_}
+use mathlib.Core.Bool.{Bool, true, false, not, _&&_, cond}
 use mathlib.Core.List.{List, [], _∷_}
 use native.Mathlib.Omega.{arith}
 use native.Mathlib.Decide.{decLt}
@@ -12,6 +12,7 @@ use lib.Seq.{drop-cons}
 use borrow.Author.Tests.{leb-true, le-leb, lt-leb, lt-ltb, le-ltb, ltb-true, ltb-false}
 use Rattle.lists.proofs.BoolLaws.{and-left, and-right}
 use Rattle.utf8.specs.Table.{Bytes, Row, inside, fits}
+use Rattle.utf8.specs.Subpart.{begun}
 use Rattle.utf8.specs.Lead.{byteFits}
 
 pub inside-in : (g : Bytes) (b : ℕ) → g .low ≤ b → b ≤ g .high → inside g b ≡ true
@@ -57,6 +58,21 @@ module _ (g : Bytes) (gs : Row) (s : List ℕ) (i : ℕ) where
       go : (t : Bool) → ltb i (length s) ≡ t → fits (g ∷ gs) (drop i s) ≡ false
       go true f = let h = ltb-true i (length s) f in fits-step h ∙ rw (sym (byte-here h) ∙ e)
       go false f = ap (fits (g ∷ gs)) (drop-of-length-le s (let z : length s ≤ i = omega (arith, ltb-false i (length s) f) in z))
+
+  -- the same for how many bytes of the row stand there
+  begun-step : i < length s → begun (g ∷ gs) (drop i s) ≡ cond (inside g (getD s i 0)) (suc (begun gs (drop (suc i) s))) 0
+  begun-step h = ap (begun (g ∷ gs)) (drop-cons s i 0 h)
+
+  pub begun-in : byteFits g s i ≡ true → begun (g ∷ gs) (drop i s) ≡ suc (begun gs (drop (suc i) s))
+  begun-in e = let h = byte-there e in begun-step h ∙ rw (sym (byte-here h) ∙ e)
+
+  pub begun-out : byteFits g s i ≡ false → begun (g ∷ gs) (drop i s) ≡ 0
+  unfolding byteFits
+  begun-out e = go (ltb i (length s)) refl
+    where
+      go : (t : Bool) → ltb i (length s) ≡ t → begun (g ∷ gs) (drop i s) ≡ 0
+      go true f = let h = ltb-true i (length s) f in begun-step h ∙ rw (sym (byte-here h) ∙ e)
+      go false f = ap (begun (g ∷ gs)) (drop-of-length-le s (let z : length s ≤ i = omega (arith, ltb-false i (length s) f) in z))
 
 -- n bytes of a text from byte i on, one by one
 abbrev pub bytesAt : ℕ → ℕ → List ℕ → List ℕ

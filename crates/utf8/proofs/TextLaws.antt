@@ -14,6 +14,7 @@ use Rattle.utf8.specs.declared.Text.{Text}
 use Rattle.utf8.specs.declared.Text.the-variants as text
 use Rattle.utf8.specs.Scalar.{isScalar}
 use Rattle.utf8.specs.Table.{codePoint}
+use Rattle.utf8.specs.Subpart.{subpartOf, MaximalSubpart}
 use Rattle.utf8.specs.Head.{stepOf, IllHead, NoSequence, StepMeans, sequence, no-sequence, empty}
 use Rattle.utf8.specs.Lead.{packed}
 use Rattle.utf8.specs.Text.{
@@ -37,17 +38,22 @@ use Rattle.utf8.specs.Text.{
 }
 use Rattle.utf8.proofs.ScalarLaws.{scalar-le}
 use Rattle.utf8.proofs.LeadLaws.{ascii}
-use Rattle.utf8.proofs.EncodedLaws.{Covers, AllScalar, encoded-scalar, encoded-few, encoded-covers, encoded-before}
+use Rattle.utf8.proofs.SubpartLaws.{subpart-means, means-subpart}
+use Rattle.utf8.proofs.EncodedLaws.{Covers, AllScalar, encoded-scalar, encoded-few, encoded-covers, encoded-before, encoded-stops}
 use Rattle.utf8.proofs.SequenceLaws.{
   sequence-of-step,
   step-of-sequence,
   sequence-length,
   sequence-scalar,
+  ill-head,
+  ill-at,
   no-sequence-at,
   step-means,
   end-empty,
   ill-not-empty,
   none-empty,
+  SubpartBounds,
+  subpart-bounds,
 }
 
 -- a sequence has one to four bytes, all within the text, and stands for a scalar value
@@ -65,9 +71,17 @@ step-bounds s x n e =
     let c = simp length-take at m in
     record { some-bytes = omega arith; short = omega arith; within = omega arith; scalar = ap isScalar (f .code) ∙ sequence-scalar (take n s) (f .sequence) }
 
--- what a packed sequence tells: the length is its last octal digit, the code point the others
+-- a maximal subpart has one to three bytes, all within the text
+pub ill-bounds : (s : List ℕ) (n : ℕ) → stepOf s ≡ IllFormed n → SubpartBounds s n
+ill-bounds s n e = go (step-means s (IllFormed n) e)
+  where
+    go : StepMeans s (IllFormed n) → SubpartBounds s n
+    go (no-sequence h f m) = subpart-bounds h f m
+
+-- what a packed step tells: the length of a sequence is its last octal digit, the code point the others; where that digit is 0, the
+-- others are the length of the maximal subpart
 pub record Unpacked (s : List ℕ) (d : ℕ) : Type 0 where
-  pub none : d % 8 ≡ 0 → IllHead s
+  pub none : d % 8 ≡ 0 → stepOf s ≡ IllFormed (d / 8)
   pub some : 0 < d % 8 → stepOf s ≡ Scalar (d / 8) (d % 8)
   pub small : d / 8 ≤ 0x10FFFF
 
@@ -81,7 +95,10 @@ unpacked-by s (Scalar x n) e h =
       some = λ z. e ∙ (λ i. Scalar (sym c i) (sym l i));
       small = omega (arith, scalar-le x (t .scalar));
     }
-unpacked-by s IllFormed e h = record { none = λ z. e; some = λ z. absurd (omega arith); small = omega arith }
+unpacked-by s (IllFormed n) e h =
+    let b = ill-bounds s n e in
+    let c : n * 8 / 8 ≡ n = omega arith in
+    record { none = λ z. e ∙ ap IllFormed (sym c); some = λ z. absurd (omega arith); small = omega (arith, b .short) }
 unpacked-by s End e h = let l = ap length (end-empty s e) in absurd (omega arith)
 
 pub unpacked : (s : List ℕ) (d : ℕ) → d ≡ packed (stepOf s) → 0 < length s → Unpacked s d
@@ -112,7 +129,7 @@ decode-in (suc k) s h = go (stepOf s) refl (decode-in k)
         let b = step-bounds s x n e in
         let l = length-drop n s in
         encoded-step s x n e (f (drop n s) (omega arith))
-    go IllFormed e f = ends (no-sequence-at s e)
+    go (IllFormed n) e f = ends (no-sequence-at s (ill-at s n e))
     go End e f = ends (none-end s e)
 
 pub decode-means : (s : List ℕ) → Encoded s (decode s .characters) (decode s .rest)
@@ -127,7 +144,7 @@ in-decode {s} (suc k) h (ends n) = go (stepOf s) (step-means s (stepOf s) refl)
   where
     go : (t : Step) → StepMeans s t → decodeBy (decodeIn k) s t ≡ ended s
     go t (sequence q r p f c l) = absurd (n q r p f)
-    go t (no-sequence l m) = refl
+    go t (no-sequence l m x) = refl
     go t (empty e) = refl
 in-decode {s} zero h (takes q r e f d) =
     let l = ap length e ∙ length-append q r in
@@ -175,17 +192,17 @@ text-means s t e = subst (TextMeans s) e (go (decode s .rest) (decode-means s))
   where
     go : (r : List ℕ) → Encoded s (decode s .characters) r → TextMeans s (textBy (widthOf (decode s .characters)) r)
     go [] d = well-formed d
-    go (b ∷ r) d = ill-formed d (omega arith) refl
+    go (b ∷ r) d = ill-formed d (omega arith) refl (subpart-means (b ∷ r) (omega arith))
 
 -- and back: where it is so, that is the answer
 pub means-text : (s : List ℕ) (t : Text) → TextMeans s t → textOf s ≡ t
 unfolding textOf
 means-text s t (well-formed d) = rw (means-decode d)
-means-text s t (ill-formed {p} {cs} {rest} d l e) = rw (means-decode d) (go rest l ∙ ap text.IllFormed (sym e))
+means-text s t (ill-formed {p} {n} {cs} {rest} d l e m) = rw (means-decode d) (go rest l m)
   where
-    go : (r : List ℕ) → 0 < length r → textBy (widthOf cs) r ≡ text.IllFormed (widthOf cs)
-    go [] l = absurd (omega arith)
-    go (b ∷ r) l = refl
+    go : (r : List ℕ) → 0 < length r → MaximalSubpart r n → textBy (widthOf cs) r ≡ text.IllFormed p n
+    go [] l m = absurd (omega arith)
+    go (b ∷ r) l m = (λ i. text.IllFormed (sym e i) (means-subpart (b ∷ r) n l m i))
 
 -- the same of what decoding leaves
 pub well-rest : (s : List ℕ) → textOf s ≡ text.WellFormed → decode s .rest ≡ []
@@ -197,24 +214,43 @@ well-rest s e = go (text-means s text.WellFormed e)
 pub rest-well : (s : List ℕ) → decode s .rest ≡ [] → textOf s ≡ text.WellFormed
 rest-well s e = means-text s text.WellFormed (well-formed (subst (λ (r : List ℕ). Encoded s (decode s .characters) r) e (decode-means s)))
 
-pub ill-rest : (s : List ℕ) (p : ℕ) → textOf s ≡ text.IllFormed p → (p ≡ widthOf (decode s .characters)) × (0 < length (decode s .rest))
-ill-rest s p e = go (text-means s (text.IllFormed p) e)
-  where
-    go : TextMeans s (text.IllFormed p) → (p ≡ widthOf (decode s .characters)) × (0 < length (decode s .rest))
-    go (ill-formed d l q) = rw (means-decode d) (q, l)
+pub record IllRest (s : List ℕ) (p n : ℕ) : Type 0 where
+  pub place : p ≡ widthOf (decode s .characters)
+  pub some-left : 0 < length (decode s .rest)
+  pub subpart : SubpartBounds (decode s .rest) n
 
--- an ill-formed place is within the text
-pub ill-within : (s : List ℕ) (p : ℕ) → textOf s ≡ text.IllFormed p → p < length s
-ill-within s p e =
-    let r = ill-rest s p e in
+pub ill-rest : (s : List ℕ) (p n : ℕ) → textOf s ≡ text.IllFormed p n → IllRest s p n
+ill-rest s p n e = go (text-means s (text.IllFormed p n) e)
+  where
+    go : TextMeans s (text.IllFormed p n) → IllRest s p n
+    go (ill-formed d l q m) =
+        let f = ap (λ (c : Decoded). c .rest) (means-decode d) in
+        record {
+          place = rw (means-decode d) q;
+          some-left = rw f l;
+          subpart = rw f (subpart-bounds l (encoded-stops d) m);
+        }
+
+-- an ill-formed place is within the text, and so is the maximal subpart, which has one to three bytes
+pub record IllWithin (s : List ℕ) (p n : ℕ) : Type 0 where
+  pub some-bytes : 1 ≤ n
+  pub short : n ≤ 3
+  pub within : p + n ≤ length s
+
+pub ill-within : (s : List ℕ) (p n : ℕ) → textOf s ≡ text.IllFormed p n → IllWithin s p n
+ill-within s p n e =
+    let r = ill-rest s p n e in
     let c = decode-covers s in
     let l = length-drop (widthOf (decode s .characters)) s in
-    let n = ap length (c .after) in
-    omega (arith, c .within)
+    let m = ap length (c .after) in
+    let b = r .subpart in
+    record { some-bytes = b .some-bytes; short = b .short; within = omega (arith, c .within, b .within, r .place) }
 
 -- by the step at the head
-pub text-ill : (s : List ℕ) → IllHead s → textOf s ≡ text.IllFormed 0
-text-ill s e = means-text s (text.IllFormed 0) (ill-formed (ends (no-sequence-at s e)) (ill-not-empty s e) refl)
+pub text-ill : (s : List ℕ) → IllHead s → textOf s ≡ text.IllFormed 0 (subpartOf s)
+text-ill s e =
+    let l = ill-not-empty s e in
+    means-text s (text.IllFormed 0 (subpartOf s)) (ill-formed (ends (no-sequence-at s e)) l refl (subpart-means s l))
 
 pub text-end : (s : List ℕ) → s ≡ [] → textOf s ≡ text.WellFormed
 text-end s e = rest-well s (ap (λ (c : Decoded). c .rest) (means-decode (ends (none-empty s e))) ∙ e)
@@ -222,7 +258,7 @@ text-end s e = rest-well s (ap (λ (c : Decoded). c .rest) (means-decode (ends (
 -- the first ill-formed place, from a later place on
 abbrev pub shift : ℕ → Text → Text
 shift k text.WellFormed = text.WellFormed
-shift k (text.IllFormed p) = text.IllFormed (k + p)
+shift k (text.IllFormed p n) = text.IllFormed (k + p) n
 
 shift-by : (k p : ℕ) (r : List ℕ) → textBy (k + p) r ≡ shift k (textBy p r)
 shift-by k p [] = refl
@@ -230,11 +266,11 @@ shift-by k p (b ∷ r) = refl
 
 pub shift-zero : (t : Text) → shift 0 t ≡ t
 shift-zero text.WellFormed = refl
-shift-zero (text.IllFormed p) = ap text.IllFormed (let z : 0 + p ≡ p = omega arith in z)
+shift-zero (text.IllFormed p n) = ap (λ (q : ℕ). text.IllFormed q n) (let z : 0 + p ≡ p = omega arith in z)
 
 pub shift-shift : (j k : ℕ) (t : Text) → shift j (shift k t) ≡ shift (j + k) t
 shift-shift j k text.WellFormed = refl
-shift-shift j k (text.IllFormed p) = ap text.IllFormed (sym (add-assoc j k p))
+shift-shift j k (text.IllFormed p n) = ap (λ (q : ℕ). text.IllFormed q n) (sym (add-assoc j k p))
 
 pub text-scalar : (s : List ℕ) (x n : ℕ) → stepOf s ≡ Scalar x n → textOf s ≡ shift n (textOf (drop n s))
 unfolding textOf
@@ -265,8 +301,10 @@ ascii-turn s at h b =
     let z : getD s (at + 0) 0 ≡ getD s at 0 = ap (λ (k : ℕ). getD s k 0) (let q : at + 0 ≡ at = omega arith in q) in
     turn s at (codePoint (getD (drop at s) 0 0 ∷ [])) 1 (omega arith) (sym (ascii (drop at s) (omega arith) (omega arith)))
 
-pub ill-here : (s : List ℕ) (at : ℕ) → IllHead (drop at s) → shift at (textOf (drop at s)) ≡ text.IllFormed at
-ill-here s at e = ap (shift at) (text-ill (drop at s) e) ∙ ap text.IllFormed (let z : at + 0 ≡ at = omega arith in z)
+pub ill-here : (s : List ℕ) (at n : ℕ) → stepOf (drop at s) ≡ IllFormed n → shift at (textOf (drop at s)) ≡ text.IllFormed at n
+ill-here s at n e =
+    let z : at + 0 ≡ at = omega arith in
+    ap (shift at) (text-ill (drop at s) (ill-at (drop at s) n e)) ∙ (λ i. text.IllFormed (z i) (sym (ill-head (drop at s) n e) i))
 
 pub end-here : (s : List ℕ) (at : ℕ) → length s ≤ at → shift at (textOf (drop at s)) ≡ text.WellFormed
 end-here s at h = ap (shift at) (text-end (drop at s) (drop-of-length-le s h))

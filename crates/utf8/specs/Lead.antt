@@ -8,6 +8,7 @@ use Rattle.utf8.specs.declared.Lead.{Lead}
 use Rattle.utf8.specs.declared.Step.{Step}
 use Rattle.utf8.specs.declared.Step.the-variants.{Scalar, IllFormed, End}
 use Rattle.utf8.specs.Table.{Bytes, _to_, later, Row, table, inside, fits, codePoint}
+use Rattle.utf8.specs.Subpart.{subpartOf}
 
 -- the length of a row, and the bounds of its second byte, 0 where it has none
 abbrev pub leadOfRow : Row → Lead
@@ -36,8 +37,8 @@ trailOf (suc (suc n)) low high = low to high ∷ replicate n later
 
 -- the sequence at the head of a text whose first byte has this lead
 abbrev pub stepAs : ℕ → Row → List ℕ → Step
-stepAs zero gs s = IllFormed
-stepAs (suc n) gs s = cond (fits gs (drop 1 s)) (Scalar (codePoint (take (suc n) s)) (suc n)) IllFormed
+stepAs zero gs s = IllFormed (subpartOf s)
+stepAs (suc n) gs s = cond (fits gs (drop 1 s)) (Scalar (codePoint (take (suc n) s)) (suc n)) (IllFormed (subpartOf s))
 
 unfoldable pub stepBy : Lead → List ℕ → Step
 stepBy l s = stepAs (l .len) (trailOf (l .len) (l .low) (l .high)) s
@@ -46,8 +47,8 @@ stepBy l s = stepAs (l .len) (trailOf (l .len) (l .low) (l .high)) s
 unfoldable pub byteFits : Bytes → List ℕ → ℕ → Bool
 byteFits g s i = ltb i (length s) && inside g (getD s i 0)
 
--- a sequence as one number: 8 times its code point, and its length; 0 where there is none
+-- a step as one number: 8 times a sequence's code point, and its length; 8 times the length of a maximal subpart; 0 where nothing is left
 abbrev pub packed : Step → ℕ
 packed (Scalar x n) = x * 8 + n
-packed IllFormed = 0
+packed (IllFormed n) = n * 8
 packed End = 0

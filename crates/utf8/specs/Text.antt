@@ -8,6 +8,7 @@ use Rattle.utf8.specs.declared.Step.the-variants.{Scalar, IllFormed, End
 use Rattle.utf8.specs.declared.Text.{Text}
 use Rattle.utf8.specs.declared.Text.the-variants as text
 use Rattle.utf8.specs.Table.{Sequence, codePoint}
+use Rattle.utf8.specs.Subpart.{subpartOf, MaximalSubpart}
 use Rattle.utf8.specs.Head.{stepOf, NoSequence}
 
 -- a code point and the number of its bytes
@@ -29,7 +30,7 @@ before c d = record { characters = c ∷ d .characters; rest = d .rest }
 -- the characters of s, where the step t stands at its head; f decodes the bytes that follow
 abbrev pub decodeBy : (List ℕ → Decoded) → List ℕ → Step → Decoded
 decodeBy f s (Scalar x n) = before (record { code = x; width = n }) (f (drop n s))
-decodeBy f s IllFormed = ended s
+decodeBy f s (IllFormed n) = ended s
 decodeBy f s End = ended s
 
 -- at most k characters
@@ -46,10 +47,10 @@ abbrev pub widthOf : List Character → ℕ
 widthOf [] = 0
 widthOf (c ∷ cs) = c .width + widthOf cs
 
--- whether a text is well-formed, or the first place at which no well-formed sequence begins
+-- whether a text is well-formed, or the first place at which no well-formed sequence begins, and the length of the maximal subpart there
 abbrev pub textBy : ℕ → List ℕ → Text
 textBy p [] = text.WellFormed
-textBy p (b ∷ r) = text.IllFormed p
+textBy p (b ∷ r) = text.IllFormed p (subpartOf (b ∷ r))
 
 unfoldable pub textOf : List ℕ → Text
 textOf s = textBy (widthOf (decode s .characters)) (decode s .rest)
@@ -62,7 +63,10 @@ pub data Encoded : List ℕ → List Character → List ℕ → Type 0 where
   ends : {s : List ℕ} → NoSequence s → Encoded s [] s
   takes : {s : List ℕ} {cs : List Character} {rest : List ℕ} (q r : List ℕ) → s ≡ q ++ r → Sequence q → Encoded r cs rest → Encoded s (characterOf q ∷ cs) rest
 
--- what `textOf` means: the sequences go to the text's end, or p is the place where they end, and bytes are left there
+-- what `textOf` means: the sequences go to the text's end; or p is the place where they end, bytes are left there, and n of them are the
+-- maximal subpart
 pub data TextMeans (s : List ℕ) : Text → Type 0 where
   well-formed : {cs : List Character} → Encoded s cs [] → TextMeans s text.WellFormed
-  ill-formed : {p : ℕ} {cs : List Character} {rest : List ℕ} → Encoded s cs rest → 0 < length rest → p ≡ widthOf cs → TextMeans s (text.IllFormed p)
+  ill-formed :
+      {p n : ℕ} {cs : List Character} {rest : List ℕ} → Encoded s cs rest → 0 < length rest → p ≡ widthOf cs → MaximalSubpart rest n
+      → TextMeans s (text.IllFormed p n)

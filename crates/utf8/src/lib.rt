@@ -139,8 +139,12 @@ fn misses(s: &[u8], i: usize, low: u8, high: u8) -> bool
     high < b
 }
 
-// Bytes that begin no sequence as one number: this, times the length of their maximal subpart.
-const ILL: usize = 8;
+// Bytes that begin no sequence as one number: 8 times the length of their maximal subpart, one, two or three.
+const ILL1: usize = 8;
+
+const ILL2: usize = 16;
+
+const ILL3: usize = 24;
 
 // What stands at the head of `s`, as one number; 0 for nothing.
 fn pack(s: &[u8]) -> usize
@@ -153,27 +157,27 @@ fn pack(s: &[u8]) -> usize
     let lead = read_lead(a);
     let len = lead.len;
     if len == 0 {
-        return ILL;
+        return ILL1; // no row has the first byte
     }
     if len == 1 {
         return pack1(a);
     }
     if misses(s, 1, lead.low, lead.high) {
-        return ILL;
+        return ILL1;
     }
     let b = s[1];
     if len == 2 {
         return pack2(a, b);
     }
     if misses(s, 2, 0x80, 0xBF) {
-        return 2 * ILL;
+        return ILL2;
     }
     let c = s[2];
     if len == 3 {
         return pack3(a, b, c);
     }
     if misses(s, 3, 0x80, 0xBF) {
-        return 3 * ILL;
+        return ILL3;
     }
     pack4(a, b, c, s[3])
 }

@@ -92,8 +92,13 @@ read-requires c κs =
     let p = c .before .before .before .before .before .pre in
     (p .0, (p .1, (c .before .loop .inv .1, c .loop-test .taken)))
 
+refuse-at-requires : tie.Need-refuse-at-requires Inv-loop μ-loop
+refuse-at-requires c κs = c .before .before .before .loop .inv .0 .reached .place .within
+
 returns : tie.Need-returns Inv-loop μ-loop
-returns c = counts-ill (c .before .before .before .loop .inv .0) (c .before .read .ensures .none (c .if1 .taken))
+returns c =
+    ap Refused (c .refuse-at .ensures)
+    ∙ counts-ill (c .before .before .before .before .loop .inv .0) (c .before .before .read .ensures .none (c .before .if1 .taken))
 
 add-next : tie.Need-add-next Inv-loop μ-loop
 add-next c =
@@ -136,14 +141,14 @@ loop-less-2 c =
 loop-again-2 : tie.Need-loop-again-2 Inv-loop μ-loop
 loop-again-2 c = (waited c, c .before .before .before .before .before .before .before .read .ensures .memo)
 
-refuse-at-requires : tie.Need-refuse-at-requires Inv-loop μ-loop
-refuse-at-requires c κs = c .before .before .before .before .before .before .before .before .before .before .loop .inv .0 .reached .medial .within
+refuse-at-requires-2 : tie.Need-refuse-at-requires-2 Inv-loop μ-loop
+refuse-at-requires-2 c κs = c .before .before .before .before .before .before .before .before .before .before .loop .inv .0 .reached .medial .within
 
 returns-2 : tie.Need-returns-2 Inv-loop μ-loop
 returns-2 c =
     let k = c .before .before .before .before .before in
     let i = k .before .before .before .before .before .before .loop .inv .0 in
-    ap Refused (c .refuse-at .ensures) ∙ counts-left i (waits-here i (looked (k)) (c .before .before .if4 .taken) .1) (c .before .if5 .taken)
+    ap Refused (c .refuse-at2 .ensures) ∙ counts-left i (waits-here i (looked (k)) (c .before .before .if4 .taken) .1) (c .before .if5 .taken)
 
 add-count-2 : tie.Need-add-count-2 Inv-loop μ-loop
 add-count-2 c =
@@ -163,22 +168,22 @@ loop-less-3 c =
 loop-again-3 : tie.Need-loop-again-3 Inv-loop μ-loop
 loop-again-3 c = (settled c, c .before .before .before .before .before .before .before .before .read .ensures .memo)
 
-refuse-at-requires-2 : tie.Need-refuse-at-requires-2 Inv-loop μ-loop
-refuse-at-requires-2 c κs = c .before .before .before .before .before .before .before .before .before .loop .inv .0 .reached .place .within
+refuse-at-requires-3 : tie.Need-refuse-at-requires-3 Inv-loop μ-loop
+refuse-at-requires-3 c κs = c .before .before .before .before .before .before .before .before .before .loop .inv .0 .reached .place .within
 
 returns-3 : tie.Need-returns-3 Inv-loop μ-loop
 returns-3 c =
     let k = c .before .before .before .before .before .before .before .before .before .before in
-    ap Refused (c .refuse-at2 .ensures)
+    ap Refused (c .refuse-at3 .ensures)
     ∙ counts-stop (k .loop .inv .0) (looked (c .before .before .before .before)) (omega (arith, c .before .before .before .if2 .left, c .before .before .if3 .left, c .before .if4 .left))
 
-refuse-at-requires-3 : tie.Need-refuse-at-requires-3 Inv-loop μ-loop
-refuse-at-requires-3 c κs = c .before .before .loop .inv .0 .reached .medial .within
+refuse-at-requires-4 : tie.Need-refuse-at-requires-4 Inv-loop μ-loop
+refuse-at-requires-4 c κs = c .before .before .loop .inv .0 .reached .medial .within
 
 returns-4 : tie.Need-returns-4 Inv-loop μ-loop
 returns-4 c =
     let i = c .before .before .before .loop .inv .0 in
-    ap Refused (c .refuse-at3 .ensures) ∙ counts-left i (settles-end i (c .before .before .loop-test .left)) (c .before .if6 .taken)
+    ap Refused (c .refuse-at4 .ensures) ∙ counts-left i (settles-end i (c .before .before .loop-test .left)) (c .before .if6 .taken)
 
 add-all : tie.Need-add-all Inv-loop μ-loop
 add-all c =
@@ -200,6 +205,7 @@ count-tokens-spec =
     (λ c κs. search needs)
     loop-holds
     read-requires
+    refuse-at-requires
     returns
     add-next
     find-turn-requires
@@ -210,15 +216,15 @@ count-tokens-spec =
     waiting-after-requires
     loop-less-2
     loop-again-2
-    refuse-at-requires
+    refuse-at-requires-2
     returns-2
     add-count-2
     sub-state
     loop-less-3
     loop-again-3
-    refuse-at-requires-2
-    returns-3
     refuse-at-requires-3
+    returns-3
+    refuse-at-requires-4
     returns-4
     (λ c κs. search needs)
     add-all

@@ -17,11 +17,11 @@ formed :
     → textOf (drop (c .before .before .before .args .at) (c .before .before .before .args .text .now)) ≡ f
 formed c f e = ap textOf (sym (rest (c .before .before .before .args .text .now) (c .before .before .before .args .at))) ∙ sym (c .check-text .ensures) ∙ e
 
-add-t10 : tie.Need-add-t10
-add-t10 c =
+add-t11 : tie.Need-add-t11
+add-t11 c =
     let s = c .before .before .before .before .before .before .args .text .now in
     let at = c .before .before .before .before .before .before .args .at in
-    let w = ill-within (drop at s) _ (formed (c .before .before .before) _ (c .before .form .given .1)) in
+    let w = ill-within (drop at s) _ _ (formed (c .before .before .before) _ (c .before .form .given .1)) in
     omega (arith, length-drop at s)
 
 returns : tie.Need-returns
@@ -40,6 +40,6 @@ refuse-at-spec =
     (λ c κs. search needs)
     (λ c. search needs)
     (λ c. search needs)
-    add-t10
+    add-t11
     returns
     returns-2)

@@ -5,8 +5,9 @@ use lib.ListN.{drop, length-drop}
 use Rattle.lists.proofs.LaidLaws.{rest}
 use Rattle.scan.specs.declared.First.{First}
 use Rattle.scan.specs.First.{firstOf}
+use Rattle.token.specs.declared.Taken.the-variants.{Refused}
 use Rattle.token.specs.Taken.{takenOf}
-use Rattle.token.proofs.TakenLaws.{takenBy, taken-long, taken-past, taken-first, first-within}
+use Rattle.token.proofs.TakenLaws.{takenBy, stops-ill, taken-long, taken-past, taken-first, first-within}
 use borrow.Author.Needs.{needs}
 use Rattle.token.proofs.take_checked.Statement.{statement}
 use Rattle.token.proofs.take_checked.Tie as tie
@@ -19,7 +20,7 @@ found c f e = ap (firstOf (c .before .before .before .before .before .before .be
 
 stands :
     (c : tie.After-first-token) (f : First) → c .first-token .result ≡ f
-    → takenBy (c .before .before .before .before .before .before .before .before .args .place) f ≡ takenOf (c .before .before .before .before .before .before .before .before .args .image .now) (c .before .before .before .before .before .before .before .before .args .text .now) (c .before .before .before .before .before .before .before .before .args .place)
+    → takenBy (c .before .before .before .before .before .before .before .before .args .text .now) (c .before .before .before .before .before .before .before .before .args .place) f ≡ takenOf (c .before .before .before .before .before .before .before .before .args .image .now) (c .before .before .before .before .before .before .before .before .args .text .now) (c .before .before .before .before .before .before .before .before .args .place)
 stands c f e = taken-first _ _ _ (c .before .before .before .before .before .before .before .before .pre) (c .before .before .before .before .before .if1 .left) (c .before .before .before .before .if2 .left) f (found c f e)
 
 returns : tie.Need-returns
@@ -61,8 +62,14 @@ add-t20 c = let w = first-within _ _ _ _ (found (c .before .before .before) _ (c
 returns-3 : tie.Need-returns-3
 returns-3 c = stands (c .before .before) _ (c .enum-told .given .1)
 
+refuse-at-requires : tie.Need-refuse-at-requires
+refuse-at-requires c κs = search needs
+
 returns-4 : tie.Need-returns-4
-returns-4 c = stands (c .before .before) _ (c .enum-told2 .given .1)
+returns-4 c =
+    let d = c .before .before .before in
+    let e = c .before .enum-told2 .given .1 in
+    ap Refused (c .refuse-at .ensures) ∙ stops-ill _ _ _ (found d _ e) ∙ stands d _ e
 
 returns-5 : tie.Need-returns-5
 returns-5 c = stands (c .before .before) _ (c .enum-told3 .given .1)
@@ -83,6 +90,7 @@ take-checked-spec =
     first-token-requires
     enum-told
     enum-told-2
+    refuse-at-requires
     enum-told-3
     enum-known-first
     add-t20

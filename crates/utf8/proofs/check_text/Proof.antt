@@ -52,7 +52,7 @@ decode-packed-requires : tie.Need-decode-packed-requires Inv-loop μ-loop
 decode-packed-requires c κs = search needs
 
 returns : tie.Need-returns Inv-loop μ-loop
-returns c = sym (ill-here _ _ (stands (c .before) .none (c .if2 .taken))) ∙ c .before .before .before .before .before .loop .inv .1
+returns c = sym (ill-here _ _ _ (stands (c .before) .none (c .if2 .taken))) ∙ c .before .before .before .before .before .loop .inv .1
 
 add-at-2 : tie.Need-add-at-2 Inv-loop μ-loop
 add-at-2 c = let t = moves c in omega arith

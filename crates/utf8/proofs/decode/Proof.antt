@@ -19,11 +19,11 @@ pack-requires c κs = search needs
 returns-2 : tie.Need-returns-2
 returns-2 c = sym (told (c .before) .none (c .if2 .taken))
 
-cast-t6 : tie.Need-cast-t6
-cast-t6 c = let t = told (c .before) in omega (arith, t .small)
+cast-t7 : tie.Need-cast-t7
+cast-t7 c = let t = told (c .before) in omega (arith, t .small)
 
 returns-3 : tie.Need-returns-3
 returns-3 c = sym (told (c .before) .some (omega arith))
 
 pub decode-spec : {M : Type 1} → statement M
-decode-spec = tie.close (tie.spec returns pack-requires returns-2 cast-t6 returns-3)
+decode-spec = tie.close (tie.spec returns pack-requires returns-2 cast-t7 returns-3)
