@@ -93,7 +93,7 @@ fn ill_formed() {
         assert_eq!(tokens(&m(), text), Err(refused), "{text:02X?}");
         assert_eq!(at(&m(), text, place as usize), Err(refused), "{text:02X?}");
         let output = format!("refused 6 {place} {len}\n");
-        assert_eq!(lister(&[&m(), text].concat()), output, "{text:02X?}");
+        assert_eq!(lister(&[&m()[..], text].concat()), output, "{text:02X?}");
     }
     // A place inside a sequence, and one before more that is ill-formed.
     let inside = Refusal::IllFormed { place: 1, len: 1 };
