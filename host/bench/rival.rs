@@ -4,6 +4,7 @@
 use luffinarc::{
     Class, Kind, Range, Role, MAX_ENTRIES, MAX_IMAGE, MAX_RANGES, MAX_TEXT, TOKEN_WORDS,
 };
+use std::str::Utf8Error;
 
 const START: u8 = 1;
 const CONTINUE: u8 = 2;
@@ -15,7 +16,11 @@ const MEDIAL: u8 = 16;
 #[derive(Clone, Copy, Debug, PartialEq, Eq)]
 pub enum Refused {
     TextLength,
-    IllFormed(usize),
+    /// The place, and the length of the maximal subpart there.
+    IllFormed {
+        place: usize,
+        len: usize,
+    },
     Characters(usize),
 }
 
@@ -55,6 +60,13 @@ fn flat(ranges: &[Range], profile: &[(u32, Role)]) -> Vec<u8> {
         };
     }
     all
+}
+
+/// What the standard library says of an ill-formed text; without a length, all that is left is the subpart.
+#[cold]
+fn ill_formed(text: &[u8], error: Utf8Error) -> Refused {
+    let place = error.valid_up_to();
+    Refused::IllFormed { place, len: error.error_len().unwrap_or(text.len() - place) }
 }
 
 /// A word of 32 bits, little-endian.
@@ -182,7 +194,7 @@ impl Tables {
         if text.len() > MAX_TEXT {
             return Err(Refused::TextLength);
         }
-        std::str::from_utf8(text).map_err(|error| Refused::IllFormed(error.valid_up_to()))?;
+        std::str::from_utf8(text).map_err(|error| ill_formed(text, error))?;
         let mut at = 0;
         while at < text.len() {
             let (found, length) = self.look(text, at);

@@ -158,6 +158,27 @@ static void tokens(const uint8_t *m, size_t m_len)
     CHECK(luffinarc_part(text, 7, 5, 2, answer) == LUFFINARC_SHAPE && gave(0, 0, 0));
 }
 
+/* Ill-formed texts: the place, and the length of the maximal subpart there. */
+static void ill_formed(const uint8_t *m, size_t m_len)
+{
+    static const uint8_t text[] = {'a', 0xF0, 0x9F, 0x98, 'a'}, surrogate[] = {0xED, 0xA0, 0x80}, sign[] = {0xC3, 0xA9};
+    uint32_t words[6];
+    memset(words, 0xFF, sizeof words);
+    CHECK(luffinarc_count(m, m_len, text, 5, answer) == LUFFINARC_ILL_FORMED && gave(1, 3, 0));
+    CHECK(luffinarc_count(m, m_len, text, 4, answer) == LUFFINARC_ILL_FORMED && gave(1, 3, 0));
+    CHECK(luffinarc_count(m, m_len, text, 3, answer) == LUFFINARC_ILL_FORMED && gave(1, 2, 0));
+    CHECK(luffinarc_count_checked(m, m_len, text, 2, answer) == LUFFINARC_ILL_FORMED && gave(1, 1, 0));
+    CHECK(luffinarc_count(m, m_len, surrogate, 3, answer) == LUFFINARC_ILL_FORMED && gave(0, 1, 0));
+    CHECK(luffinarc_list(m, m_len, text, 5, words, 6, answer) == LUFFINARC_ILL_FORMED && gave(1, 3, 0));
+    CHECK(luffinarc_list_checked(m, m_len, text, 3, words, 6, answer) == LUFFINARC_ILL_FORMED && gave(1, 2, 0));
+    CHECK(words[0] == UINT32_MAX);
+    CHECK(luffinarc_token(m, m_len, text, 5, 0, answer) == 0 && gave(LUFFINARC_KIND_IDENTIFIER, 0, 1));
+    CHECK(luffinarc_token(m, m_len, text, 5, 1, answer) == LUFFINARC_ILL_FORMED && gave(1, 3, 0));
+    CHECK(luffinarc_token_checked(m, m_len, text, 5, 2, answer) == LUFFINARC_ILL_FORMED && gave(2, 1, 0));
+    CHECK(luffinarc_token(m, m_len, sign, 2, 1, answer) == LUFFINARC_ILL_FORMED && gave(1, 1, 0));
+    CHECK(luffinarc_count(m, m_len, sign, 2, answer) == LUFFINARC_CHARACTERS && gave(0, 0, 0));
+}
+
 int main(int argc, char **argv)
 {
     uint8_t m[200], m2[200];
@@ -171,6 +192,7 @@ int main(int argc, char **argv)
     images(m, m_len, m2, m2_len);
     changes(m, m_len, m2, m2_len);
     tokens(m, m_len);
+    ill_formed(m, m_len);
     printf("%d passed, %d failed\n", passed, failed);
     return failed != 0;
 }

@@ -39,9 +39,11 @@ static void print_refusal(uint32_t refusal, const uint64_t *answer)
     switch (refusal) {
     case LUFFINARC_RANGE:
     case LUFFINARC_ENTRY:
-    case LUFFINARC_ILL_FORMED:
     case LUFFINARC_CHARACTERS:
         printf("refused %" PRIu32 " %" PRIu64 "\n", refusal, answer[0]);
+        break;
+    case LUFFINARC_ILL_FORMED: /* the place, and the length of the maximal subpart there */
+        printf("refused %" PRIu32 " %" PRIu64 " %" PRIu64 "\n", refusal, answer[0], answer[1]);
         break;
     default:
         printf("refused %" PRIu32 "\n", refusal);

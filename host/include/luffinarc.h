@@ -9,8 +9,8 @@
  * LUFFINARC_DONE. The first refusal in number order that applies is given, save where a function says otherwise.
  *
  * Answer. Each function writes all four numbers of `answer`. After the result 0 they are the values that the function
- * documents, and zeros past them. After a refusal answer[0] is what the refusal carries, or 0, and the rest is 0
- * (luffinarc_pair and luffinarc_changes alone tell at answer[2] which image they refuse).
+ * documents, and zeros past them. After a refusal answer[0] and answer[1] are what it carries, with 0 for what it does
+ * not, and the rest is 0 (luffinarc_pair and luffinarc_changes alone tell at answer[2] which image they refuse).
  *
  * Arguments. A slice is a pointer and its number of elements. A pointer may be null where its number is 0, and only
  * there. `points` and `roles` are arrays of LUFFINARC_MAX_ENTRIES numbers, never null, and so is `answer`, of 4. Words
@@ -54,14 +54,20 @@ extern "C" {
 /* luffinarc_token: the place is the text's end. */
 #define LUFFINARC_DONE 255
 
-/* The refusals. 3, 4, 6 to 10 and 12 carry a number, at answer[0]. */
+/* The refusals. 3, 4, 6 to 10 and 12 carry a number, at answer[0]; 6 alone carries a second, at answer[1].
+ *
+ * It is the length of the maximal subpart at the place (the Unicode Standard, section 3.9, D93b): the most bytes from
+ * there on that some well-formed sequence begins with, or else 1. So it is 1, 2 or 3, and place + length is at most the
+ * text's length.
+ */
 enum luffinarc_refusal {
     LUFFINARC_LENGTH = 1,      /* the image is too short or too long, or not of the header's total length */
     LUFFINARC_HEADER = 2,      /* a word of the image's header is wrong, or a count is above its limit */
     LUFFINARC_RANGE = 3,       /* a range is bad; the index of the first bad one */
     LUFFINARC_ENTRY = 4,       /* a profile entry is bad; the index of the first bad one */
     LUFFINARC_TEXT_LENGTH = 5, /* the text is too long */
-    LUFFINARC_ILL_FORMED = 6,  /* no well-formed UTF-8 sequence begins at this byte place, the first such */
+    LUFFINARC_ILL_FORMED = 6,  /* no well-formed UTF-8 sequence begins at this byte place, the first such; the length
+                                * of the maximal subpart there */
     LUFFINARC_CHARACTERS = 7,  /* no token begins at this byte place, after the longest run of tokens */
     LUFFINARC_ROOM = 8,        /* more room is needed; the number of records */
     LUFFINARC_NOT_SCALAR = 9,  /* the number is no scalar value */
@@ -166,7 +172,7 @@ uint32_t luffinarc_changes(const uint8_t *older, size_t older_len,
 /* Counts the tokens of a text.
  *
  * 0: answer[0] is their number.
- * Refusals: 1 to 4, 5, 6, 7.
+ * Refusals: 1 to 4, 5, 6 with place and length, 7.
  */
 uint32_t luffinarc_count(const uint8_t *image, size_t image_len,
                          const uint8_t *text, size_t text_len, uint64_t *answer);
@@ -174,8 +180,8 @@ uint32_t luffinarc_count(const uint8_t *image, size_t image_len,
 /* Writes the list of a text's tokens to `words`, three words each: kind, first byte, one past the last byte.
  *
  * 0: answer[0] is their number; the words past the list stay as they were.
- * Refusals: 1 to 4, 5, 6, 7, then 8 where words_len / 3, rounded down, is below the number of tokens. words is left as
- * it was.
+ * Refusals: 1 to 4, 5, 6 with place and length, 7, then 8 where words_len / 3, rounded down, is below the number of
+ * tokens. words is left as it was.
  */
 uint32_t luffinarc_list(const uint8_t *image, size_t image_len,
                         const uint8_t *text, size_t text_len,
@@ -185,7 +191,8 @@ uint32_t luffinarc_list(const uint8_t *image, size_t image_len,
  *
  * 0: answer is the token's kind, its first byte, which is the place, and one past its last byte.
  * LUFFINARC_DONE: the place is the text's end; answer is zeros.
- * Refusals: 1 to 4, 5, 13 where the place is past the text's end, 6 and 7, which carry the place.
+ * Refusals: 1 to 4, 5, 13 where the place is past the text's end, 6 and 7 at the place. 6 carries the place and the
+ * length of the maximal subpart there, 7 the place.
  */
 uint32_t luffinarc_token(const uint8_t *image, size_t image_len,
                          const uint8_t *text, size_t text_len,

@@ -38,7 +38,9 @@ fn rival(tables: &Tables, text: &[u8]) -> Result<Vec<u32>, Refusal> {
     match listed {
         Ok(count) => assert_eq!(TOKEN_WORDS * count, words.len()),
         Err(Refused::TextLength) => return Err(Refusal::TextLength),
-        Err(Refused::IllFormed(place)) => return Err(Refusal::IllFormed(place as u64)),
+        Err(Refused::IllFormed { place, len }) => {
+            return Err(Refusal::IllFormed { place: place as u64, len: len as u64 })
+        }
         Err(Refused::Characters(place)) => return Err(Refusal::Characters(place as u64)),
     }
     Ok(words)

@@ -31,7 +31,7 @@
 //!     assert_eq!(parts, [(Kind::Identifier, "ab.c1"), (Kind::Whitespace, " "), (Kind::Syntax, ".")]);
 //!
 //!     assert_eq!(image.count("a 1"), Err(Refusal::Characters { place: 2 }));
-//!     assert_eq!(image.count(b"a\xFF"), Err(Refusal::IllFormed { place: 1 }));
+//!     assert_eq!(image.count(b"a\xE2\x82"), Err(Refusal::IllFormed { place: 1, len: 2 }));
 //!     Ok(())
 //! }
 //! ```

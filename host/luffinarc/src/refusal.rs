@@ -27,6 +27,9 @@ pub enum Refusal {
     IllFormed {
         /// The byte place.
         place: usize,
+        /// The length of the maximal subpart there (the Unicode Standard, D93b): the most bytes from the place on that
+        /// some well-formed sequence begins with, or else 1. It is 1, 2 or 3, and these bytes are of the text.
+        len: usize,
     },
     /// 7: no token begins at a byte place, after the longest run of tokens.
     Characters {
@@ -61,7 +64,7 @@ pub enum Refusal {
 }
 
 impl Refusal {
-    /// The number, and what the refusal carries.
+    /// The number, and the first number that the refusal carries.
     fn row(&self) -> (u32, Option<u64>) {
         match *self {
             Refusal::Length => (1, None),
@@ -69,7 +72,7 @@ impl Refusal {
             Refusal::Range { index } => (3, Some(index as u64)),
             Refusal::Entry { index } => (4, Some(index as u64)),
             Refusal::TextLength => (5, None),
-            Refusal::IllFormed { place } => (6, Some(place as u64)),
+            Refusal::IllFormed { place, .. } => (6, Some(place as u64)),
             Refusal::Characters { place } => (7, Some(place as u64)),
             Refusal::Room { needed } => (8, Some(needed as u64)),
             Refusal::NotScalar { number } => (9, Some(number.into())),
@@ -80,16 +83,16 @@ impl Refusal {
         }
     }
 
-    /// Every refusal; those that carry something carry this number.
-    fn all(carried: u64) -> [Refusal; 13] {
-        let (size, number) = (carried as usize, carried as u32);
+    /// Every refusal; those that carry something carry the first number, or both.
+    fn all([first, second]: [u64; 2]) -> [Refusal; 13] {
+        let (size, number) = (first as usize, first as u32);
         [
             Refusal::Length,
             Refusal::Header,
             Refusal::Range { index: size },
             Refusal::Entry { index: size },
             Refusal::TextLength,
-            Refusal::IllFormed { place: size },
+            Refusal::IllFormed { place: size, len: second as usize },
             Refusal::Characters { place: size },
             Refusal::Room { needed: size },
             Refusal::NotScalar { number },
@@ -101,7 +104,7 @@ impl Refusal {
     }
 
     /// The refusal with this number, which the library gave, and this to carry, if it carries anything.
-    fn named(number: u32, carried: u64) -> Refusal {
+    fn named(number: u32, carried: [u64; 2]) -> Refusal {
         let refusal = Refusal::all(carried).into_iter().find(|r| r.number() == number);
         refusal.expect("the library gives refusals 1 to 13")
     }
@@ -111,9 +114,13 @@ impl Refusal {
         self.row().0
     }
 
-    /// What the refusal carries, if anything.
-    pub fn carried(&self) -> Option<u64> {
-        self.row().1
+    /// The numbers that the refusal carries: place and length of [`Refusal::IllFormed`], one number or none of others.
+    pub fn carried(&self) -> impl Iterator<Item = u64> {
+        let second = match *self {
+            Refusal::IllFormed { len, .. } => Some(len as u64),
+            _ => None,
+        };
+        self.row().1.into_iter().chain(second)
     }
 }
 
@@ -125,7 +132,9 @@ impl fmt::Display for Refusal {
             Refusal::Range { index } => write!(f, "range {index} is bad"),
             Refusal::Entry { index } => write!(f, "profile entry {index} is bad"),
             Refusal::TextLength => write!(f, "the text is too long"),
-            Refusal::IllFormed { place } => write!(f, "ill-formed UTF-8 at byte {place}"),
+            Refusal::IllFormed { place, len } => {
+                write!(f, "ill-formed UTF-8 at byte {place}, length {len}")
+            }
             Refusal::Characters { place } => write!(f, "no token begins at byte {place}"),
             Refusal::Room { needed } => write!(f, "room for {needed} records is needed"),
             Refusal::NotScalar { number } => write!(f, "{number:X} hex is no scalar value"),
@@ -146,7 +155,7 @@ pub(crate) fn result(number: u32, answer: Answer) -> Result<Answer, Refusal> {
     if number == 0 {
         Ok(answer)
     } else {
-        Err(Refusal::named(number, answer[0]))
+        Err(Refusal::named(number, [answer[0], answer[1]]))
     }
 }
 

@@ -109,7 +109,14 @@ impl Image<'_> {
     /// # Errors
     ///
     /// [`Refusal::TextLength`]; [`Refusal::Shape`] for a place past the end; [`Refusal::IllFormed`] or
-    /// [`Refusal::Characters`] at the place.
+    /// [`Refusal::Characters`] at the place. A place inside a sequence is ill-formed, with length 1:
+    ///
+    /// ```
+    /// # use luffinarc::{write_image, Image, Profile, Refusal};
+    /// # let bytes = write_image(1, &[], &Profile::default()).unwrap();
+    /// # let image = Image::check(&bytes).unwrap();
+    /// assert_eq!(image.token_at("é", 1), Err(Refusal::IllFormed { place: 1, len: 1 }));
+    /// ```
     pub fn token_at<T: AsRef<[u8]> + ?Sized>(
         &self,
         text: &T,

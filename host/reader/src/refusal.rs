@@ -12,8 +12,9 @@ pub enum Refusal {
     Entry(u64),
     /// 5: the text is too long.
     TextLength,
-    /// 6: no well-formed UTF-8 sequence begins at this byte place, the first such.
-    IllFormed(u64),
+    /// 6: no well-formed UTF-8 sequence begins at this byte place, the first such; the length of the maximal subpart
+    /// there.
+    IllFormed { place: u64, len: u64 },
     /// 7: no token begins at this byte place, after the longest run of tokens.
     Characters(u64),
     /// 8: more room is needed; the number of records.
@@ -33,45 +34,45 @@ pub enum Refusal {
 
 impl Refusal {
     /// The number, and what the refusal carries.
-    fn row(&self) -> (u32, Option<u64>) {
+    fn row(&self) -> (u32, Vec<u64>) {
         match *self {
-            Refusal::Length => (1, None),
-            Refusal::Header => (2, None),
-            Refusal::Range(index) => (3, Some(index)),
-            Refusal::Entry(index) => (4, Some(index)),
-            Refusal::TextLength => (5, None),
-            Refusal::IllFormed(place) => (6, Some(place)),
-            Refusal::Characters(place) => (7, Some(place)),
-            Refusal::Room(needed) => (8, Some(needed)),
-            Refusal::NotScalar(number) => (9, Some(number)),
-            Refusal::Change(point) => (10, Some(point)),
-            Refusal::Profiles => (11, None),
-            Refusal::Buffer(needed) => (12, Some(needed)),
-            Refusal::Shape => (13, None),
+            Refusal::Length => (1, vec![]),
+            Refusal::Header => (2, vec![]),
+            Refusal::Range(index) => (3, vec![index]),
+            Refusal::Entry(index) => (4, vec![index]),
+            Refusal::TextLength => (5, vec![]),
+            Refusal::IllFormed { place, len } => (6, vec![place, len]),
+            Refusal::Characters(place) => (7, vec![place]),
+            Refusal::Room(needed) => (8, vec![needed]),
+            Refusal::NotScalar(number) => (9, vec![number]),
+            Refusal::Change(point) => (10, vec![point]),
+            Refusal::Profiles => (11, vec![]),
+            Refusal::Buffer(needed) => (12, vec![needed]),
+            Refusal::Shape => (13, vec![]),
         }
     }
 
-    /// Every refusal; those that carry something carry this number.
-    fn all(carried: u64) -> [Refusal; 13] {
+    /// Every refusal; those that carry something carry the first number, or both.
+    fn all([first, second]: [u64; 2]) -> [Refusal; 13] {
         [
             Refusal::Length,
             Refusal::Header,
-            Refusal::Range(carried),
-            Refusal::Entry(carried),
+            Refusal::Range(first),
+            Refusal::Entry(first),
             Refusal::TextLength,
-            Refusal::IllFormed(carried),
-            Refusal::Characters(carried),
-            Refusal::Room(carried),
-            Refusal::NotScalar(carried),
-            Refusal::Change(carried),
+            Refusal::IllFormed { place: first, len: second },
+            Refusal::Characters(first),
+            Refusal::Room(first),
+            Refusal::NotScalar(first),
+            Refusal::Change(first),
             Refusal::Profiles,
-            Refusal::Buffer(carried),
+            Refusal::Buffer(first),
             Refusal::Shape,
         ]
     }
 
-    /// The refusal with this number, if one has it, and this to carry, if it carries anything.
-    pub fn named(number: u32, carried: u64) -> Option<Refusal> {
+    /// The refusal with this number, if one has it, and the first of these to carry, or both, if it carries anything.
+    pub fn named(number: u32, carried: [u64; 2]) -> Option<Refusal> {
         Refusal::all(carried).into_iter().find(|refusal| refusal.number() == number)
     }
 
@@ -80,8 +81,8 @@ impl Refusal {
         self.row().0
     }
 
-    /// What the refusal carries, if anything.
-    pub fn carried(&self) -> Option<u64> {
+    /// The numbers that the refusal carries.
+    pub fn carried(&self) -> Vec<u64> {
         self.row().1
     }
 }
@@ -89,10 +90,8 @@ impl Refusal {
 /// `refused`, the number and what it carries.
 impl std::fmt::Display for Refusal {
     fn fmt(&self, f: &mut std::fmt::Formatter) -> std::fmt::Result {
-        match self.row() {
-            (number, None) => write!(f, "refused {number}"),
-            (number, Some(carried)) => write!(f, "refused {number} {carried}"),
-        }
+        write!(f, "refused {}", self.number())?;
+        self.carried().iter().try_for_each(|carried| write!(f, " {carried}"))
     }
 }
 

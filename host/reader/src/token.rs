@@ -3,7 +3,7 @@
 use crate::image::{parse, Image};
 use crate::names::{class, kind, role};
 use crate::refusal::Refusal;
-use crate::utf8::decode;
+use crate::utf8::{decode, maximal_subpart};
 
 /// The most bytes of a text.
 pub const MAX_TEXT: usize = 1_048_576;
@@ -73,6 +73,12 @@ fn longest(units: &[Unit]) -> Option<(u32, usize)> {
     }
 }
 
+/// Refusal 6 at a place where no sequence begins.
+fn ill_formed(text: &[u8], place: usize) -> Refusal {
+    let len = maximal_subpart(&text[place..]);
+    Refusal::IllFormed { place: place as u64, len: len as u64 }
+}
+
 /// The text's tokens, or the first of refusals 5 to 7.
 fn tokens(image: &Image, text: &[u8]) -> Result<Vec<Token>, Refusal> {
     if text.len() > MAX_TEXT {
@@ -80,7 +86,7 @@ fn tokens(image: &Image, text: &[u8]) -> Result<Vec<Token>, Refusal> {
     }
     let (units, end) = units_of(image, text);
     if end < text.len() {
-        return Err(Refusal::IllFormed(end as u64));
+        return Err(ill_formed(text, end));
     }
     let mut tokens = Vec::new();
     let mut rest = &units[..];
@@ -121,7 +127,7 @@ pub fn at(image: &[u8], text: &[u8], place: usize) -> Result<Option<Token>, Refu
     }
     let (units, q) = units_of(&image, &text[place..]);
     if q == 0 && place < text.len() {
-        return Err(Refusal::IllFormed(place as u64));
+        return Err(ill_formed(text, place));
     }
     if place == text.len() {
         return Ok(None);

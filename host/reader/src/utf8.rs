@@ -26,10 +26,26 @@ pub fn is_scalar(number: u32) -> bool {
     number <= 0x10FFFF && !(0xD800..=0xDFFF).contains(&number)
 }
 
+/// True if each byte is within the bounds at its place in this row, as far as both go.
+fn within(row: &[(u8, u8)], bytes: &[u8]) -> bool {
+    row.iter().zip(bytes).all(|(&(low, high), &b)| low <= b && b <= high)
+}
+
 /// True if the bytes begin with a sequence of this row.
 fn fills(row: &[(u8, u8)], bytes: &[u8]) -> bool {
-    bytes.len() >= row.len()
-        && row.iter().zip(bytes).all(|(&(low, high), &b)| low <= b && b <= high)
+    bytes.len() >= row.len() && within(row, bytes)
+}
+
+/// True if some sequence of this row begins with the bytes.
+fn continues(row: &[(u8, u8)], bytes: &[u8]) -> bool {
+    bytes.len() <= row.len() && within(row, bytes)
+}
+
+/// The length of the maximal subpart that begins the bytes, which begin with no sequence (D93b): of the longest bytes
+/// that some sequence begins with, or of one byte.
+pub fn maximal_subpart(bytes: &[u8]) -> usize {
+    let initial = |length: &usize| ROWS.iter().any(|row| continues(row, &bytes[..*length]));
+    (1..=bytes.len()).filter(initial).max().unwrap_or(1)
 }
 
 /// The code point whose sequence begins the bytes, and its length.

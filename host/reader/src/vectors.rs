@@ -1,11 +1,15 @@
 //! The outside vectors, run against any reader.
 
+use crate::utf8::first;
 use crate::{Calls, Profile, Refusal};
 use std::collections::BTreeMap;
 use std::io::Write;
 
 const FOLDER: &str = concat!(env!("CARGO_MANIFEST_DIR"), "/../data/vectors/");
-const FILES: [&str; 2] = ["calls.txt", "changes.txt"];
+const FILES: [&str; 3] = ["calls.txt", "changes.txt", "form.txt"];
+
+/// The images under which the form of a text is asked for.
+const FORM_IMAGES: [&str; 2] = ["../images/m.img", "../images/unicode-16.0.img"];
 
 fn bytes(hex: &str) -> Vec<u8> {
     if hex == "-" {
@@ -130,6 +134,42 @@ fn run_changes(calls: &impl Calls, args: &[&str]) -> String {
     }
 }
 
+/// What an answer tells of the form of a text: refusal 6, or that it is not given.
+fn form<T>(result: Result<T, Refusal>) -> String {
+    match result {
+        Err(refusal @ Refusal::IllFormed { .. }) => refusal.to_string(),
+        _ => "ok".to_string(),
+    }
+}
+
+/// The form of a text by one-token calls at each of its code points.
+fn form_by_places(calls: &impl Calls, image: &[u8], text: &[u8]) -> String {
+    let mut place = 0;
+    while place < text.len() {
+        let form = form(calls.at(image, text, place));
+        if form != "ok" {
+            return form;
+        }
+        place += first(&text[place..]).map_or(1, |(_, length)| length);
+    }
+    "ok".to_string()
+}
+
+/// The form of a text, as every call on tokens tells it; all that they tell if they disagree.
+fn run_form(calls: &impl Calls, text: &str) -> String {
+    let text = bytes(text);
+    let mut forms = Vec::new();
+    for name in FORM_IMAGES {
+        let image = std::fs::read(format!("{FOLDER}{name}")).unwrap();
+        forms.push(form(calls.count(&image, &text)));
+        forms.push(form(calls.list(&image, &text, &mut [7; 24])));
+        forms.push(form(calls.list(&image, &text, &mut [])));
+        forms.push(form_by_places(calls, &image, &text));
+    }
+    forms.dedup();
+    forms.join(" or ")
+}
+
 /// The answer as the vectors write it; nothing if the reader has no such call.
 fn run(calls: &impl Calls, call: &str, args: &[&str]) -> Option<String> {
     Some(match call {
@@ -148,6 +188,7 @@ fn run(calls: &impl Calls, call: &str, args: &[&str]) -> Option<String> {
         "count" => answer_of(calls.count(&bytes(args[0]), &bytes(args[1])), |n| format!("ok {n}")),
         "list" => run_list(calls, args[0], args[1], args[2]),
         "at" => run_at(calls, args[0], args[1], args[2]),
+        "form" => run_form(calls, args[0]),
         "part" => {
             let text = bytes(args[0]);
             let result = calls.part(&text, args[1].parse().unwrap(), args[2].parse().unwrap());

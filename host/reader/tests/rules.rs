@@ -57,13 +57,9 @@ fn readings() {
     for (text, list) in accepted {
         assert_eq!(tokens(&m(), text), Ok(list.to_vec()));
     }
-    let refused: [(&[u8], Refusal); 7] = [
+    let refused: [(&[u8], Refusal); 3] = [
         (b"1a", Refusal::Characters(0)),
         (b"a 1", Refusal::Characters(2)),
-        (b"\xC0\x80", Refusal::IllFormed(0)),
-        (b"\x61\xE2\x82", Refusal::IllFormed(1)),
-        (b"\x61\xED\xA0\x80", Refusal::IllFormed(1)),
-        (b"\xF4\x90\x80\x80", Refusal::IllFormed(0)),
         (b"\x61\xC3\xA9", Refusal::Characters(1)),
     ];
     for (text, refusal) in refused {
@@ -71,6 +67,38 @@ fn readings() {
     }
     assert_eq!(tokens(&m2(), b"\x61\xC3\xA9"), Ok(vec![1, 0, 3]));
     assert_eq!(list(&m(), b"ab.c1 .", &mut [0; 8]), Err(Refusal::Room(3)));
+}
+
+/// Refusal 6: bytes, the place and the length of the maximal subpart there.
+const ILL_FORMED: [(&[u8], u64, u64); 13] = [
+    (b"\x61\xF0\x9F\x98", 1, 3),
+    (b"\x61\xF0\x9F\x98\x41", 1, 3),
+    (b"\x61\xE2\x82", 1, 2),
+    (b"\xC0\x80", 0, 1),
+    (b"\xE0\x80\x80", 0, 1),
+    (b"\xED\xA0\x80", 0, 1),
+    (b"\x61\xED\xA0\x80", 1, 1),
+    (b"\xF4\x90\x80\x80", 0, 1),
+    (b"\xFF", 0, 1),
+    (b"\x80", 0, 1),
+    (b"\xF0\x8F", 0, 1),
+    (b"\xE1\x80\xE1", 0, 2),
+    (b"\x30\xC3\xA9\xF4\x90\x80\x80\x61", 3, 1),
+];
+
+#[test]
+fn ill_formed() {
+    for (text, place, len) in ILL_FORMED {
+        let refused = Refusal::IllFormed { place, len };
+        assert_eq!(tokens(&m(), text), Err(refused), "{text:02X?}");
+        assert_eq!(at(&m(), text, place as usize), Err(refused), "{text:02X?}");
+        let output = format!("refused 6 {place} {len}\n");
+        assert_eq!(lister(&[&m()[..], text].concat()), output, "{text:02X?}");
+    }
+    // A place inside a sequence, and one before more that is ill-formed.
+    let inside = Refusal::IllFormed { place: 1, len: 1 };
+    assert_eq!(at(&m2(), b"\xC3\xA9", 1), Err(inside));
+    assert_eq!(at(&m(), b"\x61\xE2\x82", 0), Ok(Some(Token { kind: 1, start: 0, end: 1 })));
 }
 
 /// The files of the small images hold them.

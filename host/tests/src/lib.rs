@@ -7,6 +7,7 @@ mod program;
 
 pub use library::Library;
 
+use luffinarc_reader::Refusal;
 use std::io::Write;
 
 /// How many made cases to run of each call: `LUFFINARC_CASES`, or so many.
@@ -15,6 +16,15 @@ pub fn runs(usual: usize) -> usize {
         Ok(number) => number.parse().expect("LUFFINARC_CASES is a number"),
         Err(_) => usual,
     }
+}
+
+/// A refusal of the safe types, as the reader names it.
+pub fn named(refusal: luffinarc::Refusal) -> Refusal {
+    let mut carried = [0; 2];
+    for (to, from) in carried.iter_mut().zip(refusal.carried()) {
+        *to = from;
+    }
+    Refusal::named(refusal.number(), carried).unwrap()
 }
 
 /// Writes a line past the test harness, so that it is always seen.

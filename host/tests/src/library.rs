@@ -13,21 +13,22 @@ const OLD_POINTS: Entries = [0x0BAD_0BAD; luffinarc::MAX_ENTRIES];
 const OLD_ROLES: Entries = [0x0BAD_CAFE; luffinarc::MAX_ENTRIES];
 
 /// The refusal with this number; what it does not carry is zero.
-fn refusal(number: u32, carried: u64) -> Refusal {
+fn refusal(number: u32, carried: [u64; 2]) -> Refusal {
     let refusal = Refusal::named(number, carried);
     let refusal = refusal.unwrap_or_else(|| panic!("the library answers {number}"));
-    assert_eq!(refusal.carried().unwrap_or(0), carried, "{refusal} carries something");
+    let rest = &carried[refusal.carried().len()..];
+    assert!(rest.iter().all(|&value| value == 0), "{refusal} carries {carried:?}");
     refusal
 }
 
 /// The first so many numbers of an answer, the rest of which is zero, or the refusal.
 fn values<const N: usize>(number: u32, answer: Answer) -> Result<[u64; N], Refusal> {
-    let used = if number == 0 { N } else { 1 };
+    let used = if number == 0 { N } else { 2 };
     assert!(answer[used..].iter().all(|&value| value == 0), "{number} {answer:?}");
     if number == 0 {
         Ok(answer[..N].try_into().unwrap())
     } else {
-        Err(refusal(number, answer[0]))
+        Err(refusal(number, [answer[0], answer[1]]))
     }
 }
 

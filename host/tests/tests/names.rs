@@ -5,6 +5,7 @@ use luffinarc_reader::{changes, class, image, kind, role, token};
 use std::fmt::Debug;
 
 const HEADER: &str = include_str!("../../include/luffinarc.h");
+const RATTLE: &str = include_str!("../../../crates/refusal/src/lib.rt");
 
 /// The number of a name in the C header, as `#define NAME NUMBER` or `NAME = NUMBER`.
 fn in_c(name: &str) -> u32 {
@@ -27,16 +28,22 @@ fn c_name(variant: impl Debug) -> String {
     name(variant).chars().flat_map(rises).skip(1).collect()
 }
 
+/// The function of Rattle has the line.
+fn in_rattle(function: &str, line: &str) {
+    let start = RATTLE.find(&format!("pub fn {function}(")).expect("it is there");
+    let body = RATTLE[start..].split("\n}").next().unwrap();
+    assert!(body.contains(line), "no {line} in {function} of Rattle");
+}
+
 #[test]
 fn refusals() {
-    let rattle = include_str!("../../../crates/refusal/src/lib.rt");
     let all = [
         Refusal::Length,
         Refusal::Header,
         Refusal::Range { index: 7 },
         Refusal::Entry { index: 7 },
         Refusal::TextLength,
-        Refusal::IllFormed { place: 7 },
+        Refusal::IllFormed { place: 7, len: 2 },
         Refusal::Characters { place: 7 },
         Refusal::Room { needed: 7 },
         Refusal::NotScalar { number: 7 },
@@ -47,15 +54,18 @@ fn refusals() {
     ];
     for (refusal, number) in all.into_iter().zip(1..) {
         assert_eq!(refusal.number(), number);
-        let of_reader = luffinarc_reader::Refusal::named(number, 7).unwrap();
+        let of_reader = luffinarc_reader::Refusal::named(number, [7, 2]).unwrap();
         assert_eq!((name(of_reader), of_reader.number()), (name(refusal), number));
-        assert_eq!(of_reader.carried(), refusal.carried());
+        assert!(refusal.carried().eq(of_reader.carried()));
         assert_eq!(in_c(&format!("LUFFINARC_{}", c_name(refusal))), number);
-        let held = if refusal.carried().is_some() { "(_)" } else { "" };
-        let line = format!("Refusal::{}{held} => {number},", name(refusal));
-        assert!(rattle.contains(&line), "no {line} in Rattle");
+        let count = refusal.carried().count();
+        let held = ["", "(_)", " { place: _, len: _ }"][count];
+        in_rattle("number", &format!("Refusal::{}{held} => {number},", name(refusal)));
+        in_rattle("carried_count", &format!("Refusal::{}{held} => {count},", name(refusal)));
     }
-    assert_eq!(luffinarc_reader::Refusal::named(14, 7), None);
+    assert_eq!(luffinarc_reader::Refusal::named(14, [7, 2]), None);
+    in_rattle("carried", "Refusal::IllFormed { place, len: _ } => place,");
+    in_rattle("carried_second", "Refusal::IllFormed { place: _, len } => len,");
 }
 
 /// The numbers of a variant in C, Rust and the reader.

@@ -2,16 +2,11 @@
 
 use luffinarc::{Image, MAX_TEXT, TOKEN_WORDS};
 use luffinarc_reader::cases::*;
-use luffinarc_reader::image::{parse, Image as Made, Range};
+use luffinarc_reader::image::{parse, Image as Made};
 use luffinarc_reader::{class, role, utf8, Calls, Profile, Reader, Refusal, Token};
-use luffinarc_tests::{data, runs, say, Library};
+use luffinarc_tests::{data, named, runs, say, Library};
 
 const RUNS: usize = 3000;
-
-/// A refusal of the safe types, as the reader names it.
-fn named(refusal: luffinarc::Refusal) -> Refusal {
-    Refusal::named(refusal.number(), refusal.carried().unwrap_or(0)).unwrap()
-}
 
 #[test]
 fn counts() {
@@ -157,32 +152,6 @@ fn every_short_text() {
         }
     }
     say(&format!("short texts: {texts}, accepted {accepted}"));
-}
-
-/// An image in which every scalar value has one class.
-fn whole(class: u32) -> Vec<u8> {
-    let range = |first, last| Range { first, last, class };
-    let ranges = vec![range(0, 0xD7FF), range(0xE000, 0x10FFFF)];
-    image_of(&Made { version: 1, ranges, profile: Profile::of(&[]) })
-}
-
-/// Every two bytes, with some after them, are well-formed just as far as the standard library says.
-#[test]
-fn first_ill_formed_place() {
-    let bytes = whole(class::SYNTAX);
-    let image = Image::check(&bytes).unwrap();
-    let tails: [&[u8]; 8] =
-        [&[], &[0x80], &[0x80, 0x80], &[0xBF, 0xBF], &[0x41], &[0x80, 0x41], &[0xC2], &[0xFF]];
-    for front in 0..=0xFFFFu16 {
-        for tail in tails {
-            let text = [&front.to_be_bytes()[..], tail].concat();
-            let expected = match std::str::from_utf8(&text) {
-                Ok(text) => Ok(text.chars().count()),
-                Err(error) => Err(luffinarc::Refusal::IllFormed { place: error.valid_up_to() }),
-            };
-            assert_eq!(image.count(&text), expected, "{text:02X?}");
-        }
-    }
 }
 
 /// Every scalar value as a text of its own, under the 16.0 image.
