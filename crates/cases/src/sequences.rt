@@ -14,7 +14,7 @@ fn show(s: &[u8]) {
             printing::print_number(len);
         }
         Step::IllFormed { len } => {
-            printing::print_text(b"ill-formed ");
+            printing::print_text(b"ill-formed length ");
             printing::print_number(len);
         }
         Step::End => printing::print_text(b"end"),

@@ -65,7 +65,7 @@ module _ (older newer text : List ℕ) where
     pub accepted : (n : ℕ) → a ≡ given n → b ≡ given n
     -- "where the older refuses a text for its characters, the newer gives the same refusal at the same place, unless" a character changed
     pub characters : (p : ℕ) → a ≡ refused (refusal.Characters p) → (b ≡ refused (refusal.Characters p)) ⊎ Excepted p
-    -- "every other refusal that the older gives a text, the newer gives too, and it carries the same"
+    -- "every other refusal that the older gives a text, the newer gives too, and it carries the same; of 6 that is the place and the length"
     pub others : (r : Refusal) → a ≡ refused r → ((p : ℕ) → r ≡ refusal.Characters p → ⊥) → b ≡ refused r
 
 -- the words of n records in a buffer's front

@@ -13,8 +13,8 @@ use Rattle.lists.proofs.BoolLaws.{and-left, and-right, impossible}
 use Rattle.utf8.specs.declared.Lead.{Lead}
 use Rattle.utf8.specs.declared.Step.the-variants.{Scalar, IllFormed, End}
 use Rattle.utf8.specs.Table.{Bytes, _to_, Row, table, inside, fits, codePoint}
-use Rattle.utf8.specs.Subpart.{begun, larger, subpartIn, subpartOf}
-use Rattle.utf8.specs.Head.{stepIn, stepOf, IllHead}
+use Rattle.utf8.specs.Subpart.{begun, subpartIn, subpartOf}
+use Rattle.utf8.specs.Head.{stepIn, stepOf}
 use Rattle.utf8.specs.Lead.{leadOfRow, leads, leadIn, leadOf, trailOf, stepAs, stepBy, byteFits, packed}
 use Rattle.utf8.proofs.TableLaws.{inside-out, inside-below, byte-there, fits-in, fits-out, begun-in, begun-out, bytesAt, bytes-at}
 use Rattle.utf8.proofs.SubpartLaws.{larger-left, larger-right}

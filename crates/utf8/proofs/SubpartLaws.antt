@@ -1,7 +1,7 @@
 -- Maximal subparts: the number over the rows of Table 3-7 is the length of the longest, and there is only one.
 -- Assumes nothing.
 use Prim.Native.Nat.{ℕ, suc, _≤_, _<_}
-use mathlib.Core.Path.{_≡_, refl, sym, ap, subst, _∙_}
+use mathlib.Core.Path.{_≡_, refl, sym}
 use mathlib.Core.Bool.{Bool, true, false, cond}
 use mathlib.Core.List.{List, [], _∷_, _++_}
 use mathlib.Core.Logic.{_⊎_, inl, inr}
@@ -9,8 +9,8 @@ use native.Mathlib.Omega.{arith}
 use native.Mathlib.Decide.{decLt}
 use lib.ListN.{length, take, drop, length-take, take-append-drop}
 use borrow.Author.Tests.{lt-ltb, le-ltb}
-use Rattle.utf8.specs.Table.{Bytes, Row, table, inside, Fills, FillsOne, Sequence}
-use Rattle.utf8.specs.Subpart.{begun, larger, subpartIn, subpartOf, Initial, Subpart, MaximalSubpart}
+use Rattle.utf8.specs.Table.{Row, table, inside, Fills, FillsOne, Sequence}
+use Rattle.utf8.specs.Subpart.{begun, larger, subpartIn, subpartOf, Subpart, MaximalSubpart}
 use Rattle.utf8.proofs.TableLaws.{inside-in, inside-out}
 
 -- the larger of two is one of them, and not less than the other
