@@ -20,8 +20,8 @@ number-requires c κs = search needs
 returns : tie.Need-returns
 returns c =
     let a = c .before .before .before .before .before .args in
-    let e = c .before .before .before .carried .ensures in
-    let f = c .before .before .carried-second .ensures in
+    let e = c .before .before .before .before .carried .ensures in
+    let f = c .before .before .before .carried-second .ensures in
     record {
       number = c .number .ensures;
       values = c .before .put .ensures ∙ (λ d. e d ∷ f d ∷ a .which ∷ 0 ∷ []);
