@@ -22,7 +22,6 @@ use Rattle.utf8.specs.declared.Step.the-variants.{Scalar}
 use Rattle.utf8.specs.Head.{stepOf}
 use Rattle.utf8.proofs.LeadLaws.{ascii}
 use Rattle.character.specs.Traits.{medialPart, traitsOf}
-use Rattle.utf8.proofs.SequenceLaws.{ill-at}
 use Rattle.utf8.proofs.TextLaws.{Unpacked}
 use Rattle.character.specs.Stretch.{StretchOf}
 use Rattle.character.specs.Read.{MemoAt, Filled, Settled, ReadAs}
@@ -104,7 +103,7 @@ pub read-settled : (s text : List ℕ) (at d : ℕ) (r : Character) → Unpacked
 read-settled s text at d r u t =
     record {
       memo = t .memo;
-      none = λ z. ill-at (drop at text) _ (u .none (sym (t .len) ∙ z));
+      none = λ z. u .none (sym (t .len) ∙ z);
       some = λ z.
           let e = t .len in
           let c = t .code in

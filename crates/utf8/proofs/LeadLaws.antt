@@ -14,7 +14,7 @@ use Rattle.utf8.specs.declared.Lead.{Lead}
 use Rattle.utf8.specs.declared.Step.the-variants.{Scalar, IllFormed, End}
 use Rattle.utf8.specs.Table.{Bytes, _to_, Row, table, inside, fits, codePoint}
 use Rattle.utf8.specs.Subpart.{begun, subpartIn, subpartOf}
-use Rattle.utf8.specs.Head.{stepIn, stepOf}
+use Rattle.utf8.specs.Head.{stepIn, stepOf, IllHead}
 use Rattle.utf8.specs.Lead.{leadOfRow, leads, leadIn, leadOf, trailOf, stepAs, stepBy, byteFits, packed}
 use Rattle.utf8.proofs.TableLaws.{inside-out, inside-below, byte-there, fits-in, fits-out, begun-in, begun-out, bytesAt, bytes-at}
 use Rattle.utf8.proofs.SubpartLaws.{larger-left, larger-right}
@@ -185,6 +185,10 @@ module _ {s : List ℕ} {l : Lead} {p : Row} {n : ℕ} (d : Begun s l p n) where
       let g = ap (λ (q : Row). fits q (drop 1 s)) r ∙ d .left gs ∙ f in
       ap packed (asked (suc k) e) ∙ ap (λ (u : Bool). packed (cond u (Scalar (codePoint (take (suc k) s)) (suc k)) (IllFormed (subpartOf s)))) g
 
+  -- no row has the first byte
+  pub no-lead : l .len ≡ 0 → 0 ≡ packed (stepOf s)
+  no-lead e = sym (ap packed (asked 0 e))
+
   -- the maximal subpart, where the ranges asked for begin with those of p
   subpart-asked : (k : ℕ) (gs : Row) → l .len ≡ k → trailOf k (l .low) (l .high) ≡ p ++ gs → subpartOf s ≡ suc (n + begun gs (drop (suc n) s))
   subpart-asked k gs e r =
@@ -205,15 +209,17 @@ module _ {s : List ℕ} {l : Lead} {p : Row} {n : ℕ} (d : Begun s l p n) where
         ∙ d .more (g ∷ gs) ∙ (let e = begun-in g gs s (suc n) f in let z : n + begun (g ∷ gs) (drop (suc n) s) ≡ suc n + begun gs (drop (suc (suc n)) s) = omega arith in z);
   }
 
-  -- it isn't: no sequence begins, and the bytes before it are the maximal subpart
+  -- it isn't: no sequence begins
   pub next-out :
       (g : Bytes) (gs : Row) (k : ℕ) → l .len ≡ suc k → trailOf (suc k) (l .low) (l .high) ≡ p ++ (g ∷ gs)
-      → byteFits g s (suc n) ≡ false → suc n * 8 ≡ packed (stepOf s)
-  next-out g gs k e r f =
-      let c = subpart-asked (suc k) (g ∷ gs) e r in
-      let z = begun-out g gs s (suc n) f in
-      let i : suc n ≡ subpartOf s = omega arith in
-      ap (λ (m : ℕ). m * 8) i ∙ sym (judged k (g ∷ gs) false e r (fits-out g gs s (suc n) f))
+      → byteFits g s (suc n) ≡ false → 0 ≡ packed (stepOf s)
+  next-out g gs k e r f = sym (judged k (g ∷ gs) false e r (fits-out g gs s (suc n) f))
+
+  -- .. and the bytes before it are the maximal subpart
+  pub subpart-out :
+      (g : Bytes) (gs : Row) (k : ℕ) → l .len ≡ suc k → trailOf (suc k) (l .low) (l .high) ≡ p ++ (g ∷ gs)
+      → byteFits g s (suc n) ≡ false → suc n ≡ subpartOf s
+  subpart-out g gs k e r f = omega (arith, subpart-asked (suc k) (g ∷ gs) e r, begun-out g gs s (suc n) f)
 
   -- the row ends here
   pub whole : l .len ≡ suc n → trailOf (suc n) (l .low) (l .high) ≡ p ++ [] → codePoint (bytesAt (suc n) 0 s) * 8 + suc n ≡ packed (stepOf s)
@@ -221,9 +227,13 @@ module _ {s : List ℕ} {l : Lead} {p : Row} {n : ℕ} (d : Begun s l p n) where
       ap (λ (q : List ℕ). codePoint q * 8 + suc n) (sym (bytes-at s 0 (suc n) (let h = d .within in omega arith)))
       ∙ sym (judged n [] true e r refl)
 
--- no row has the first byte
-pub no-lead : {s : List ℕ} {l : Lead} → Begun s l [] 0 → l .len ≡ 0 → 8 ≡ packed (stepOf s)
-no-lead d e = ap (λ (m : ℕ). m * 8) (sym (subpart-asked d 0 [] e refl)) ∙ sym (ap packed (asked d 0 e))
+  -- it doesn't where the head is ill-formed
+  pub not-whole : IllHead s → l .len ≡ suc n → trailOf (suc n) (l .low) (l .high) ≡ p ++ [] → ⊥
+  not-whole i e r = let w = whole e r ∙ ap packed i in omega arith
+
+-- no row has the first byte: it is the maximal subpart
+pub subpart-first-byte : {s : List ℕ} {l : Lead} → Begun s l [] 0 → l .len ≡ 0 → 1 ≡ subpartOf s
+subpart-first-byte d e = sym (subpart-asked d 0 [] e refl)
 
 -- a byte below 80 is a sequence by itself
 pub ascii : (s : List ℕ) → 0 < length s → getD s 0 0 < 0x80 → Scalar (codePoint (getD s 0 0 ∷ [])) 1 ≡ stepOf s

@@ -45,7 +45,6 @@ use Rattle.utf8.proofs.SequenceLaws.{
   step-of-sequence,
   sequence-length,
   sequence-scalar,
-  ill-head,
   ill-at,
   no-sequence-at,
   step-means,
@@ -71,17 +70,9 @@ step-bounds s x n e =
     let c = simp length-take at m in
     record { some-bytes = omega arith; short = omega arith; within = omega arith; scalar = ap isScalar (f .code) ∙ sequence-scalar (take n s) (f .sequence) }
 
--- a maximal subpart has one to three bytes, all within the text
-pub ill-bounds : (s : List ℕ) (n : ℕ) → stepOf s ≡ IllFormed n → SubpartBounds s n
-ill-bounds s n e = go (step-means s (IllFormed n) e)
-  where
-    go : StepMeans s (IllFormed n) → SubpartBounds s n
-    go (no-sequence h f m) = subpart-bounds h f m
-
--- what a packed step tells: the length of a sequence is its last octal digit, the code point the others; where that digit is 0, the
--- others are the length of the maximal subpart
+-- what a packed sequence tells: the length is its last octal digit, the code point the others
 pub record Unpacked (s : List ℕ) (d : ℕ) : Type 0 where
-  pub none : d % 8 ≡ 0 → stepOf s ≡ IllFormed (d / 8)
+  pub none : d % 8 ≡ 0 → IllHead s
   pub some : 0 < d % 8 → stepOf s ≡ Scalar (d / 8) (d % 8)
   pub small : d / 8 ≤ 0x10FFFF
 
@@ -95,10 +86,7 @@ unpacked-by s (Scalar x n) e h =
       some = λ z. e ∙ (λ i. Scalar (sym c i) (sym l i));
       small = omega (arith, scalar-le x (t .scalar));
     }
-unpacked-by s (IllFormed n) e h =
-    let b = ill-bounds s n e in
-    let c : n * 8 / 8 ≡ n = omega arith in
-    record { none = λ z. e ∙ ap IllFormed (sym c); some = λ z. absurd (omega arith); small = omega (arith, b .short) }
+unpacked-by s (IllFormed n) e h = record { none = λ z. ill-at s n e; some = λ z. absurd (omega arith); small = omega arith }
 unpacked-by s End e h = let l = ap length (end-empty s e) in absurd (omega arith)
 
 pub unpacked : (s : List ℕ) (d : ℕ) → d ≡ packed (stepOf s) → 0 < length s → Unpacked s d
@@ -301,10 +289,10 @@ ascii-turn s at h b =
     let z : getD s (at + 0) 0 ≡ getD s at 0 = ap (λ (k : ℕ). getD s k 0) (let q : at + 0 ≡ at = omega arith in q) in
     turn s at (codePoint (getD (drop at s) 0 0 ∷ [])) 1 (omega arith) (sym (ascii (drop at s) (omega arith) (omega arith)))
 
-pub ill-here : (s : List ℕ) (at n : ℕ) → stepOf (drop at s) ≡ IllFormed n → shift at (textOf (drop at s)) ≡ text.IllFormed at n
-ill-here s at n e =
-    let z : at + 0 ≡ at = omega arith in
-    ap (shift at) (text-ill (drop at s) (ill-at (drop at s) n e)) ∙ (λ i. text.IllFormed (z i) (sym (ill-head (drop at s) n e) i))
+pub ill-here : (s : List ℕ) (at : ℕ) → IllHead (drop at s) → shift at (textOf (drop at s)) ≡ text.IllFormed at (subpartOf (drop at s))
+ill-here s at e =
+    ap (shift at) (text-ill (drop at s) e)
+    ∙ ap (λ (p : ℕ). text.IllFormed p (subpartOf (drop at s))) (let z : at + 0 ≡ at = omega arith in z)
 
 pub end-here : (s : List ℕ) (at : ℕ) → length s ≤ at → shift at (textOf (drop at s)) ≡ text.WellFormed
 end-here s at h = ap (shift at) (text-end (drop at s) (drop-of-length-le s h))

@@ -47,8 +47,8 @@ stepBy l s = stepAs (l .len) (trailOf (l .len) (l .low) (l .high)) s
 unfoldable pub byteFits : Bytes → List ℕ → ℕ → Bool
 byteFits g s i = ltb i (length s) && inside g (getD s i 0)
 
--- a step as one number: 8 times a sequence's code point, and its length; 8 times the length of a maximal subpart; 0 where nothing is left
+-- a sequence as one number: 8 times its code point, and its length; 0 where there is none
 abbrev pub packed : Step → ℕ
 packed (Scalar x n) = x * 8 + n
-packed (IllFormed n) = n * 8
+packed (IllFormed n) = 0
 packed End = 0

@@ -5,7 +5,8 @@ ghost use Prim.Native.Nat.{_+_, _*_, _≤_};
 ghost use lib.ListN.{length, drop};
 ghost use Rattle.utf8.specs.Scalar.{isScalar};
 ghost use Rattle.utf8.specs.Table.{_to_, codePoint};
-ghost use Rattle.utf8.specs.Head.{stepOf};
+ghost use Rattle.utf8.specs.Subpart.{subpartOf};
+ghost use Rattle.utf8.specs.Head.{stepOf, IllHead};
 ghost use Rattle.utf8.specs.Lead.{leadOf, byteFits, packed};
 ghost use Rattle.utf8.specs.Text.{textOf};
 ghost use mathlib.Core.List.{[], _∷_};
@@ -139,14 +140,7 @@ fn misses(s: &[u8], i: usize, low: u8, high: u8) -> bool
     high < b
 }
 
-// Bytes that begin no sequence as one number: 8 times the length of their maximal subpart, one, two or three.
-const ILL1: usize = 8;
-
-const ILL2: usize = 16;
-
-const ILL3: usize = 24;
-
-// What stands at the head of `s`, as one number; 0 for nothing.
+// The sequence at the head of `s` as one number; 0 where none begins.
 fn pack(s: &[u8]) -> usize
     ensures { λ r. ⌜ r ≡ packed (stepOf (now (s .entry))) ⌝ }
 {
@@ -157,38 +151,55 @@ fn pack(s: &[u8]) -> usize
     let lead = read_lead(a);
     let len = lead.len;
     if len == 0 {
-        return ILL1; // no row has the first byte
+        return 0;
     }
     if len == 1 {
         return pack1(a);
     }
     if misses(s, 1, lead.low, lead.high) {
-        return ILL1;
+        return 0;
     }
     let b = s[1];
     if len == 2 {
         return pack2(a, b);
     }
     if misses(s, 2, 0x80, 0xBF) {
-        return ILL2;
+        return 0;
     }
     let c = s[2];
     if len == 3 {
         return pack3(a, b, c);
     }
     if misses(s, 3, 0x80, 0xBF) {
-        return ILL3;
+        return 0;
     }
     pack4(a, b, c, s[3])
 }
 
-// What stands at a place of `s` as one number: 8 times a sequence's code point, and its length; 8 times the length of a maximal subpart
-// where no sequence begins; 0 at the end.
+// The sequence at a place of `s` as one number: 8 times its code point, and its length; 0 where none begins.
 pub fn decode_packed(s: &[u8], at: usize) -> usize
     requires { ⌜ at ≤ length (now s) ⌝ }
     ensures { λ r. ⌜ r ≡ packed (stepOf (drop at (now (s .entry)))) ⌝ }
 {
     pack(&s[at..])
+}
+
+// The length of the maximal subpart at the head of `s`, where no sequence begins.
+fn measure_subpart(s: &[u8]) -> usize
+    requires { ⌜ IllHead (now s) ⌝ }
+    ensures { λ r. ⌜ r ≡ subpartOf (now (s .entry)) ⌝ }
+{
+    let lead = read_lead(s[0]);
+    if lead.len == 0 {
+        return 1; // no row has the first byte
+    }
+    if misses(s, 1, lead.low, lead.high) {
+        return 1;
+    }
+    if misses(s, 2, 0x80, 0xBF) {
+        return 2;
+    }
+    3
 }
 
 // The sequence at the head of `s`.
@@ -201,7 +212,9 @@ pub fn decode(s: &[u8]) -> Step
     let d = pack(s);
     let len = d % 8;
     if len == 0 {
-        return Step::IllFormed { len: d / 8 };
+        return Step::IllFormed {
+            len: measure_subpart(s),
+        };
     }
     Step::Scalar {
         code: (d / 8) as u32,
@@ -219,12 +232,11 @@ pub fn check_text(s: &[u8]) -> Text
             at += 1;
             continue;
         }
-        let d = decode_packed(s, at);
-        let len = d % 8;
+        let len = decode_packed(s, at) % 8;
         if len == 0 {
             return Text::IllFormed {
                 place: at,
-                len: d / 8,
+                len: measure_subpart(&s[at..]),
             };
         }
         at += len;

@@ -1,10 +1,14 @@
 -- `utf8::check_text` meets its contract: what is said of the rest of the text, moved by the place reached, is said of the whole.
 -- Assumes nothing.
 use Prim.Native.Nat.{_≤_, _-_, _%_}
-use mathlib.Core.Path.{_≡_, sym, _∙_}
+use mathlib.Core.Path.{_≡_, sym, ap, subst, _∙_}
 use native.Mathlib.Omega.{arith}
 use borrow.Author.Needs.{needs}
 use lib.ListN.{length, drop, length-drop}
+use Rattle.lists.proofs.LaidLaws.{rest}
+use Rattle.utf8.specs.declared.Text.the-variants as text
+use Rattle.utf8.specs.Subpart.{subpartOf}
+use Rattle.utf8.specs.Head.{IllHead}
 use Rattle.utf8.specs.Text.{textOf}
 use Rattle.utf8.proofs.TextLaws.{shift, shift-zero, Turn, turn, Unpacked, unpacked, ascii-turn, ill-here, end-here}
 use Rattle.utf8.proofs.check_text.Statement.{statement}
@@ -51,8 +55,22 @@ loop-again c =
 decode-packed-requires : tie.Need-decode-packed-requires Inv-loop μ-loop
 decode-packed-requires c κs = search needs
 
+-- the text from the place reached on, where it is ill-formed
+part :
+    (c : tie.Then2 Inv-loop μ-loop)
+    → IllHead (drop (c .before .before .before .before .before .loop .at) (c .before .before .before .before .before .before .before .args .s .now))
+part c = stands (c .before) .none (c .if2 .taken)
+
+measure-subpart-requires : tie.Need-measure-subpart-requires Inv-loop μ-loop
+measure-subpart-requires c κs =
+    let d = c .before .before .before .before .before .before in
+    subst IllHead (sym (rest (d .before .before .args .s .now) (d .loop .at))) (part (c .before))
+
 returns : tie.Need-returns Inv-loop μ-loop
-returns c = sym (ill-here _ _ _ (stands (c .before) .none (c .if2 .taken))) ∙ c .before .before .before .before .before .loop .inv .1
+returns c =
+    let d = c .before .before .before .before .before .before .before in
+    ap (text.IllFormed (d .loop .at)) (c .measure-subpart .ensures ∙ ap subpartOf (rest (d .before .before .args .s .now) (d .loop .at)))
+    ∙ sym (ill-here _ _ (part (c .before .before))) ∙ d .loop .inv .1
 
 add-at-2 : tie.Need-add-at-2 Inv-loop μ-loop
 add-at-2 c = let t = moves c in omega arith
@@ -78,6 +96,10 @@ check-text-spec =
     loop-less
     loop-again
     decode-packed-requires
+    (λ c. search needs)
+    (λ c. search needs)
+    (λ c. search needs)
+    measure-subpart-requires
     returns
     add-at-2
     loop-less-2
