@@ -204,7 +204,6 @@ rest-well s e = means-text s text.WellFormed (well-formed (subst (λ (r : List �
 
 pub record IllRest (s : List ℕ) (p n : ℕ) : Type 0 where
   pub place : p ≡ widthOf (decode s .characters)
-  pub some-left : 0 < length (decode s .rest)
   pub subpart : SubpartBounds (decode s .rest) n
 
 pub ill-rest : (s : List ℕ) (p n : ℕ) → textOf s ≡ text.IllFormed p n → IllRest s p n
@@ -212,12 +211,7 @@ ill-rest s p n e = go (text-means s (text.IllFormed p n) e)
   where
     go : TextMeans s (text.IllFormed p n) → IllRest s p n
     go (ill-formed d l q m) =
-        let f = ap (λ (c : Decoded). c .rest) (means-decode d) in
-        record {
-          place = rw (means-decode d) q;
-          some-left = rw f l;
-          subpart = rw f (subpart-bounds l (encoded-stops d) m);
-        }
+        record { place = rw (means-decode d) q; subpart = rw (means-decode d) (subpart-bounds l (encoded-stops d) m) }
 
 -- an ill-formed place is within the text, and so is the maximal subpart, which has one to three bytes
 pub record IllWithin (s : List ℕ) (p n : ℕ) : Type 0 where
@@ -232,7 +226,7 @@ ill-within s p n e =
     let l = length-drop (widthOf (decode s .characters)) s in
     let m = ap length (c .after) in
     let b = r .subpart in
-    record { some-bytes = b .some-bytes; short = b .short; within = omega (arith, c .within, b .within, r .place) }
+    record { some-bytes = b .some-bytes; short = b .short; within = omega (arith, c .within) }
 
 -- by the step at the head
 pub text-ill : (s : List ℕ) → IllHead s → textOf s ≡ text.IllFormed 0 (subpartOf s)
