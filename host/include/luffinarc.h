@@ -56,9 +56,9 @@ extern "C" {
 
 /* The refusals. 3, 4, 6 to 10 and 12 carry a number, at answer[0]; 6 alone carries a second, at answer[1].
  *
- * It is the length of the maximal subpart at the place (the Unicode Standard, section 3.9, D93b): the most bytes from
- * there on that some well-formed sequence begins with, or else 1. So it is 1, 2 or 3, and place + length is at most the
- * text's length.
+ * That second number is the length of the maximal subpart at the place (the Unicode Standard, section 3.9, D93b): the
+ * most bytes from there on that some well-formed sequence begins with, or else 1. So it is 1, 2 or 3, and place + length
+ * is at most the text's length.
  */
 enum luffinarc_refusal {
     LUFFINARC_LENGTH = 1,      /* the image is too short or too long, or not of the header's total length */

@@ -1,8 +1,9 @@
 // Runs `utf8` on the first and last sequence of each row of Table 3-7, on the sequences just outside each row, and on ill-formed texts.
+use refusal::Refusal;
 use utf8::Step;
 use utf8::Text;
 
-// What stands at the head, and the first ill-formed place, each with its length.
+// What stands at the head, and whether the text is well-formed, or the refusal that its first ill-formed place gives.
 fn show(s: &[u8]) {
     crate::print_bytes(s, 256);
     let step = utf8::decode(s);
@@ -23,10 +24,8 @@ fn show(s: &[u8]) {
     match text {
         Text::WellFormed => printing::print_text(b", text well-formed\n"),
         Text::IllFormed { place, len } => {
-            printing::print_text(b", text ill-formed at ");
-            printing::print_number(place);
-            printing::print_text(b" length ");
-            printing::print_number(len);
+            printing::print_text(b", text ");
+            printing::print_refusal(Refusal::IllFormed { place, len });
             printing::print_text(b"\n");
         }
     }

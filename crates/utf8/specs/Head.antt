@@ -9,7 +9,7 @@ use Rattle.utf8.specs.declared.Step.the-variants.{Scalar, IllFormed, End
 use Rattle.utf8.specs.Table.{Row, table, fits, Sequence, codePoint}
 use Rattle.utf8.specs.Subpart.{subpartOf, MaximalSubpart}
 
--- the first row whose bytes begin the text gives the sequence; no row: ill-formed, as far as the maximal subpart goes
+-- the first row whose bytes begin the text gives the sequence; no row: ill-formed, with the length of the maximal subpart
 abbrev pub stepIn : List Row → List ℕ → Step
 stepIn [] s = IllFormed (subpartOf s)
 stepIn (r ∷ rs) s = cond (fits r s) (Scalar (codePoint (take (length r) s)) (length r)) (stepIn rs s)
