@@ -26,7 +26,7 @@ readThrough s text = unless (formRefusal text) (judged (readingOf s text .tokens
 unfoldable pub countThrough : List ℕ → List ℕ → Counted
 countThrough s text = countedBy (outcomeMap length (readThrough s text))
 
--- the refusal where no token begins at a place: 6 comes first, if the text from there on has an ill-formed place
+-- the refusal where no sequence or no token begins at a place: 6 comes first, if the text from there on has an ill-formed place
 abbrev pub stopRefusal : ℕ → Text → Refusal
 stopRefusal at WellFormed = refusal.Characters at
 stopRefusal at (IllFormed p n) = refusal.IllFormed (at + p) n

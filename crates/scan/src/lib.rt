@@ -239,7 +239,7 @@ fn count_pending(state: u32) -> usize
     2
 }
 
-// The refusal where no token begins at a place: the text from there on is first checked as UTF-8.
+// The refusal where no sequence or no token begins at a place: the text from there on is first checked as UTF-8.
 pub fn refuse_at(text: &[u8], at: usize) -> Refusal
     requires { ⌜ at ≤ length (now text) ⌝ }
     ensures { λ r. ⌜ r ≡ stopRefusal at (textOf (drop at (now (text .entry)))) ⌝ }

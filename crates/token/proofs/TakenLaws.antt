@@ -65,7 +65,7 @@ first-by : (text : List ℕ) (place : ℕ) (ts : List (Tok Character Kind)) → 
 first-by text place [] = refl
 first-by text place (t ∷ ts) = refl
 
--- where no sequence begins at the place, the refusal of the text from there on is 6 at the place
+-- what stands at the front is told ill-formed only where no sequence begins
 ill-first : (s part : List ℕ) → firstOf s part ≡ first.IllFormed → IllHead part
 unfolding firstOf
 ill-first s part = go (stepOf part) refl (tokensOf s part)
@@ -76,6 +76,7 @@ ill-first s part = go (stepOf part) refl (tokensOf s part)
     go (step.IllFormed n) e ts f = ill-at part n e
     go step.End e ts f = impossible (cc)
 
+-- there the refusal of the text from the place on is 6 at the place
 pub stops-ill : (s text : List ℕ) (place : ℕ) → firstOf s (drop place text) ≡ first.IllFormed →
     Refused (stopRefusal place (textOf (drop place text))) ≡ takenBy text place first.IllFormed
 stops-ill s text place e =

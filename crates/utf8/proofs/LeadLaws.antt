@@ -231,9 +231,9 @@ module _ {s : List ℕ} {l : Lead} {p : Row} {n : ℕ} (d : Begun s l p n) where
   pub not-whole : IllHead s → l .len ≡ suc n → trailOf (suc n) (l .low) (l .high) ≡ p ++ [] → ⊥
   not-whole i e r = let w = whole e r ∙ ap packed i in omega arith
 
--- no row has the first byte: it is the maximal subpart
-pub subpart-first-byte : {s : List ℕ} {l : Lead} → Begun s l [] 0 → l .len ≡ 0 → 1 ≡ subpartOf s
-subpart-first-byte d e = sym (subpart-asked d 0 [] e refl)
+-- no row has the first byte: it alone is the maximal subpart
+pub subpart-alone : {s : List ℕ} {l : Lead} → Begun s l [] 0 → l .len ≡ 0 → 1 ≡ subpartOf s
+subpart-alone d e = sym (subpart-asked d 0 [] e refl)
 
 -- a byte below 80 is a sequence by itself
 pub ascii : (s : List ℕ) → 0 < length s → getD s 0 0 < 0x80 → Scalar (codePoint (getD s 0 0 ∷ [])) 1 ≡ stepOf s

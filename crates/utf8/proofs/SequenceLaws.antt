@@ -161,7 +161,7 @@ sequence-of-step (b ∷ s) x n e =
     record { sequence = f .0; code = f .1; long = f .2 }
 
 -- ill-formed with whatever length is ill-formed with the maximal subpart's
-pub ill-head : (s : List ℕ) (n : ℕ) → stepOf s ≡ IllFormed n → n ≡ subpartOf s
+ill-head : (s : List ℕ) (n : ℕ) → stepOf s ≡ IllFormed n → n ≡ subpartOf s
 unfolding stepOf
 ill-head [] n e = impossible (cc)
 ill-head (b ∷ s) n e = rw e at (found table (b ∷ s))

@@ -78,7 +78,7 @@ fills-begun [] (b ∷ q) t v f = absurd f
 fills-begun (g ∷ gs) (b ∷ q) t v f = rw (inside-in g b (f .0) (f .1)) (let h = fills-begun gs q t v (f .2) in omega arith)
 
 -- over the rows: no initial subsequence is longer, and one byte is no more than it
-pub longest-in : (rs : List Row) (q t v : List ℕ) → FillsOne rs (q ++ t) → length q ≤ subpartIn rs (q ++ v)
+longest-in : (rs : List Row) (q t v : List ℕ) → FillsOne rs (q ++ t) → length q ≤ subpartIn rs (q ++ v)
 longest-in (r ∷ rs) q t v (inl f) = omega (arith, fills-begun r q t v f, larger-le (begun r (q ++ v)) (subpartIn rs (q ++ v)))
 longest-in (r ∷ rs) q t v (inr f) = omega (arith, longest-in rs q t v f, larger-le (begun r (q ++ v)) (subpartIn rs (q ++ v)))
 

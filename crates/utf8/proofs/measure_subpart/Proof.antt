@@ -14,7 +14,7 @@ use Rattle.utf8.specs.Subpart.{subpartOf}
 use Rattle.utf8.specs.Head.{IllHead}
 use Rattle.utf8.specs.Lead.{trailOf, byteFits}
 use Rattle.utf8.proofs.SequenceLaws.{ill-not-empty}
-use Rattle.utf8.proofs.LeadLaws.{Begun, begins, next-in, subpart-out, subpart-first-byte, not-whole, lead-le}
+use Rattle.utf8.proofs.LeadLaws.{Begun, begins, next-in, subpart-out, subpart-alone, not-whole, lead-le}
 use Rattle.utf8.proofs.measure_subpart.Statement.{statement}
 use Rattle.utf8.proofs.measure_subpart.Tie as tie
 
@@ -65,7 +65,7 @@ read-0 : tie.Need-shared-slice-read-read-lead
 read-0 c = omega (arith, ill-not-empty _ (c .before .before .pre))
 
 returns : tie.Need-returns
-returns c = subpart-first-byte (led (c .before .before)) (c .if1 .taken)
+returns c = subpart-alone (led (c .before .before)) (c .if1 .taken)
 
 returns-2 : tie.Need-returns-2
 returns-2 c =
