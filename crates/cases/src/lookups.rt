@@ -38,8 +38,9 @@ fn show_changed() {
     show(&changed(0, 2), 0x20);
     show(&changed(52, 6), 0x20);
     show(&changed(52, 6), 0xD800);
-    show(&changed(96, 5), 0x20);
+    show(&changed(96, 6), 0x20);
     show(&changed(96, 4), 0x2E);
+    show(&changed(96, 5), 0x2E);
 }
 
 pub fn run() {

@@ -52,7 +52,7 @@ fn show_refused() {
     show(&changed(52, 6), &short_m());
     show(&m(), &changed(0, 2));
     show(&m(), &changed(52, 6));
-    show(&m2(), &changed(96, 5));
+    show(&m2(), &changed(96, 6));
     show(&m2(), &short_m());
 }
 

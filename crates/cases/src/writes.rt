@@ -153,18 +153,18 @@ fn show_refused() {
     show(b"4097 ranges", &[0u32; 12291], p);
     show(b"class 6", &changed(5, 6), p);
     show(b"a range inside the one before", &changed(3, 0x20), p);
-    show(b"role 5", &words_of_m(), with_entry(0x2E, 5, 0));
+    show(b"role 6", &words_of_m(), with_entry(0x2E, 6, 0));
     show(b"no scalar value", &words_of_m(), with_entry(0xD800, 3, 0));
     show_short(b"99 bytes", &words_of_m(), p);
 }
 
 // Which refusal comes first, and what is not looked at.
 fn show_order() {
-    let bad = with_entry(0x2E, 5, 0);
+    let bad = with_entry(0x2E, 6, 0);
     show_short(b"14 words and 65 entries", &[0u32; 14], with_used(65));
     show_short(b"65 entries and class 6", &changed(5, 6), with_used(65));
-    show_short(b"class 6 and role 5", &changed(5, 6), bad);
-    try_write(b"role 5 and no bytes", &words_of_m(), bad, &mut [], &[]);
+    show_short(b"class 6 and role 6", &changed(5, 6), bad);
+    try_write(b"role 6 and no bytes", &words_of_m(), bad, &mut [], &[]);
     let past = with_entry(0x2E, 3, 9);
     try_write(
         b"role 9 past the used length",

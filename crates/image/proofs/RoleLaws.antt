@@ -6,13 +6,13 @@ use mathlib.Core.List.{List}
 use native.Mathlib.Omega.{arith}
 use native.Mathlib.Decide.{decLt}
 use lib.Dec.{ltb, eqb}
-use borrow.Author.Tests.{lt-ltb, le-ltb}
+use borrow.Author.Tests.{lt-ltb, le-ltb, eqb-true, ne-eqb}
 use Rattle.lists.specs.First.{firstWhere}
 use Rattle.lists.proofs.FirstLaws.{first-same}
 use Rattle.image.specs.Class.{Start, Nonstart, Other, classNumber}
 use Rattle.image.specs.Header.{entryCount}
-use Rattle.image.specs.Profile.{pointAt, roleAt, pointIn, roleIn, profileOf, roleBy, roleOf, startRole, nonstartRole, otherRole, afterRole, isMedial}
-use Rattle.image.specs.Check.{rangeClass, entryRole, classOf, medialOf}
+use Rattle.image.specs.Profile.{pointAt, roleAt, pointIn, roleIn, profileOf, roleBy, roleOf, startRole, nonstartRole, medialRole, otherRole, hashtagRole, afterRole, isMedial, isHashtag}
+use Rattle.image.specs.Check.{rangeClass, entryRole, classOf, medialOf, hashtagOf}
 use Rattle.image.proofs.ImageLaws.{entry-read}
 
 -- the same entries give the same role
@@ -43,6 +43,15 @@ module _ (s : List ℕ) (x : ℕ) where
   pub medial-by : medialOf s x ≡ isMedial (entryRole s x)
   unfolding medialOf
   medial-by = refl
+
+  pub hashtag-by : hashtagOf s x ≡ isHashtag (entryRole s x)
+  unfolding hashtagOf
+  hashtag-by = refl
+
+-- a medial's role is not that of hashtags
+pub medial-alone : (role : ℕ) → isMedial role ≡ true → isHashtag role ≡ false
+unfolding isMedial isHashtag
+medial-alone role e = let r = eqb-true role medialRole e in ne-eqb role hashtagRole (λ f. omega arith)
 
 -- classes go to 5 after a role too
 pub after-known : (role class : ℕ) → class ≤ 5 → afterRole role class ≤ 5

@@ -12,7 +12,7 @@ use Rattle.refusal.specs.declared.Refusal.the-variants as refusal
 use Rattle.image.specs.Limits.{wordsPerRange}
 use Rattle.image.specs.Header.{versionOf, rangeCount, entryCount, lengthRight, headerRight}
 use Rattle.image.specs.Ranges.{rangeAt, rangeWords, firstBadRange, classIn}
-use Rattle.image.specs.Profile.{pointAt, roleAt, firstBadEntry, profileOf, noProfile, roleBy, afterRole, isMedial}
+use Rattle.image.specs.Profile.{pointAt, roleAt, firstBadEntry, profileOf, noProfile, roleBy, afterRole, isMedial, isHashtag}
 use Rattle.image.specs.declared.Range.{Range}
 use Rattle.image.specs.declared.Answer.the-variants as answer
 use Rattle.image.specs.declared.Checked.{Checked}
@@ -76,9 +76,12 @@ rangeClass s x = classIn (rangeAt s) (rangeCount s) x
 unfoldable pub entryRole : List ℕ → ℕ → ℕ
 entryRole s x = roleBy (pointAt s) (roleAt s) (entryCount s) x
 
--- its class after the profile, and whether it is a medial
+-- its class after the profile, whether it is a medial, and whether its role is that of hashtags
 unfoldable pub classOf : List ℕ → ℕ → ℕ
 classOf s x = afterRole (entryRole s x) (rangeClass s x)
 
 unfoldable pub medialOf : List ℕ → ℕ → Bool
 medialOf s x = isMedial (entryRole s x)
+
+unfoldable pub hashtagOf : List ℕ → ℕ → Bool
+hashtagOf s x = isHashtag (entryRole s x)

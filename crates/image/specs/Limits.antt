@@ -40,7 +40,7 @@ abbrev pub firstRole : ℕ
 firstRole = 1
 
 abbrev pub lastRole : ℕ
-lastRole = 4
+lastRole = 5
 
 -- the last code point, and the surrogates, which no range holds
 abbrev pub lastCodePoint : ℕ

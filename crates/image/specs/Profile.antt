@@ -31,7 +31,7 @@ pointIn p i = getD (p .points) i 0
 abbrev pub roleIn : Profile → ℕ → ℕ
 roleIn p i = getD (p .roles) i 0
 
--- a scalar value and a role of 1 to 4
+-- a scalar value and a role of 1 to 5
 unfoldable pub goodEntryAlone : ℕ → ℕ → Bool
 goodEntryAlone point role = isScalar point && (leb firstRole role && leb role lastRole)
 
@@ -75,6 +75,9 @@ medialRole = 3
 abbrev pub otherRole : ℕ
 otherRole = 4
 
+abbrev pub hashtagRole : ℕ
+hashtagRole = 5
+
 -- the class after the profile: 1 makes Start, 2 Nonstart, 4 Other; every other role keeps the class
 unfoldable pub afterRole : ℕ → ℕ → ℕ
 afterRole role class =
@@ -84,3 +87,7 @@ afterRole role class =
 -- 3 marks a medial
 unfoldable pub isMedial : ℕ → Bool
 isMedial role = eqb role medialRole
+
+-- 5 adds its code point to the hashtag Continue characters
+unfoldable pub isHashtag : ℕ → Bool
+isHashtag role = eqb role hashtagRole

@@ -76,7 +76,7 @@ pub const OTHER: u32 = 5;
 // The first role and the last.
 const FIRST_ROLE: u32 = 1;
 
-const LAST_ROLE: u32 = 4;
+const LAST_ROLE: u32 = 5;
 
 // The last code point, and the surrogates.
 pub const LAST_CODE_POINT: u32 = 0x10FFFF;

@@ -13,10 +13,10 @@ use Rattle.lists.proofs.FirstLaws.{first-same}
 use Rattle.image.specs.Limits.{maxRanges, maxEntries}
 use Rattle.image.specs.Header.{rangeCount, entryCount, imageEnd}
 use Rattle.image.specs.Ranges.{classIn}
-use Rattle.image.specs.Profile.{pointAt, roleAt, roleBy, afterRole, isMedial}
-use Rattle.image.specs.Check.{refusalOf, rangeClass, entryRole, classOf, medialOf}
+use Rattle.image.specs.Profile.{pointAt, roleAt, roleBy, afterRole, isMedial, isHashtag}
+use Rattle.image.specs.Check.{refusalOf, rangeClass, entryRole, classOf, medialOf, hashtagOf}
 use Rattle.image.proofs.ImageLaws.{accepted, accepted-size}
-use Rattle.image.proofs.RoleLaws.{class-after, medial-by}
+use Rattle.image.proofs.RoleLaws.{class-after, medial-by, hashtag-by}
 use Rattle.lookup.specs.declared.Section.{Section}
 use Rattle.lookup.specs.declared.Section.the-variants.{Ranges, Entries}
 use Rattle.lookup.specs.Records.{entryRange, recordAt, recordCount, sectionClass}
@@ -45,7 +45,7 @@ role-class : (point role : ℕ → ℕ) (m x : ℕ) → roleBy point role m x �
 unfolding roleBy classIn
 role-class point role m x = rw (first-same (λ (i : ℕ). eqb (point i) x) (λ (i : ℕ). leb (point i) x && leb x (point i)) m (λ i l. one-point (point i) x))
 
--- the class after the profile and medials, by the classes in the two sections
+-- the class after the profile, medials and role 5, by the classes in the two sections
 module _ (s : List ℕ) (x : ℕ) where
   pub range-class : rangeClass s x ≡ sectionClass s Ranges x
   unfolding rangeClass
@@ -60,6 +60,9 @@ module _ (s : List ℕ) (x : ℕ) where
 
   pub medial-by-sections : medialOf s x ≡ isMedial (sectionClass s Entries x)
   medial-by-sections = medial-by s x ∙ ap isMedial entry-role
+
+  pub hashtag-by-sections : hashtagOf s x ≡ isHashtag (sectionClass s Entries x)
+  hashtag-by-sections = hashtag-by s x ∙ ap isHashtag entry-role
 
 module _ (s : List ℕ) (a : refusalOf s ≡ none) where
   pub fits : Fits s

@@ -3,7 +3,7 @@ ghost use mathlib.Core.Path.{_≡_};
 ghost use mathlib.Core.Option.{none};
 ghost use Prim.Native.Nat.{_≤_, _<_};
 ghost use Rattle.image.specs.Header.{entryCount};
-ghost use Rattle.image.specs.Profile.{pointAt, roleAt, afterRole, isMedial};
+ghost use Rattle.image.specs.Profile.{pointAt, roleAt, afterRole, isMedial, isHashtag};
 ghost use Rattle.image.specs.Check.{refusalOf};
 ghost use Rattle.lookup.specs.Records.{entryRange, recordAt, recordCount};
 ghost use Rattle.lookup.specs.Halving.{more, seekOf};
@@ -30,6 +30,8 @@ pub const NONSTART_ROLE: u32 = 2;
 pub const MEDIAL_ROLE: u32 = 3;
 
 pub const OTHER_ROLE: u32 = 4;
+
+pub const HASHTAG_ROLE: u32 = 5;
 
 // The records of an image that the search goes through.
 pub enum Section {
@@ -150,6 +152,13 @@ pub fn is_medial(role: u32) -> bool
     ensures { λ r. ⌜ r ≡ isMedial role ⌝ }
 {
     role == MEDIAL_ROLE
+}
+
+// Whether a role adds its code point to the hashtag Continue characters.
+pub fn is_hashtag(role: u32) -> bool
+    ensures { λ r. ⌜ r ≡ isHashtag role ⌝ }
+{
+    role == HASHTAG_ROLE
 }
 
 // The class of x after the profile of an image that was checked, and how many ranges the search looked at.
