@@ -1,6 +1,6 @@
 -- Stretches of one class, and the traits of their code points: a memo and a table hold the traits of their code points.
 -- Assumes nothing.
-use Prim.Native.Nat.{ℕ, _+_, _-_, _≤_, _<_}
+use Prim.Native.Nat.{ℕ, _+_, _-_, _%_, _≤_, _<_}
 use mathlib.Core.Path.{_≡_, sym, ap, _∙_}
 use mathlib.Core.Bool.{Bool, true, false}
 use mathlib.Core.List.{List}
@@ -9,40 +9,43 @@ use native.Mathlib.Omega.{arith}
 use native.Mathlib.Decide.{decLt}
 use lib.ListN.{length, getD, set, drop, length-set, length-drop}
 use lib.Seq.{getD-set-same, getD-set-other, getD-drop}
-use Rattle.image.specs.Profile.{afterRole, isMedial}
-use Rattle.image.specs.Check.{refusalOf, classOf, medialOf}
+use Rattle.image.specs.Profile.{afterRole, isMedial, isHashtag}
+use Rattle.image.specs.Check.{refusalOf, hashtagOf}
 use Rattle.image.specs.declared.Range.{Range}
 use Rattle.lookup.specs.declared.Section.{Section}
 use Rattle.lookup.specs.declared.Section.the-variants.{Ranges, Entries}
 use Rattle.lookup.specs.Records.{recordAt, recordCount, sectionClass}
 use Rattle.lookup.proofs.RisingLaws.{class-held, class-gap}
-use Rattle.lookup.proofs.RecordLaws.{records-rise, class-by-sections, medial-by-sections}
-use Rattle.lookup.proofs.LookupLaws.{class-of-known}
+use Rattle.lookup.proofs.RecordLaws.{records-rise, class-by-sections, medial-by-sections, hashtag-by-sections}
 use Rattle.utf8.specs.declared.Step.the-variants.{Scalar}
 use Rattle.utf8.specs.Head.{stepOf}
 use Rattle.utf8.proofs.LeadLaws.{ascii}
-use Rattle.character.specs.Traits.{medialPart, traitsOf}
+use Rattle.character.specs.Traits.{medialPart, hashtagPart, tokenTraits, traitsOf}
 use Rattle.utf8.proofs.TextLaws.{Unpacked}
 use Rattle.character.specs.Stretch.{StretchOf}
-use Rattle.character.specs.Read.{MemoAt, Filled, Settled, ReadAs}
+use Rattle.character.specs.Read.{MemoOf, MemoAt, Filled, Settled, asciiCharacter, ReadBy, ReadAs}
 use Rattle.character.specs.declared.Character.{Character}
 use Rattle.character.specs.declared.Memo.{Memo}
 use Rattle.character.specs.declared.Stretch.{Stretch}
+use Rattle.character.proofs.TraitLaws.{token-small, token-traits}
 
 -- traits by the classes in the two sections
-traits-by : (s : List ℕ) (x : ℕ) → traitsOf s x ≡ afterRole (sectionClass s Entries x) (sectionClass s Ranges x) + medialPart (isMedial (sectionClass s Entries x))
-unfolding traitsOf
-traits-by s x = λ i. class-by-sections s x i + medialPart (medial-by-sections s x i)
+abbrev joined : ℕ → ℕ → ℕ
+joined role class = afterRole role class + medialPart (isMedial role) + hashtagPart (isHashtag role)
+
+traits-by : (s : List ℕ) (x : ℕ) → traitsOf s x ≡ joined (sectionClass s Entries x) (sectionClass s Ranges x)
+unfolding traitsOf tokenTraits
+traits-by s x = λ i. class-by-sections s x i + medialPart (medial-by-sections s x i) + hashtagPart (hashtag-by-sections s x i)
 
 module _ (s : List ℕ) (x : ℕ) (a : refusalOf s ≡ none) where
   -- traits fit a byte
-  pub traits-small : traitsOf s x ≤ 13
+  pub traits-small : traitsOf s x < 32
   unfolding traitsOf
-  traits-small = go (medialOf s x)
+  traits-small = go (hashtagOf s x)
     where
-      go : (m : Bool) → classOf s x + medialPart m ≤ 13
-      go true = omega (arith, class-of-known s x a)
-      go false = omega (arith, class-of-known s x a)
+      go : (h : Bool) → tokenTraits s x + hashtagPart h < 32
+      go true = omega (arith, token-small s x a)
+      go false = omega (arith, token-small s x a)
 
   module _ (section : Section) (i : ℕ) where
     -- the stretch of x between neighbours, and the one of the record that holds it
@@ -65,7 +68,7 @@ module _ (s : List ℕ) (x : ℕ) (a : refusalOf s ≡ none) where
 pub memo-of :
     (s : List ℕ) (x : ℕ) (c r : Stretch) (m : Memo) → StretchOf s Ranges x c → StretchOf s Entries x r
     → (c .first ≤ m .first) × (r .first ≤ m .first) × (m .first ≤ x) → (m .last ≤ c .last) × (m .last ≤ r .last) × (x ≤ m .last)
-    → m .traits ≡ afterRole (r .class) (c .class) + medialPart (isMedial (r .class)) → MemoAt s x m
+    → m .traits ≡ joined (r .class) (c .class) → MemoAt s x m
 memo-of s x c r m f g h l e =
     record {
       from = h .2;
@@ -73,23 +76,42 @@ memo-of s x c r m f g h l e =
       all = λ y a b.
           let p = f .same y (omega (arith, h .0)) (omega (arith, l .0)) in
           let q = g .same y (omega (arith, h .1)) (omega (arith, l .1)) in
-          traits-by s y ∙ (λ i. afterRole (q i) (p i) + medialPart (isMedial (q i))) ∙ sym e;
+          traits-by s y ∙ (λ i. joined (q i) (p i)) ∙ sym e;
     }
 
 -- one more place of the table
-pub filled-more : (s t : List ℕ) (k v : ℕ) → k < 128 → Filled s t k → v ≡ traitsOf s k → Filled s (set t k v) (k + 1)
-filled-more s t k v h f e =
+pub filled-more : (g : ℕ → ℕ) (t : List ℕ) (k v : ℕ) → k < 128 → Filled g t k → v ≡ g k → Filled g (set t k v) (k + 1)
+filled-more g t k v h f e =
     record {
       long = length-set t k v ∙ f .long;
       each = λ y l. go y l (decLt y k);
     }
   where
-    go : (y : ℕ) → y < k + 1 → Dec (y < k) → getD (set t k v) y 0 ≡ traitsOf s y
+    go : (y : ℕ) → y < k + 1 → Dec (y < k) → getD (set t k v) y 0 ≡ g y
     go y l (yes p) = getD-set-other t k y v 0 (λ q. absurd (omega arith)) ∙ f .each y p
     go y l (no p) =
         let q : y ≡ k = omega arith in
         let b = f .long in
-        ap (λ (j : ℕ). getD (set t k v) j 0) q ∙ getD-set-same t k v 0 (omega arith) ∙ e ∙ ap (traitsOf s) (sym q)
+        ap (λ (j : ℕ). getD (set t k v) j 0) q ∙ getD-set-same t k v 0 (omega arith) ∙ e ∙ ap g (sym q)
+
+-- .. and the last one
+pub filled-all : {g : ℕ → ℕ} {t : List ℕ} {k : ℕ} → Filled g t k → 128 ≤ k → Filled g t 128
+filled-all f h = record { long = f .long; each = λ y l. f .each y (omega arith) }
+
+-- the table while what the token rules know takes the place of the traits: before k it has
+pub record Cut (s t : List ℕ) (k : ℕ) : Type 0 where
+  pub cut : Filled (tokenTraits s) t k
+  pub rest : (y : ℕ) → k ≤ y → y < 128 → getD t y 0 ≡ traitsOf s y
+
+pub cut-begins : (s t : List ℕ) → Filled (traitsOf s) t 128 → Cut s t 0
+cut-begins s t f = record { cut = record { long = f .long; each = λ y l. absurd (omega arith) }; rest = λ y _ l. f .each y l }
+
+pub cut-more : (s t : List ℕ) (k : ℕ) → refusalOf s ≡ none → k < 128 → Cut s t k → Cut s (set t k (getD t k 0 % 16)) (k + 1)
+cut-more s t k a h c =
+    record {
+      cut = filled-more (tokenTraits s) t k (getD t k 0 % 16) h (c .cut) (ap (λ (v : ℕ). v % 16) (c .rest k (omega arith) h) ∙ token-traits s k a);
+      rest = λ y l u. getD-set-other t k y (getD t k 0 % 16) 0 (λ q. absurd (omega arith)) ∙ c .rest y (omega arith) u;
+    }
 
 -- a byte below 80 is its own code point
 pub ascii-at : (text : List ℕ) (at : ℕ) → at < length text → getD text at 0 < 0x80 → stepOf (drop at text) ≡ Scalar (getD text at 0) 1
@@ -97,6 +119,13 @@ ascii-at text at h b =
     let l = length-drop at text in
     let z : getD (drop at text) 0 0 ≡ getD text at 0 = getD-drop at text 0 0 ∙ ap (λ (k : ℕ). getD text k 0) (let q : at + 0 ≡ at = omega arith in q) in
     sym (ascii (drop at text) (omega arith) (omega arith)) ∙ ap (λ (x : ℕ). Scalar x 1) z
+
+-- so the table has what is known of the character there
+pub read-ascii :
+    (g : ℕ → ℕ) (s text table : List ℕ) (at : ℕ) (m : Memo) (r : Character) → Filled g table 128 → MemoOf s m → at < length text → getD text at 0 < 0x80
+    → r ≡ asciiCharacter (getD text at 0) (getD table (getD text at 0) 0) m → ReadBy g s text at r
+read-ascii g s text table at m r f a h b e =
+    rw e (record { memo = a; none = λ z. absurd (omega arith); some = λ _. (ascii-at text at h b, f .each _ b) })
 
 -- a sequence that was unpacked and settled is the character there
 pub read-settled : (s text : List ℕ) (at d : ℕ) (r : Character) → Unpacked (drop at text) d → Settled s d r → ReadAs s text at r

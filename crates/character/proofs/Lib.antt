@@ -1,3 +1,3 @@
-pub mod CharacterLaws
 pub mod TraitLaws
+pub mod CharacterLaws
 pub mod PlaceLaws

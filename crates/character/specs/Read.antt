@@ -5,7 +5,7 @@ use mathlib.Core.List.{List}
 use lib.ListN.{length, getD, drop}
 use Rattle.utf8.specs.declared.Step.the-variants.{Scalar}
 use Rattle.utf8.specs.Head.{stepOf, IllHead}
-use Rattle.character.specs.Traits.{traitsOf}
+use Rattle.character.specs.Traits.{tokenTraits, traitsOf}
 use Rattle.character.specs.declared.Memo.{Memo}
 use Rattle.character.specs.declared.Character.{Character}
 
@@ -19,14 +19,17 @@ pub record MemoAt (s : List ℕ) (x : ℕ) (m : Memo) : Type 0 where
   pub to : x ≤ m .last
   pub all : MemoOf s m
 
--- the first k places of the table hold the traits of the code points below k
-pub record Filled (s t : List ℕ) (k : ℕ) : Type 0 where
+-- the first k places of the table hold what f gives the code points below k
+pub record Filled (f : ℕ → ℕ) (t : List ℕ) (k : ℕ) : Type 0 where
   pub long : length t ≡ 128
-  pub each : (y : ℕ) → y < k → getD t y 0 ≡ traitsOf s y
+  pub each : (y : ℕ) → y < k → getD t y 0 ≡ f y
 
--- the table holds the traits of ASCII
+-- the table holds the traits of ASCII, or what the token rules know
 abbrev pub TableOf : List ℕ → List ℕ → Type 0
-TableOf s t = Filled s t 128
+TableOf s t = Filled (traitsOf s) t 128
+
+abbrev pub TokenTableOf : List ℕ → List ℕ → Type 0
+TokenTableOf s t = Filled (tokenTraits s) t 128
 
 -- the character of a packed sequence, 8 times its code point and its length: the length, the code point and its traits
 pub record Settled (s : List ℕ) (packed : ℕ) (r : Character) : Type 0 where
@@ -35,8 +38,20 @@ pub record Settled (s : List ℕ) (packed : ℕ) (r : Character) : Type 0 where
   pub code : r .code ≡ packed / 8
   pub traits : r .traits ≡ traitsOf s (packed / 8)
 
--- the character of `text` at a place, under the image s: its length, code point and traits; length 0 where the text is ill-formed
-pub record ReadAs (s text : List ℕ) (at : ℕ) (r : Character) : Type 0 where
+-- the character of an ASCII byte
+abbrev pub asciiCharacter : ℕ → ℕ → Memo → Character
+asciiCharacter b traits memo = record { len = 1; code = b; traits = traits; memo = memo }
+
+-- the character of `text` at a place, under the image s: its length, its code point and what f gives that; length 0 where the text is
+-- ill-formed
+pub record ReadBy (f : ℕ → ℕ) (s text : List ℕ) (at : ℕ) (r : Character) : Type 0 where
   pub memo : MemoOf s (r .memo)
   pub none : r .len ≡ 0 → IllHead (drop at text)
-  pub some : 0 < r .len → (stepOf (drop at text) ≡ Scalar (r .code) (r .len)) × (r .traits ≡ traitsOf s (r .code))
+  pub some : 0 < r .len → (stepOf (drop at text) ≡ Scalar (r .code) (r .len)) × (r .traits ≡ f (r .code))
+
+-- .. its traits, or what the token rules know
+abbrev pub ReadAs : List ℕ → List ℕ → ℕ → Character → Type 0
+ReadAs s text at r = ReadBy (traitsOf s) s text at r
+
+abbrev pub ReadTokenAs : List ℕ → List ℕ → ℕ → Character → Type 0
+ReadTokenAs s text at r = ReadBy (tokenTraits s) s text at r

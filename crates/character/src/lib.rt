@@ -2,21 +2,23 @@
 ghost use mathlib.Core.Path.{_≡_};
 ghost use mathlib.Core.List.{List};
 ghost use mathlib.Core.Option.{none};
-ghost use Prim.Native.Nat.{ℕ, _+_, _-_, _/_, _≤_, _<_};
+ghost use Prim.Native.Nat.{ℕ, _+_, _-_, _/_, _%_, _≤_, _<_};
 ghost use lib.ListN.{length};
 ghost use mathlib.Core.Bool.{_&&_};
 ghost use lib.Dec.{leb};
-ghost use Rattle.image.specs.Profile.{afterRole, isMedial};
+ghost use Rattle.image.specs.Profile.{afterRole, isMedial, isHashtag};
 ghost use Rattle.image.specs.Check.{refusalOf};
 ghost use Rattle.lookup.specs.Records.{recordAt, recordCount};
 ghost use Rattle.lookup.specs.Placed.{Passed, Placed};
-ghost use Rattle.character.specs.Traits.{medialPart};
+ghost use Rattle.character.specs.Traits.{medialPart, hashtagPart};
 ghost use Rattle.character.specs.Stretch.{StretchOf};
-ghost use Rattle.character.specs.Read.{MemoOf, MemoAt, TableOf, Settled, ReadAs};
+ghost use Rattle.character.specs.Read.{MemoOf, MemoAt, TableOf, TokenTableOf, Settled, asciiCharacter, ReadAs, ReadTokenAs};
 use lookup::Section;
 
-// What traits have more for a medial.
+// What traits have more for a medial, and for role 5.
 const MEDIAL: u32 = 8;
+
+const HASHTAG: u32 = 16;
 
 // Code points from `first` to `last` that have one class in a section of an image.
 pub struct Stretch {
@@ -25,7 +27,8 @@ pub struct Stretch {
     pub class: u32,
 }
 
-// Code points from `first` to `last` that have the same traits: the class after the profile, and `MEDIAL` more for a medial.
+// Code points from `first` to `last` that have the same traits: the class after the profile, `MEDIAL` more for a medial, and `HASHTAG`
+// more for role 5.
 pub struct Memo {
     pub first: u32,
     pub last: u32,
@@ -54,13 +57,23 @@ pub fn no_memo() -> Memo
 // The traits of a code point with a role and a class in the ranges.
 fn join_traits(role: u32, class: u32) -> u32
     requires { ⌜ class ≤ 5 ⌝ }
-    ensures { λ r. ⌜ r ≡ afterRole role class + medialPart (isMedial role) ⌝ }
+    ensures { λ r. ⌜ r ≡ afterRole role class + medialPart (isMedial role) + hashtagPart (isHashtag role) ⌝ }
 {
     let after = lookup::after_role(role, class);
     if lookup::is_medial(role) {
         return after + MEDIAL;
     }
+    if lookup::is_hashtag(role) {
+        return after + HASHTAG;
+    }
     after
+}
+
+// What the token rules know, of a code point's traits: the class, and whether it is a medial.
+pub fn token_traits(traits: u32) -> u32
+    ensures { λ r. ⌜ r ≡ traits % 16 ⌝ }
+{
+    traits % 16
 }
 
 // The first number after record i - 1 of a section, where that record ends before x.
@@ -192,6 +205,20 @@ pub fn fill_table(image: &[u8]) -> [u8; 128]
     table
 }
 
+// What the token rules know of the ASCII code points.
+pub fn fill_token_table(image: &[u8]) -> [u8; 128]
+    requires { ⌜ refusalOf (now image) ≡ none ⌝ }
+    ensures { λ r. ⌜ TokenTableOf (now (image .entry)) r ⌝ }
+{
+    let mut table = fill_table(image);
+    let mut i = 0;
+    while i < 128 {
+        table[i] = token_traits(table[i] as u32) as u8;
+        i += 1;
+    }
+    table
+}
+
 // The character of a packed sequence: 8 times its code point, and its length.
 fn settle(image: &[u8], memo: Memo, packed: usize) -> Character
     requires { ⌜ refusalOf (now image) ≡ none ⌝ }
@@ -228,6 +255,18 @@ pub fn read_decoded<'a>(image: &'a [u8], memo: Memo, text: &'a [u8], at: usize) 
     settle(image, memo, packed)
 }
 
+// The character of an ASCII byte with these traits.
+fn ascii(b: u8, traits: u8, memo: Memo) -> Character
+    ensures { λ r. ⌜ r ≡ asciiCharacter b traits memo ⌝ }
+{
+    Character {
+        len: 1,
+        code: b as u32,
+        traits: traits as u32,
+        memo,
+    }
+}
+
 // The character of `text` at a place before its end: ASCII by the table.
 pub fn read<'a>(
     image: &'a [u8],
@@ -244,12 +283,35 @@ pub fn read<'a>(
 {
     let b = text[at];
     if b < 0x80 {
-        return Character {
-            len: 1,
-            code: b as u32,
-            traits: table[b as usize] as u32,
-            memo,
-        };
+        return ascii(b, table[b as usize], memo);
     }
     read_decoded(image, memo, text, at)
+}
+
+// The same with what the token rules know in place of all traits. The table holds just that: no mask costs time where a text is ASCII.
+pub fn read_for_tokens<'a>(
+    image: &'a [u8],
+    table: &'a [u8; 128],
+    memo: Memo,
+    text: &'a [u8],
+    at: usize,
+) -> Character
+    requires { ⌜ refusalOf (now image) ≡ none ⌝ }
+    requires { ⌜ TokenTableOf (now image) (now table) ⌝ }
+    requires { ⌜ MemoOf (now image) memo ⌝ }
+    requires { ⌜ at < length (now text) ⌝ }
+    ensures { λ r. ⌜ ReadTokenAs (now (image .entry)) (now (text .entry)) at r ⌝ }
+{
+    let b = text[at];
+    if b < 0x80 {
+        return ascii(b, table[b as usize], memo);
+    }
+    let c = read_decoded(image, memo, text, at);
+    let next = c.memo;
+    Character {
+        len: c.len,
+        code: c.code,
+        traits: token_traits(c.traits),
+        memo: next,
+    }
 }

@@ -12,9 +12,9 @@ use Rattle.utf8.specs.Head.{stepOf, IllHead}
 use Rattle.utf8.specs.Text.{Character, decode, textOf}
 use Rattle.utf8.proofs.TextLaws.{decode-scalar, decode-ill, decode-empty, shift, shift-zero, turn}
 use Rattle.image.specs.Check.{refusalOf}
-use Rattle.character.specs.Traits.{traitsOf}
-use Rattle.character.specs.Read.{ReadAs}
-use Rattle.character.proofs.CharacterLaws.{traits-small}
+use Rattle.character.specs.Traits.{tokenTraits}
+use Rattle.character.specs.Read.{ReadTokenAs}
+use Rattle.character.proofs.TraitLaws.{token-small}
 use Rattle.character.specs.declared.Character.{Character as Read}
 use Rattle.grammar.specs.Step.{idle, under, held, moves, underWay, preceded, tokensLeft, step, settle, finish}
 use Rattle.grammar.specs.Record.{tokensWidth}
@@ -41,10 +41,10 @@ pub record Here (s text : List ℕ) (at len traits : ℕ) : Type 0 where
   pub some-bytes : 0 < len
   pub within : at + len ≤ length text
   pub decoded : charactersAt text at ≡ record { code = code; width = len } ∷ charactersAt text (at + len)
-  pub known : traits ≡ traitsOf s code
+  pub known : traits ≡ tokenTraits s code
   pub same : shift at (textOf (drop at text)) ≡ shift (at + len) (textOf (drop (at + len) text))
 
-pub here : (s text : List ℕ) (at : ℕ) (r : Read) → at < length text → ReadAs s text at r → 0 < r .len → Here s text at (r .len) (r .traits)
+pub here : (s text : List ℕ) (at : ℕ) (r : Read) → at < length text → ReadTokenAs s text at r → 0 < r .len → Here s text at (r .len) (r .traits)
 here s text at r h a p =
     let e = a .some p .0 in
     let t = turn text at (r .code) (r .len) (omega arith) e in
@@ -60,7 +60,7 @@ here s text at r h a p =
     }
 
 pub here-small : {s text : List ℕ} {at len traits : ℕ} → refusalOf s ≡ none → Here s text at len traits → traits < 16
-here-small {s} a t = omega (arith, t .known, traits-small s (t .code) a)
+here-small {s} a t = omega (arith, t .known, token-small s (t .code) a)
 
 -- a turn at a place: what it is of the character there, under an accepted image
 pub record Look (s text : List ℕ) (state at len traits turn : ℕ) : Type 0 where

@@ -11,8 +11,8 @@ use Rattle.lists.proofs.BoolLaws.{impossible}
 use Rattle.utf8.specs.Text.{Character, widthOf}
 use Rattle.image.specs.Class.{Class, Unassigned, Start, Nonstart, Syntax, White, Other, classNamed}
 use Rattle.image.specs.Check.{refusalOf}
-use Rattle.character.specs.Traits.{traitsOf}
-use Rattle.character.proofs.TraitLaws.{traits-class, traits-medial}
+use Rattle.character.specs.Traits.{tokenTraits}
+use Rattle.character.proofs.TraitLaws.{token-class, token-medial}
 use Rattle.grammar.specs.Scan.{Tok}
 use Rattle.grammar.specs.Step.{Local, State, idle, under, held, moves, stops, underWay, begin, step, settle}
 use Rattle.grammar.specs.Meaning.{Meaning}
@@ -137,18 +137,18 @@ module _ (s : List ℕ) (c : Character) (t : ℕ) (q : Under) (state start mid a
   Turned (suc (suc (suc zero))) = (waiting ≤ state) × ((r : List Character) → Settles (L s) q (c ∷ r))
   Turned (suc (suc (suc (suc n)))) = (step (L s) q c ≡ stops (underWay q) c []) × (at ≡ start + tokensWidth (underWay q))
 
-module _ (s : List ℕ) (accepted : refusalOf s ≡ none) (c : Character) (t : ℕ) (e : t ≡ traitsOf s (c .code)) where
+module _ (s : List ℕ) (accepted : refusalOf s ≡ none) (c : Character) (t : ℕ) (e : t ≡ tokenTraits s (c .code)) where
   abbrev M : Meaning Character
   M = meaningOf s
 
   -- the rules know the same of the traits as of the character
   class-of : traitMeaning .class t ≡ M .class c
   unfolding meaningOf
-  class-of = ap (λ (n : ℕ). classNamed (n % 8)) e ∙ ap classNamed (traits-class s (c .code) accepted)
+  class-of = ap (λ (n : ℕ). classNamed (n % 8)) e ∙ ap classNamed (token-class s (c .code) accepted)
 
   medial-of : traitMeaning .medial t ≡ M .medial c
   unfolding meaningOf
-  medial-of = ap (leb 8) e ∙ traits-medial s (c .code) accepted
+  medial-of = ap (leb 8) e ∙ token-medial s (c .code) accepted
 
   waiting-of : waitingOf t ≡ waiting + numberBy (kindOf M c)
   unfolding waitingOf

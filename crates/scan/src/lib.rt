@@ -7,7 +7,7 @@ ghost use lib.ListN.{length, drop};
 ghost use Rattle.lists.specs.Laid.{laid};
 ghost use Rattle.utf8.specs.Text.{textOf};
 ghost use Rattle.image.specs.Check.{refusalOf};
-ghost use Rattle.character.specs.Read.{TableOf};
+ghost use Rattle.character.specs.Read.{TokenTableOf};
 ghost use Rattle.grammar.specs.Record.{recordSize, listedWords, tokenWords};
 ghost use Rattle.grammar.specs.Reading.{maxText, readingOf};
 ghost use Rattle.scan.specs.Turns.{states, waitingOf, turnOf, afterOf, pendingOf, turnTable, afterTable, startBy};
@@ -257,7 +257,7 @@ pub fn refuse_at(text: &[u8], at: usize) -> Refusal
 // The number of tokens.
 pub fn count_tokens<'a>(image: &'a [u8], table: &'a [u8; 128], text: &'a [u8]) -> Counted
     requires { ⌜ refusalOf (now image) ≡ none ⌝ }
-    requires { ⌜ TableOf (now image) (now table) ⌝ }
+    requires { ⌜ TokenTableOf (now image) (now table) ⌝ }
     ensures { λ r. ⌜ r ≡ countThrough (now (image .entry)) (now (text .entry)) ⌝ }
 {
     let turns = TURNS;
@@ -268,7 +268,7 @@ pub fn count_tokens<'a>(image: &'a [u8], table: &'a [u8; 128], text: &'a [u8]) -
     let mut mid = 0;
     let mut at = 0;
     while at < text.len() {
-        let c = character::read(image, table, memo, text, at);
+        let c = character::read_for_tokens(image, table, memo, text, at);
         let len = c.len;
         if len == 0 {
             return Counted::Refused(refuse_at(text, at));
@@ -331,7 +331,7 @@ fn pick_start(turn: usize, start: usize, at: usize) -> usize
 // tokens end.
 pub fn write_tokens<'a>(image: &'a [u8], table: &'a [u8; 128], text: &'a [u8], out: &mut [u32])
     requires { ⌜ refusalOf (now image) ≡ none ⌝ }
-    requires { ⌜ TableOf (now image) (now table) ⌝ }
+    requires { ⌜ TokenTableOf (now image) (now table) ⌝ }
     requires { ⌜ length (now text) ≤ maxText ⌝ }
     requires { ⌜ recordSize * length (readingOf (now image) (now text) .tokens) ≤ length (now out) ⌝ }
     ensures { λ _. ⌜ now (out .exit) ≡ laid (now (out .entry)) 0 (listedWords (readingOf (now (image .entry)) (now (text .entry)) .tokens)) ⌝ }
@@ -345,7 +345,7 @@ pub fn write_tokens<'a>(image: &'a [u8], table: &'a [u8; 128], text: &'a [u8], o
     let mut at = 0;
     let mut w = 0;
     while at < text.len() {
-        let c = character::read(image, table, memo, text, at);
+        let c = character::read_for_tokens(image, table, memo, text, at);
         let len = c.len;
         if len == 0 {
             break;
@@ -407,7 +407,7 @@ fn end_first(state: u32, mid: usize, at: usize) -> First
 // The first token of a text.
 pub fn first_token<'a>(image: &'a [u8], table: &'a [u8; 128], text: &'a [u8]) -> First
     requires { ⌜ refusalOf (now image) ≡ none ⌝ }
-    requires { ⌜ TableOf (now image) (now table) ⌝ }
+    requires { ⌜ TokenTableOf (now image) (now table) ⌝ }
     ensures { λ r. ⌜ r ≡ firstOf (now (image .entry)) (now (text .entry)) ⌝ }
 {
     let turns = TURNS;
@@ -417,7 +417,7 @@ pub fn first_token<'a>(image: &'a [u8], table: &'a [u8; 128], text: &'a [u8]) ->
     let mut mid = 0;
     let mut at = 0;
     while at < text.len() {
-        let c = character::read(image, table, memo, text, at);
+        let c = character::read_for_tokens(image, table, memo, text, at);
         let len = c.len;
         if len == 0 {
             if at == 0 {

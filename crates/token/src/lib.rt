@@ -4,7 +4,7 @@ ghost use mathlib.Core.Path.{_≡_};
 ghost use mathlib.Core.Option.{none};
 ghost use lib.ListN.{length};
 ghost use Rattle.image.specs.Check.{refusalOf};
-ghost use Rattle.character.specs.Read.{TableOf};
+ghost use Rattle.character.specs.Read.{TokenTableOf};
 ghost use Rattle.grammar.specs.Reading.{countOf, listOf, listWords};
 ghost use Rattle.scan.specs.Counted.{countedBy};
 ghost use Rattle.token.specs.Taken.{takenOf};
@@ -27,7 +27,7 @@ pub enum Taken {
 // The number of a text's tokens, with the table of a checked image.
 fn count_by<'a>(image: &'a [u8], table: &'a [u8; 128], text: &'a [u8]) -> Counted
     requires { ⌜ refusalOf (now image) ≡ none ⌝ }
-    requires { ⌜ TableOf (now image) (now table) ⌝ }
+    requires { ⌜ TokenTableOf (now image) (now table) ⌝ }
     ensures { λ r. ⌜ r ≡ countedBy (countOf (now (image .entry)) (now (text .entry))) ⌝ }
 {
     if MAX_TEXT < text.len() {
@@ -41,7 +41,7 @@ pub fn count_checked<'a>(image: &'a [u8], text: &'a [u8]) -> Counted
     requires { ⌜ refusalOf (now image) ≡ none ⌝ }
     ensures { λ r. ⌜ r ≡ countedBy (countOf (now (image .entry)) (now (text .entry))) ⌝ }
 {
-    let table = character::fill_table(image);
+    let table = character::fill_token_table(image);
     count_by(image, &table, text)
 }
 
@@ -65,7 +65,7 @@ pub fn list_checked<'a>(image: &'a [u8], text: &'a [u8], out: &mut [u32]) -> Cou
     ensures { λ r. ⌜ r ≡ countedBy (listOf (now (image .entry)) (now (text .entry)) (length (now (out .entry)))) ⌝ }
     ensures { λ r. ⌜ now (out .exit) ≡ listWords (now (image .entry)) (now (text .entry)) (now (out .entry)) ⌝ }
 {
-    let table = character::fill_table(image);
+    let table = character::fill_token_table(image);
     let counted = count_by(image, &table, text);
     match counted {
         Counted::Refused(r) => Counted::Refused(r),
@@ -105,7 +105,7 @@ pub fn take_checked<'a>(image: &'a [u8], text: &'a [u8], place: usize) -> Taken
     if text.len() < place {
         return Taken::Refused(Refusal::Shape);
     }
-    let table = character::fill_table(image);
+    let table = character::fill_token_table(image);
     let first = scan::first_token(image, &table, &text[place..]);
     match first {
         First::Nothing => Taken::Done,

@@ -1,16 +1,16 @@
 -- `character::fill_table` meets its contract: the places passed hold their traits, and the memo is right. Assumes nothing.
-use Prim.Native.Nat.{ℕ, _≤_, _-_}
-use mathlib.Core.Path.{_≡_, refl, sym, subst}
-use mathlib.Core.List.{List}
+use Prim.Native.Nat.{_≤_, _-_}
+use mathlib.Core.Path.{refl, sym}
 use native.Mathlib.Omega.{arith}
 use borrow.Author.Needs.{needs}
+use Rattle.character.specs.Traits.{traitsOf}
 use Rattle.character.specs.Read.{MemoOf, Filled}
-use Rattle.character.proofs.CharacterLaws.{traits-small, filled-more}
+use Rattle.character.proofs.CharacterLaws.{traits-small, filled-more, filled-all}
 use Rattle.character.proofs.fill_table.Statement.{statement}
 use Rattle.character.proofs.fill_table.Tie as tie
 
 abbrev Inv-loop : tie.InvT-loop
-Inv-loop image table₀ memo₀ i₀ table memo i = (i ≤ 128) × Filled image table i × MemoOf image memo
+Inv-loop image table₀ memo₀ i₀ table memo i = (i ≤ 128) × Filled (traitsOf image) table i × MemoOf image memo
 
 abbrev μ-loop : tie.MeasureT-loop
 μ-loop image table₀ memo₀ i₀ table memo i = 128 - i
@@ -47,13 +47,8 @@ loop-again c =
     let m = c .before .recall .ensures in
     (omega arith, filled-more _ _ _ _ (c .before .before .loop-test .taken) (c .before .before .before .loop .inv .1) (sym (m .all _ (m .from) (m .to))), m .all)
 
-ap-filled : {s t : List ℕ} {i j : ℕ} → i ≡ j → Filled s t i → Filled s t j
-ap-filled {s} {t} e f = subst (λ (k : ℕ). Filled s t k) e f
-
 returns : tie.Need-returns Inv-loop μ-loop
-returns c =
-    let z : c .before .loop .i ≡ 128 = omega arith in
-    ap-filled z (c .before .loop .inv .1)
+returns c = filled-all (c .before .loop .inv .1) (c .loop-test .left)
 
 pub fill-table-spec : {M : Type 1} → statement M
 fill-table-spec =

@@ -39,15 +39,15 @@ abbrev μ-loop : tie.MeasureT-loop
 stands :
     (c : tie.After-memo Inv-loop μ-loop)
     → let a = c .before .before .before .before .before .before .before .before .args in
-    let r = c .before .before .read .result in
+    let r = c .before .before .read-for-tokens .result in
     Here (a .image .now) (a .text .now) (c .before .before .before .before .loop .at) (r .len) (r .traits)
-stands c = here _ _ _ _ (c .before .before .before .loop-test .taken) (c .before .before .read .ensures) (omega arith)
+stands c = here _ _ _ _ (c .before .before .before .loop-test .taken) (c .before .before .read-for-tokens .ensures) (omega arith)
 
 looked :
     (c : tie.After-find-turn Inv-loop μ-loop)
     → let a = c .before .before .before .before .before .before .before .before .before .before .args in
     let l = c .before .before .before .before .before .before .loop in
-    let r = c .before .before .before .before .read .result in
+    let r = c .before .before .before .before .read-for-tokens .result in
     Look (a .image .now) (a .text .now) (l .state) (l .at) (r .len) (r .traits) (c .find-turn .result)
 looked c =
     let k = c .before .before .before .before .before .before .before .before .before .before in
@@ -58,7 +58,7 @@ turned :
     (c : tie.After-state-after Inv-loop μ-loop)
     → let a = c .before .before .before .before .before .before .before .before .before .before .before .before .before .args in
     let l = c .before .before .before .before .before .before .before .before .before .loop in
-    let r = c .before .before .before .before .before .before .before .read .result in
+    let r = c .before .before .before .before .before .before .before .read-for-tokens .result in
     Counting (a .image .now) (a .text .now) (c .state-after .result) (l .count + c .before .before .before .find-turn .result) (l .mid) (l .at + r .len)
 turned c =
     let i = c .before .before .before .before .before .before .before .before .before .loop .inv .0 in
@@ -68,7 +68,7 @@ waited :
     (c : tie.After-waiting-after Inv-loop μ-loop)
     → let a = c .before .before .before .before .before .before .before .before .before .before .before .before .before .args in
     let l = c .before .before .before .before .before .before .before .before .before .loop in
-    let r = c .before .before .before .before .before .before .before .read .result in
+    let r = c .before .before .before .before .before .before .before .read-for-tokens .result in
     Counting (a .image .now) (a .text .now) (c .waiting-after .result) (l .count) (l .at) (l .at + r .len)
 waited c =
     let i = c .before .before .before .before .before .before .before .before .before .loop .inv .0 in
@@ -87,8 +87,8 @@ settled c =
 loop-holds : tie.Need-loop-holds Inv-loop μ-loop
 loop-holds c = (counting-begins _ _, c .no-memo .ensures _)
 
-read-requires : tie.Need-read-requires Inv-loop μ-loop
-read-requires c κs =
+read-for-tokens-requires : tie.Need-read-for-tokens-requires Inv-loop μ-loop
+read-for-tokens-requires c κs =
     let p = c .before .before .before .before .before .pre in
     (p .0, (p .1, (c .before .loop .inv .1, c .loop-test .taken)))
 
@@ -98,7 +98,7 @@ refuse-at-requires c κs = c .before .before .before .loop .inv .0 .reached .pla
 returns : tie.Need-returns Inv-loop μ-loop
 returns c =
     ap Refused (c .refuse-at .ensures)
-    ∙ counts-ill (c .before .before .before .before .loop .inv .0) (c .before .before .read .ensures .none (c .before .if1 .taken))
+    ∙ counts-ill (c .before .before .before .before .loop .inv .0) (c .before .before .read-for-tokens .ensures .none (c .before .if1 .taken))
 
 add-next : tie.Need-add-next Inv-loop μ-loop
 add-next c =
@@ -126,7 +126,7 @@ loop-less c =
     omega (arith, t .some-bytes, t .within, counting-less (turned c))
 
 loop-again : tie.Need-loop-again Inv-loop μ-loop
-loop-again c = (turned c, c .before .before .before .before .before .before .before .read .ensures .memo)
+loop-again c = (turned c, c .before .before .before .before .before .before .before .read-for-tokens .ensures .memo)
 
 waiting-after-requires : tie.Need-waiting-after-requires Inv-loop μ-loop
 waiting-after-requires c κs =
@@ -139,7 +139,7 @@ loop-less-2 c =
     omega (arith, t .some-bytes, t .within, counting-less (waited c))
 
 loop-again-2 : tie.Need-loop-again-2 Inv-loop μ-loop
-loop-again-2 c = (waited c, c .before .before .before .before .before .before .before .read .ensures .memo)
+loop-again-2 c = (waited c, c .before .before .before .before .before .before .before .read-for-tokens .ensures .memo)
 
 refuse-at-requires-2 : tie.Need-refuse-at-requires-2 Inv-loop μ-loop
 refuse-at-requires-2 c κs = c .before .before .before .before .before .before .before .before .before .before .loop .inv .0 .reached .medial .within
@@ -166,7 +166,7 @@ loop-less-3 c =
     omega (arith, waits-here i (looked (c .before .before .before .before)) (c .before .if4 .taken) .0, counting-less i)
 
 loop-again-3 : tie.Need-loop-again-3 Inv-loop μ-loop
-loop-again-3 c = (settled c, c .before .before .before .before .before .before .before .before .read .ensures .memo)
+loop-again-3 c = (settled c, c .before .before .before .before .before .before .before .before .read-for-tokens .ensures .memo)
 
 refuse-at-requires-3 : tie.Need-refuse-at-requires-3 Inv-loop μ-loop
 refuse-at-requires-3 c κs = c .before .before .before .before .before .before .before .before .before .loop .inv .0 .reached .place .within
@@ -204,7 +204,7 @@ count-tokens-spec =
     μ-loop
     (λ c κs. search needs)
     loop-holds
-    read-requires
+    read-for-tokens-requires
     refuse-at-requires
     returns
     add-next

@@ -30,15 +30,15 @@ abbrev μ-loop : tie.MeasureT-loop
 stands :
     (c : tie.After-memo Inv-loop μ-loop)
     → let a = c .before .before .before .before .before .before .before .before .args in
-    let r = c .before .before .read .result in
+    let r = c .before .before .read-for-tokens .result in
     Here (a .image .now) (a .text .now) (c .before .before .before .before .loop .at) (r .len) (r .traits)
-stands c = here _ _ _ _ (c .before .before .before .loop-test .taken) (c .before .before .read .ensures) (omega arith)
+stands c = here _ _ _ _ (c .before .before .before .loop-test .taken) (c .before .before .read-for-tokens .ensures) (omega arith)
 
 looked :
     (c : tie.After-find-turn Inv-loop μ-loop)
     → let a = c .before .before .before .before .before .before .before .before .before .before .args in
     let l = c .before .before .before .before .before .before .loop in
-    let r = c .before .before .before .before .read .result in
+    let r = c .before .before .before .before .read-for-tokens .result in
     Look (a .image .now) (a .text .now) (l .state) (l .at) (r .len) (r .traits) (c .find-turn .result)
 looked c =
     let k = c .before .before .before .before .before .before .before .before .before .before in
@@ -47,17 +47,17 @@ looked c =
 loop-holds : tie.Need-loop-holds Inv-loop μ-loop
 loop-holds c = (searching-begins _ _, c .no-memo .ensures _)
 
-read-requires : tie.Need-read-requires Inv-loop μ-loop
-read-requires c κs =
+read-for-tokens-requires : tie.Need-read-for-tokens-requires Inv-loop μ-loop
+read-for-tokens-requires c κs =
     let p = c .before .before .before .before .before .pre in
     (p .0, (p .1, (c .before .loop .inv .1, c .loop-test .taken)))
 
 returns : tie.Need-returns Inv-loop μ-loop
-returns c = first-ill (c .before .before .before .before .loop .inv .0) (c .before .before .read .ensures .none (c .before .if1 .taken)) (c .if2 .taken)
+returns c = first-ill (c .before .before .before .before .loop .inv .0) (c .before .before .read-for-tokens .ensures .none (c .before .if1 .taken)) (c .if2 .taken)
 
 returns-2 : tie.Need-returns-2 Inv-loop μ-loop
 returns-2 c =
-    let e = at-ill _ _ (c .before .before .before .read .ensures .none (c .before .before .if1 .taken)) in
+    let e = at-ill _ _ (c .before .before .before .read-for-tokens .ensures .none (c .before .before .if1 .taken)) in
     c .end-first .ensures ∙ first-last (c .before .before .before .before .before .loop .inv .0) e (c .before .if2 .left)
 
 add-next : tie.Need-add-next Inv-loop μ-loop
@@ -84,7 +84,7 @@ loop-again : tie.Need-loop-again Inv-loop μ-loop
 loop-again c =
     let k = c .before .before .before .before .before .before .before in (
       searching-on (k .before .before .loop .inv .0) (looked (c .before .before .before)) (c .before .before .if3 .taken) _ (c .state-after .ensures),
-      k .read .ensures .memo,
+      k .read-for-tokens .ensures .memo,
     )
 
 waiting-after-requires : tie.Need-waiting-after-requires Inv-loop μ-loop
@@ -101,7 +101,7 @@ loop-again-2 : tie.Need-loop-again-2 Inv-loop μ-loop
 loop-again-2 c =
     let k = c .before .before .before .before .before .before .before in (
       searching-waits (k .before .before .loop .inv .0) (looked (c .before .before .before)) (c .before .if4 .taken) _ (c .waiting-after .ensures),
-      k .read .ensures .memo,
+      k .read-for-tokens .ensures .memo,
     )
 
 returns-3 : tie.Need-returns-3 Inv-loop μ-loop
@@ -125,7 +125,7 @@ first-token-spec =
     μ-loop
     (λ c κs. search needs)
     loop-holds
-    read-requires
+    read-for-tokens-requires
     returns
     (λ c κs. search needs)
     returns-2

@@ -44,15 +44,15 @@ abbrev μ-loop : tie.MeasureT-loop
 stands :
     (c : tie.After-memo Inv-loop μ-loop)
     → let a = c .before .before .before .before .before .before .before .before .before .args in
-    let r = c .before .before .read .result in
+    let r = c .before .before .read-for-tokens .result in
     Here (a .image .now) (a .text .now) (c .before .before .before .before .loop .at) (r .len) (r .traits)
-stands c = here _ _ _ _ (c .before .before .before .loop-test .taken) (c .before .before .read .ensures) (omega arith)
+stands c = here _ _ _ _ (c .before .before .before .loop-test .taken) (c .before .before .read-for-tokens .ensures) (omega arith)
 
 looked :
     (c : tie.After-find-turn Inv-loop μ-loop)
     → let a = c .before .before .before .before .before .before .before .before .before .before .before .args in
     let l = c .before .before .before .before .before .before .loop in
-    let r = c .before .before .before .before .read .result in
+    let r = c .before .before .before .before .read-for-tokens .result in
     Look (a .image .now) (a .text .now) (l .state) (l .at) (r .len) (r .traits) (c .find-turn .result)
 looked c =
     let k = c .before .before .before .before .before .before .before .before .before .before .before in
@@ -63,7 +63,7 @@ turned :
     (c : tie.After-pick-start Inv-loop μ-loop)
     → let a = c .before .before .before .before .before .before .before .before .before .before .before .before .before .before .before .args in
     let l = c .before .before .before .before .before .before .before .before .before .before .loop in
-    let r = c .before .before .before .before .before .before .before .before .read .result in
+    let r = c .before .before .before .before .before .before .before .before .read-for-tokens .result in
     let w = l .w + recordSize * c .before .before .before .before .find-turn .result in
     Due (a .image .now) (a .text .now) (a .out .now) (l .out) (c .before .state-after .result) (c .pick-start .result) (l .mid) (l .at + r .len) w
 turned c =
@@ -74,7 +74,7 @@ waited :
     (c : tie.After-waiting-after Inv-loop μ-loop)
     → let a = c .before .before .before .before .before .before .before .before .before .before .before .before .before .before .args in
     let l = c .before .before .before .before .before .before .before .before .before .loop in
-    let r = c .before .before .before .before .before .before .before .read .result in
+    let r = c .before .before .before .before .before .before .before .read-for-tokens .result in
     Writing (a .image .now) (a .text .now) (a .out .now) (l .out) (c .waiting-after .result) (l .start) (l .at) (l .at + r .len) (l .w)
 waited c =
     let i = c .before .before .before .before .before .before .before .before .before .loop .inv .0 in
@@ -106,8 +106,8 @@ last c =
 loop-holds : tie.Need-loop-holds Inv-loop μ-loop
 loop-holds c = (writing-begins _ _ _, c .no-memo .ensures _)
 
-read-requires : tie.Need-read-requires Inv-loop μ-loop
-read-requires c κs =
+read-for-tokens-requires : tie.Need-read-for-tokens-requires Inv-loop μ-loop
+read-for-tokens-requires c κs =
     let p = c .before .before .before .before .before .before .pre in
     (p .0, (p .1 .0, (c .before .loop .inv .1, c .loop-test .taken)))
 
@@ -169,7 +169,7 @@ loop-again c =
     let k = c .before .before .before .before .before .before .before .before .before .before .before .before in
     let j = k .before .before .before .before .before .before .before in (
       due-put (turned (c .before .before .before .before)) (j .pre .1 .1 .1) _ (c .before .before .put-token .ensures),
-      k .read .ensures .memo,
+      k .read-for-tokens .ensures .memo,
     )
 
 waiting-after-requires : tie.Need-waiting-after-requires Inv-loop μ-loop
@@ -183,7 +183,7 @@ loop-less-2 c =
     omega (arith, t .some-bytes, t .within, writing-less (waited c))
 
 loop-again-2 : tie.Need-loop-again-2 Inv-loop μ-loop
-loop-again-2 c = (waited c, c .before .before .before .before .before .before .before .read .ensures .memo)
+loop-again-2 c = (waited c, c .before .before .before .before .before .before .before .read-for-tokens .ensures .memo)
 
 returns : tie.Need-returns Inv-loop μ-loop
 returns c =
@@ -233,7 +233,7 @@ loop-again-3 c =
     let k = c .before .before .before .before .before .before .before .before .before .before .before .before in
     let j = k .before .before .before .before .before .before .before in (
       due-put (settled (c .before .before .before .before)) (j .pre .1 .1 .1) _ (c .before .before .put-token2 .ensures),
-      k .read .ensures .memo,
+      k .read-for-tokens .ensures .memo,
     )
 
 returns-2 : tie.Need-returns-2 Inv-loop μ-loop
@@ -286,7 +286,7 @@ write-tokens-spec =
     μ-loop
     (λ c κs. search needs)
     loop-holds
-    read-requires
+    read-for-tokens-requires
     add-next
     find-turn-requires
     state-after-requires

@@ -5,8 +5,8 @@ use borrow.Author.Needs.{needs}
 use Rattle.token.proofs.list_checked.Statement.{statement}
 use Rattle.token.proofs.list_checked.Tie as tie
 
-fill-table-requires : tie.Need-fill-table-requires
-fill-table-requires c κs = search needs
+fill-token-table-requires : tie.Need-fill-token-table-requires
+fill-token-table-requires c κs = search needs
 
 count-by-requires : tie.Need-count-by-requires
 count-by-requires c κs = search needs
@@ -25,7 +25,7 @@ write-tokens-requires c κs =
     let n = sym (c .before .before .before .before .counted2 .given .1) ∙ c .before .before .before .before .before .before .count-by .ensures in
     let a = c .before .before .before .before .before .before .before .before .before .before .before .before .pre in
     let b = c .before .before .before .before .before .before .before .before in
-    (a, (b .fill-table .ensures, list-fits _ _ (b .before .before .before .before .args .out .now) a _ n (c .before .before .if1 .left)))
+    (a, (b .fill-token-table .ensures, list-fits _ _ (b .before .before .before .before .args .out .now) a _ n (c .before .before .if1 .left)))
 
 returns-2 : tie.Need-returns-2
 returns-2 c = list-refused _ _ _ (sym (c .before .counted .given .1) ∙ c .before .before .before .count-by .ensures)
@@ -45,7 +45,7 @@ pub list-checked-spec : {M : Type 1} → statement M
 list-checked-spec =
     tie.close
     (tie.spec
-    fill-table-requires
+    fill-token-table-requires
     count-by-requires
     enum-known-counted
     enum-known-counted-2

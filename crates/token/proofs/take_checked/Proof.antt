@@ -29,8 +29,8 @@ returns c = taken-long _ _ _ (c .before .before .before .pre) (c .if1 .taken)
 returns-2 : tie.Need-returns-2
 returns-2 c = taken-past _ _ _ (c .before .before .before .before .pre) (c .before .if1 .left) (c .if2 .taken)
 
-fill-table-requires : tie.Need-fill-table-requires
-fill-table-requires c κs = search needs
+fill-token-table-requires : tie.Need-fill-token-table-requires
+fill-token-table-requires c κs = search needs
 
 sub-first-token : tie.Need-sub-first-token
 sub-first-token c = search needs
@@ -83,7 +83,7 @@ take-checked-spec =
     (tie.spec
     returns
     returns-2
-    fill-table-requires
+    fill-token-table-requires
     sub-first-token
     part-first-token-start
     part-first-token-end
