@@ -18,7 +18,7 @@ use lookup::Section;
 // What traits have more for a medial, and for role 5.
 const MEDIAL: u32 = 8;
 
-const HASHTAG: u32 = 16;
+pub const HASHTAG: u32 = 16;
 
 // Code points from `first` to `last` that have one class in a section of an image.
 pub struct Stretch {

@@ -117,7 +117,7 @@ module _ (s text : List ℕ) where
   unfolding listOf listWords writtenOf
   list-written out n e =
       let (ts, g, l) = counts-given (roomed (length out) (outcomeOf s text)) n e in
-      go (outcome-means (given ts) (roomed-given (length out) (outcomeOf s text) ts g .0)) l (ap (laidBy out) g)
+      go (outcome-means (given ts) (roomed-given (length out) (outcomeOf s text) ts g .0)) l (ap (laidBy listedWords out) g)
     where
       go : {ts : List (Tok Character Kind)} → OutcomeMeans (given ts) → length ts ≡ n → listWords s text out ≡ laid out 0 (listedWords ts) →
           (us : List (Tok Character Kind)) × Divided s text us [] × (length us ≡ n) × (listWords s text out ≡ laid out 0 (listedWords us))
@@ -126,4 +126,4 @@ module _ (s text : List ℕ) where
   -- "a refused call leaves every word that was lent as it was"
   pub list-kept : (out : List ℕ) (r : Refusal) → listOf s text (length out) ≡ refused r → listWords s text out ≡ out
   unfolding listOf listWords writtenOf
-  list-kept out r e = ap (laidBy out) (counts-refused (roomed (length out) (outcomeOf s text)) r e)
+  list-kept out r e = ap (laidBy listedWords out) (counts-refused (roomed (length out) (outcomeOf s text)) r e)

@@ -66,13 +66,21 @@ outcomeOf s text =
 unfoldable pub countOf : List ℕ → List ℕ → Outcome ℕ
 countOf s text = outcomeMap length (outcomeOf s text)
 
--- 8: the tokens need more room than a buffer of so many words has
-abbrev pub roomRefusal : ℕ → List (Tok Character Kind) → Option Refusal
-roomRefusal words ts = refusedIf (ltb (roomOf words) (length ts)) (refusal.Room (length ts))
+-- of tokens, or of anything that has a record each
+module _ {T : Type 0} where
+  -- 8: they need more room than a buffer of so many words has
+  abbrev pub roomRefusal : ℕ → List T → Option Refusal
+  roomRefusal words ts = refusedIf (ltb (roomOf words) (length ts)) (refusal.Room (length ts))
 
-abbrev pub roomed : ℕ → Outcome (List (Tok Character Kind)) → Outcome (List (Tok Character Kind))
-roomed words (given ts) = unless (roomRefusal words ts) (given ts)
-roomed words (refused r) = refused r
+  abbrev pub roomed : ℕ → Outcome (List T) → Outcome (List T)
+  roomed words (given ts) = unless (roomRefusal words ts) (given ts)
+  roomed words (refused r) = refused r
+
+  -- what the buffer holds after writing: the records' words from the first word on, and past them what was there; after a refusal,
+  -- what was there
+  abbrev pub laidBy : (List T → List ℕ) → List ℕ → Outcome (List T) → List ℕ
+  laidBy words out (given ts) = laid out 0 (words ts)
+  laidBy words out (refused r) = out
 
 -- the tokens that are written into a buffer of so many words
 unfoldable pub writtenOf : List ℕ → List ℕ → ℕ → Outcome (List (Tok Character Kind))
@@ -82,11 +90,6 @@ writtenOf s text words = roomed words (outcomeOf s text)
 unfoldable pub listOf : List ℕ → List ℕ → ℕ → Outcome ℕ
 listOf s text words = outcomeMap length (writtenOf s text words)
 
--- what the buffer holds after writing the list: the records' words from the first word on, and past them what was there;
--- after a refusal, what was there
-abbrev pub laidBy : List ℕ → Outcome (List (Tok Character Kind)) → List ℕ
-laidBy out (given ts) = laid out 0 (listedWords ts)
-laidBy out (refused r) = out
-
+-- what the buffer then holds
 unfoldable pub listWords : List ℕ → List ℕ → List ℕ → List ℕ
-listWords s text out = laidBy out (writtenOf s text (length out))
+listWords s text out = laidBy listedWords out (writtenOf s text (length out))

@@ -16,6 +16,7 @@ use Rattle.input.proofs.InputLaws.{means-whole, not-whole}
 use Rattle.grammar.specs.Scan.{Tok}
 use Rattle.grammar.specs.Grammar.{Kind}
 use Rattle.refusal.specs.Outcome.{Outcome, refused, outcomeMap}
+use Rattle.grammar.specs.Record.{listedWords}
 use Rattle.grammar.specs.Reading.{writtenOf, laidBy, listOf, listWords}
 use Rattle.scan.specs.declared.Counted.{Counted}
 use Rattle.scan.specs.declared.Counted.the-variants as counted
@@ -48,7 +49,7 @@ module _ (image text : List ℕ) (words : ℕ) where
 
 -- an answer and a buffer that an outcome gives
 abbrev pub Gives : Outcome (List (Tok Character Kind)) → Counted → List ℕ → List ℕ → Type 0
-Gives o r out out′ = (r ≡ countedBy (outcomeMap length o)) × (out′ ≡ laidBy out o)
+Gives o r out out′ = (r ≡ countedBy (outcomeMap length o)) × (out′ ≡ laidBy listedWords out o)
 
 pub gives-refused : {o : Outcome (List (Tok Character Kind))} {r : Refusal} (out : List ℕ) → o ≡ refused r → Gives o (counted.Refused r) out out
 gives-refused out e = rw e (refl, refl)

@@ -14,7 +14,7 @@ use Rattle.input.specs.Input.{imageIn, restIn as textIn, comesWhole, ComesWhole
 use Rattle.grammar.specs.Scan.{Tok}
 use Rattle.grammar.specs.Grammar.{Kind}
 use Rattle.refusal.specs.Outcome.{Outcome, refused, unless, refusedIf, outcomeMap}
-use Rattle.grammar.specs.Record.{recordSize}
+use Rattle.grammar.specs.Record.{recordSize, listedWords}
 use Rattle.grammar.specs.Reading.{writtenOf, laidBy, listOf}
 use Rattle.scan.specs.declared.Counted.{Counted}
 use Rattle.scan.specs.Counted.{countedBy}
@@ -41,7 +41,7 @@ unfoldable pub listedFrom : List ℕ → ℕ → Outcome ℕ
 listedFrom input words = outcomeMap length (writtenFrom input words)
 
 unfoldable pub wordsAfter : List ℕ → List ℕ → List ℕ
-wordsAfter input out = laidBy out (writtenFrom input (length out))
+wordsAfter input out = laidBy listedWords out (writtenFrom input (length out))
 
 -- the program's answer: there is room for a token at every byte of the longest text
 unfoldable pub wholeAnswer : List ℕ → Counted

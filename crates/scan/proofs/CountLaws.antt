@@ -9,8 +9,8 @@ use Rattle.refusal.specs.Outcome.{Outcome, refused, unless, outcomeMap}
 use Rattle.utf8.specs.declared.Text.{Text}
 use Rattle.utf8.specs.declared.Text.the-variants as form
 use Rattle.utf8.specs.Head.{IllHead}
-use Rattle.utf8.specs.Text.{Character, textOf}
-use Rattle.utf8.proofs.TextLaws.{shift, text-ill, end-here}
+use Rattle.utf8.specs.Text.{Character, textOf, shift}
+use Rattle.utf8.proofs.TextLaws.{text-ill, end-here}
 use Rattle.grammar.specs.Step.{idle, under, held, underWay, preceded, tokensLeft, settle, finish}
 use Rattle.grammar.specs.Grammar.{Kind}
 use Rattle.grammar.specs.Kinds.{kindOf}

@@ -9,8 +9,8 @@ use lib.ListN.{length, drop, length-append, drop-of-length-le}
 use lib.Seq.{drop-drop}
 use Rattle.utf8.specs.declared.Step.the-variants as utf8-step
 use Rattle.utf8.specs.Head.{stepOf, IllHead}
-use Rattle.utf8.specs.Text.{Character, decode, textOf}
-use Rattle.utf8.proofs.TextLaws.{decode-scalar, decode-ill, decode-empty, shift, shift-zero, turn}
+use Rattle.utf8.specs.Text.{Character, decode, textOf, shift}
+use Rattle.utf8.proofs.TextLaws.{decode-scalar, decode-ill, decode-empty, shift-zero, turn}
 use Rattle.image.specs.Check.{refusalOf}
 use Rattle.character.specs.Traits.{tokenTraits}
 use Rattle.character.specs.Read.{ReadTokenAs}

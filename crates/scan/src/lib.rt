@@ -16,7 +16,10 @@ ghost use Rattle.scan.specs.First.{firstOf, pendingFirst};
 use refusal::Refusal;
 use utf8::Text;
 
-// The words of a token's record.
+// The most bytes that a text may have.
+pub const MAX_TEXT: usize = 1048576;
+
+// The words of a token's record, and of a hashtag's.
 pub const RECORD_WORDS: usize = 3;
 
 // The state of a reader: nothing yet; a token of this kind, 1 to 3; an identifier with a medial after it that waits for the next character:
@@ -305,8 +308,8 @@ pub fn count_tokens<'a>(image: &'a [u8], table: &'a [u8; 128], text: &'a [u8]) -
     Counted::Tokens(all)
 }
 
-// The words of a token at the front of a part of the buffer.
-fn put_token(out: &mut [u32], kind: u32, start: usize, end: usize)
+// The words of a record at the front of a part of the buffer.
+pub fn put_record(out: &mut [u32], kind: u32, start: usize, end: usize)
     requires { ⌜ (start ≤ maxText) × (end ≤ maxText) ⌝ }
     requires { ⌜ recordSize ≤ length (now out) ⌝ }
     ensures { λ _. ⌜ now (out .exit) ≡ laid (now (out .entry)) 0 (tokenWords kind start end) ⌝ }
@@ -357,7 +360,7 @@ pub fn write_tokens<'a>(image: &'a [u8], table: &'a [u8; 128], text: &'a [u8], o
             state = state_after(&after, c.traits);
             start = pick_start(turn, start, at);
             w += RECORD_WORDS * turn;
-            put_token(&mut out[w..], state, start, next);
+            put_record(&mut out[w..], state, start, next);
             at = next;
             continue;
         }
@@ -374,14 +377,14 @@ pub fn write_tokens<'a>(image: &'a [u8], table: &'a [u8; 128], text: &'a [u8], o
             state -= WAITING;
             start = mid;
             w += RECORD_WORDS;
-            put_token(&mut out[w..], state, start, at);
+            put_record(&mut out[w..], state, start, at);
             continue;
         }
         return;
     }
     if WAITING < state {
         w += RECORD_WORDS;
-        put_token(&mut out[w..], state - WAITING, mid, at);
+        put_record(&mut out[w..], state - WAITING, mid, at);
     }
 }
 

@@ -68,7 +68,7 @@ module _ (s text : List ℕ) where
     abbrev pub Gives : Counted → List ℕ → Type 0
     Gives r out′ = (r ≡ countedBy (listOf s text (length out))) × (out′ ≡ listWords s text out)
 
-    gives : (o : Outcome (List (Tok Character Kind))) → writtenOf s text (length out) ≡ o → Gives (countedBy (outcomeMap length o)) (laidBy out o)
+    gives : (o : Outcome (List (Tok Character Kind))) → writtenOf s text (length out) ≡ o → Gives (countedBy (outcomeMap length o)) (laidBy listedWords out o)
     unfolding listOf listWords
     gives o e = rw e (refl, refl)
 

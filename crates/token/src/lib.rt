@@ -12,10 +12,8 @@ use image::Answer;
 use refusal::Refusal;
 use scan::Counted;
 use scan::First;
+use scan::MAX_TEXT;
 use scan::RECORD_WORDS;
-
-// The most bytes that a text may have.
-pub const MAX_TEXT: usize = 1048576;
 
 // The token at a place, or that the text ends there, or why not.
 pub enum Taken {

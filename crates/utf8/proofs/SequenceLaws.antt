@@ -6,28 +6,27 @@ use mathlib.Core.Bool.{Bool, true, false, false≢true, cond}
 use mathlib.Core.List.{List, [], _∷_, _++_, append-nil}
 use mathlib.Core.Logic.{inl, inr}
 use native.Mathlib.Omega.{arith}
-use lib.ListN.{length, take, drop, length-append, length-take, take-append-drop}
+use lib.ListN.{length, take, drop, getD, length-append, length-take, take-append-drop}
+use lib.Dec.{ltb}
+use borrow.Author.Tests.{lt-ltb, le-ltb}
 use Rattle.lists.proofs.BoolLaws.{and-left, and-right, impossible}
 use Rattle.utf8.specs.declared.Step.{Step}
 use Rattle.utf8.specs.declared.Step.the-variants.{Scalar, IllFormed, End}
 use Rattle.utf8.specs.Scalar.{isScalar, below-surrogates, above-surrogates}
 use Rattle.utf8.specs.Table.{Bytes, _to_, Row, table, inside, fits, Fills, FillsOne, Sequence, codePoint}
 use Rattle.utf8.specs.Subpart.{subpartOf, Subpart, MaximalSubpart}
+use Rattle.utf8.specs.Lead.{knownLength}
 use Rattle.utf8.specs.Head.{stepIn, stepOf, IllHead, NoSequence, StepMeans, sequence, no-sequence, empty}
 use Rattle.utf8.proofs.ScalarLaws.{means-scalar}
 use Rattle.utf8.proofs.TableLaws.{inside-in, inside-out, inside-above}
 use Rattle.utf8.proofs.SubpartLaws.{subpart-means, subpart-unique}
 use Rattle.utf8.proofs.LeadLaws.{rising, rising-parts, at-end}
 
--- every sequence has one to four bytes and stands for a scalar value
 low : (x : ℕ) → x < 0xD800 → isScalar x ≡ true
 low x h = means-scalar x true (below-surrogates h)
 
 high : (x : ℕ) → 0xE000 ≤ x → x ≤ 0x10FFFF → isScalar x ≡ true
 high x h l = means-scalar x true (above-surrogates h l)
-
-abbrev Right : List ℕ → Type 0
-Right q = (0 < length q) × (length q ≤ 4) × (isScalar (codePoint q) ≡ true)
 
 abbrev within : Bytes → ℕ → Type 0
 within g b = (g .low ≤ b) × (b ≤ g .high)
@@ -36,50 +35,95 @@ abbrev later : ℕ → Type 0
 later b = (0x80 ≤ b) × (b ≤ 0xBF)
 
 -- the bytes of a row of one, two, three and four ranges
-row-1 : (g : Bytes) → ((b : ℕ) → within g b → isScalar (codePoint (b ∷ [])) ≡ true) → (q : List ℕ) → Fills (g ∷ []) q → Right q
-row-1 g k (b ∷ []) f = (omega arith, omega arith, k b (f .0, f .1))
-row-1 g k (b ∷ c ∷ q) f = absurd (f .2)
+module _ (P : List ℕ → Type 0) where
+  row-1 : (g : Bytes) → ((b : ℕ) → within g b → P (b ∷ [])) → (q : List ℕ) → Fills (g ∷ []) q → P q
+  row-1 g k (b ∷ []) f = k b (f .0, f .1)
+  row-1 g k (b ∷ c ∷ q) f = absurd (f .2)
 
-row-2 : (g h : Bytes) → ((b c : ℕ) → within g b → within h c → isScalar (codePoint (b ∷ c ∷ [])) ≡ true) → (q : List ℕ) → Fills (g ∷ h ∷ []) q → Right q
-row-2 g h k (b ∷ []) f = absurd (f .2)
-row-2 g h k (b ∷ c ∷ []) f = (omega arith, omega arith, k b c (f .0, f .1) (f .2 .0, f .2 .1))
-row-2 g h k (b ∷ c ∷ d ∷ q) f = absurd (f .2 .2)
+  row-2 : (g h : Bytes) → ((b c : ℕ) → within g b → within h c → P (b ∷ c ∷ [])) → (q : List ℕ) → Fills (g ∷ h ∷ []) q → P q
+  row-2 g h k (b ∷ []) f = absurd (f .2)
+  row-2 g h k (b ∷ c ∷ []) f = k b c (f .0, f .1) (f .2 .0, f .2 .1)
+  row-2 g h k (b ∷ c ∷ d ∷ q) f = absurd (f .2 .2)
 
-row-3 : (g h : Bytes) → ((b c d : ℕ) → within g b → within h c → later d → isScalar (codePoint (b ∷ c ∷ d ∷ [])) ≡ true) →
-    (q : List ℕ) → Fills (g ∷ h ∷ 0x80 to 0xBF ∷ []) q → Right q
-row-3 g h k (b ∷ []) f = absurd (f .2)
-row-3 g h k (b ∷ c ∷ []) f = absurd (f .2 .2)
-row-3 g h k (b ∷ c ∷ d ∷ []) f = (omega arith, omega arith, k b c d (f .0, f .1) (f .2 .0, f .2 .1) (f .2 .2 .0, f .2 .2 .1))
-row-3 g h k (b ∷ c ∷ d ∷ e ∷ q) f = absurd (f .2 .2 .2)
+  row-3 : (g h : Bytes) → ((b c d : ℕ) → within g b → within h c → later d → P (b ∷ c ∷ d ∷ [])) →
+      (q : List ℕ) → Fills (g ∷ h ∷ 0x80 to 0xBF ∷ []) q → P q
+  row-3 g h k (b ∷ []) f = absurd (f .2)
+  row-3 g h k (b ∷ c ∷ []) f = absurd (f .2 .2)
+  row-3 g h k (b ∷ c ∷ d ∷ []) f = k b c d (f .0, f .1) (f .2 .0, f .2 .1) (f .2 .2 .0, f .2 .2 .1)
+  row-3 g h k (b ∷ c ∷ d ∷ e ∷ q) f = absurd (f .2 .2 .2)
 
-row-4 : (g h : Bytes) → ((b c d e : ℕ) → within g b → within h c → later d → later e → isScalar (codePoint (b ∷ c ∷ d ∷ e ∷ [])) ≡ true) →
-    (q : List ℕ) → Fills (g ∷ h ∷ 0x80 to 0xBF ∷ 0x80 to 0xBF ∷ []) q → Right q
-row-4 g h k (b ∷ []) f = absurd (f .2)
-row-4 g h k (b ∷ c ∷ []) f = absurd (f .2 .2)
-row-4 g h k (b ∷ c ∷ d ∷ []) f = absurd (f .2 .2 .2)
-row-4 g h k (b ∷ c ∷ d ∷ e ∷ []) f =
-    (omega arith, omega arith, k b c d e (f .0, f .1) (f .2 .0, f .2 .1) (f .2 .2 .0, f .2 .2 .1) (f .2 .2 .2 .0, f .2 .2 .2 .1))
-row-4 g h k (b ∷ c ∷ d ∷ e ∷ x ∷ q) f = absurd (f .2 .2 .2 .2)
+  row-4 : (g h : Bytes) → ((b c d e : ℕ) → within g b → within h c → later d → later e → P (b ∷ c ∷ d ∷ e ∷ [])) →
+      (q : List ℕ) → Fills (g ∷ h ∷ 0x80 to 0xBF ∷ 0x80 to 0xBF ∷ []) q → P q
+  row-4 g h k (b ∷ []) f = absurd (f .2)
+  row-4 g h k (b ∷ c ∷ []) f = absurd (f .2 .2)
+  row-4 g h k (b ∷ c ∷ d ∷ []) f = absurd (f .2 .2 .2)
+  row-4 g h k (b ∷ c ∷ d ∷ e ∷ []) f = k b c d e (f .0, f .1) (f .2 .0, f .2 .1) (f .2 .2 .0, f .2 .2 .1) (f .2 .2 .2 .0, f .2 .2 .2 .1)
+  row-4 g h k (b ∷ c ∷ d ∷ e ∷ x ∷ q) f = absurd (f .2 .2 .2 .2)
+
+-- the length that a first byte tells
+known-1 : (b : ℕ) → b < 0x80 → 1 ≡ knownLength b
+unfolding knownLength
+known-1 b h = rw (lt-ltb b 0x80 h)
+
+known-2 : (b : ℕ) → 0x80 ≤ b → b < 0xE0 → 2 ≡ knownLength b
+unfolding knownLength
+known-2 b h l = rw (le-ltb b 0x80 h, lt-ltb b 0xE0 l)
+
+known-3 : (b : ℕ) → 0xE0 ≤ b → b < 0xF0 → 3 ≡ knownLength b
+unfolding knownLength
+known-3 b h l = rw (le-ltb b 0x80 (omega arith), le-ltb b 0xE0 h, lt-ltb b 0xF0 l)
+
+known-4 : (b : ℕ) → 0xF0 ≤ b → 4 ≡ knownLength b
+unfolding knownLength
+known-4 b h = rw (le-ltb b 0x80 (omega arith), le-ltb b 0xE0 (omega arith), le-ltb b 0xF0 h)
+
+known-bounds : (b : ℕ) → (1 ≤ knownLength b) × (knownLength b ≤ 4)
+unfolding knownLength
+known-bounds b = go (ltb b 0x80) (ltb b 0xE0) (ltb b 0xF0)
+  where
+    go : (x y z : Bool) → (1 ≤ cond x 1 (cond y 2 (cond z 3 4))) × (cond x 1 (cond y 2 (cond z 3 4)) ≤ 4)
+    go true y z = (omega arith, omega arith)
+    go false true z = (omega arith, omega arith)
+    go false false true = (omega arith, omega arith)
+    go false false false = (omega arith, omega arith)
+
+-- what holds of every sequence: it stands for a scalar value, and its first byte tells its length, and which sequences stand for ASCII and for
+-- the code points from F000 to FFFF
+pub record Right (q : List ℕ) : Type 0 where
+  pub scalar : isScalar (codePoint q) ≡ true
+  pub long : length q ≡ knownLength (getD q 0 0)
+  pub ascii : codePoint q < 0x80 → getD q 0 0 ≡ codePoint q
+  pub high : 0xF000 ≤ codePoint q → codePoint q ≤ 0xFFFF → getD q 0 0 ≡ 0xEF
 
 -- one line for each row of the table
 right : (q : List ℕ) → FillsOne table q → Right q
-right q (inl f) = row-1 _ (λ b u. low _ (omega arith)) q f
-right q (inr (inl f)) = row-2 _ _ (λ b c u v. low _ (omega arith)) q f
-right q (inr (inr (inl f))) = row-3 _ _ (λ b c d u v w. low _ (omega arith)) q f
-right q (inr (inr (inr (inl f)))) = row-3 _ _ (λ b c d u v w. low _ (omega arith)) q f
-right q (inr (inr (inr (inr (inl f))))) = row-3 _ _ (λ b c d u v w. low _ (omega arith)) q f
-right q (inr (inr (inr (inr (inr (inl f)))))) = row-3 _ _ (λ b c d u v w. high _ (omega arith) (omega arith)) q f
-right q (inr (inr (inr (inr (inr (inr (inl f))))))) = row-4 _ _ (λ b c d e u v w x. high _ (omega arith) (omega arith)) q f
-right q (inr (inr (inr (inr (inr (inr (inr (inl f)))))))) = row-4 _ _ (λ b c d e u v w x. high _ (omega arith) (omega arith)) q f
-right q (inr (inr (inr (inr (inr (inr (inr (inr (inl f))))))))) = row-4 _ _ (λ b c d e u v w x. high _ (omega arith) (omega arith)) q f
+right q (inl f) = row-1 Right _ (λ b u. record { scalar = low _ (omega arith); long = known-1 b (omega arith); ascii = λ h. refl; high = λ h l. absurd (omega arith) }) q f
+right q (inr (inl f)) =
+    row-2 Right _ _ (λ b c u v. record { scalar = low _ (omega arith); long = known-2 b (omega arith) (omega arith); ascii = λ h. absurd (omega arith); high = λ h l. absurd (omega arith) }) q f
+right q (inr (inr (inl f))) =
+    row-3 Right _ _ (λ b c d u v w. record { scalar = low _ (omega arith); long = known-3 b (omega arith) (omega arith); ascii = λ h. absurd (omega arith); high = λ h l. absurd (omega arith) }) q f
+right q (inr (inr (inr (inl f)))) =
+    row-3 Right _ _ (λ b c d u v w. record { scalar = low _ (omega arith); long = known-3 b (omega arith) (omega arith); ascii = λ h. absurd (omega arith); high = λ h l. absurd (omega arith) }) q f
+right q (inr (inr (inr (inr (inl f))))) =
+    row-3 Right _ _ (λ b c d u v w. record { scalar = low _ (omega arith); long = known-3 b (omega arith) (omega arith); ascii = λ h. absurd (omega arith); high = λ h l. absurd (omega arith) }) q f
+right q (inr (inr (inr (inr (inr (inl f)))))) =
+    row-3 Right _ _ (λ b c d u v w. record { scalar = high _ (omega arith) (omega arith); long = known-3 b (omega arith) (omega arith); ascii = λ h. absurd (omega arith); high = λ h l. omega arith }) q f
+right q (inr (inr (inr (inr (inr (inr (inl f))))))) =
+    row-4 Right _ _ (λ b c d e u v w x. record { scalar = high _ (omega arith) (omega arith); long = known-4 b (omega arith); ascii = λ h. absurd (omega arith); high = λ h l. absurd (omega arith) }) q f
+right q (inr (inr (inr (inr (inr (inr (inr (inl f)))))))) =
+    row-4 Right _ _ (λ b c d e u v w x. record { scalar = high _ (omega arith) (omega arith); long = known-4 b (omega arith); ascii = λ h. absurd (omega arith); high = λ h l. absurd (omega arith) }) q f
+right q (inr (inr (inr (inr (inr (inr (inr (inr (inl f))))))))) =
+    row-4 Right _ _ (λ b c d e u v w x. record { scalar = high _ (omega arith) (omega arith); long = known-4 b (omega arith); ascii = λ h. absurd (omega arith); high = λ h l. absurd (omega arith) }) q f
+
+pub sequence-right : (q : List ℕ) → Sequence q → Right q
+unfolding Sequence
+sequence-right q f = right q f
 
 pub sequence-length : (q : List ℕ) → Sequence q → (0 < length q) × (length q ≤ 4)
-unfolding Sequence
-sequence-length q f = let r = right q f in (r .0, r .1)
+sequence-length q f = let l = sequence-right q f .long in (omega (arith, known-bounds (getD q 0 0) .0), omega (arith, known-bounds (getD q 0 0) .1))
 
 pub sequence-scalar : (q : List ℕ) → Sequence q → isScalar (codePoint q) ≡ true
-unfolding Sequence
-sequence-scalar q f = (right q f) .2
+sequence-scalar q f = sequence-right q f .scalar
 
 pub not-empty : Sequence [] → ⊥
 not-empty f = let l = sequence-length [] f in omega arith

@@ -7,7 +7,8 @@ use mathlib.Core.List.{List, [], _∷_}
 use native.Mathlib.Nat.{add-assoc}
 use native.Mathlib.Omega.{arith}
 use lib.ListN.{length, take, drop, getD, length-append, length-take, length-drop, take-append-drop, drop-of-length-le}
-use lib.Seq.{drop-drop, drop-append-seam, getD-drop}
+use lib.Seq.{drop-drop, drop-append-seam, getD-drop, getD-take}
+use Rattle.lists.proofs.BoolLaws.{impossible}
 use Rattle.utf8.specs.declared.Step.{Step}
 use Rattle.utf8.specs.declared.Step.the-variants.{Scalar, IllFormed, End}
 use Rattle.utf8.specs.declared.Text.{Text}
@@ -16,7 +17,7 @@ use Rattle.utf8.specs.Scalar.{isScalar}
 use Rattle.utf8.specs.Table.{codePoint}
 use Rattle.utf8.specs.Subpart.{subpartOf, MaximalSubpart}
 use Rattle.utf8.specs.Head.{stepOf, IllHead, NoSequence, StepMeans, sequence, no-sequence, empty}
-use Rattle.utf8.specs.Lead.{packed}
+use Rattle.utf8.specs.Lead.{packed, lengthOf, knownLength}
 use Rattle.utf8.specs.Text.{
   Character,
   Decoded,
@@ -28,6 +29,7 @@ use Rattle.utf8.specs.Text.{
   widthOf,
   textBy,
   textOf,
+  shift,
   characterOf,
   Encoded,
   ends,
@@ -48,6 +50,7 @@ use Rattle.utf8.proofs.SequenceLaws.{
   ill-at,
   no-sequence-at,
   step-means,
+  sequence-right,
   end-empty,
   ill-not-empty,
   none-empty,
@@ -70,6 +73,24 @@ step-bounds s x n e =
     let c = simp length-take at m in
     record { some-bytes = omega arith; short = omega arith; within = omega arith; scalar = ap isScalar (f .code) ∙ sequence-scalar (take n s) (f .sequence) }
 
+-- what the first byte of a sequence tells
+pub record FirstByte (s : List ℕ) (x n : ℕ) : Type 0 where
+  pub long : n ≡ knownLength (getD s 0 0)
+  pub ascii : x < 0x80 → getD s 0 0 ≡ x
+  pub high : 0xF000 ≤ x → x ≤ 0xFFFF → getD s 0 0 ≡ 0xEF
+
+pub first-byte : (s : List ℕ) (x n : ℕ) → stepOf s ≡ Scalar x n → FirstByte s x n
+first-byte s x n e =
+    let f = sequence-of-step s x n e in
+    let r = sequence-right (take n s) (f .sequence) in
+    let c = f .code in
+    let b : getD (take n s) 0 0 ≡ getD s 0 0 = getD-take n s 0 0 (step-bounds s x n e .some-bytes) in
+    record {
+      long = f .long ∙ r .long ∙ ap knownLength b;
+      ascii = λ h. sym b ∙ r .ascii (omega arith) ∙ sym c;
+      high = λ h l. sym b ∙ r .high (omega arith) (omega arith);
+    }
+
 -- what a packed sequence tells: the length is its last octal digit, the code point the others
 pub record Unpacked (s : List ℕ) (d : ℕ) : Type 0 where
   pub none : d % 8 ≡ 0 → IllHead s
@@ -88,6 +109,14 @@ unpacked-by s (Scalar x n) e h =
     }
 unpacked-by s (IllFormed n) e h = record { none = λ z. ill-at s n e; some = λ z. absurd (omega arith); small = omega arith }
 unpacked-by s End e h = let l = ap length (end-empty s e) in absurd (omega arith)
+
+pub unpacked-length : (s : List ℕ) (d : ℕ) → d ≡ packed (stepOf s) → d % 8 ≡ lengthOf (stepOf s)
+unpacked-length s d e = ap (λ (k : ℕ). k % 8) e ∙ go (stepOf s) refl
+  where
+    go : (t : Step) → stepOf s ≡ t → packed t % 8 ≡ lengthOf t
+    go (Scalar x n) e = omega (arith, step-bounds s x n e .short)
+    go (IllFormed n) e = refl
+    go End e = refl
 
 pub unpacked : (s : List ℕ) (d : ℕ) → d ≡ packed (stepOf s) → 0 < length s → Unpacked s d
 unpacked s d e h = subst (λ (k : ℕ). Unpacked s k) (sym e) (unpacked-by s (stepOf s) refl h)
@@ -234,13 +263,17 @@ text-ill s e =
     let l = ill-not-empty s e in
     means-text s (text.IllFormed 0 (subpartOf s)) (ill-formed (ends (no-sequence-at s e)) l refl (subpart-means s l))
 
+-- at the head of a well-formed text stands a sequence, and its first byte tells its length
+pub known-length : (s : List ℕ) → 0 < length s → textOf s ≡ text.WellFormed → knownLength (getD s 0 0) ≡ lengthOf (stepOf s)
+known-length s h w = go (stepOf s) refl
+  where
+    go : (t : Step) → stepOf s ≡ t → knownLength (getD s 0 0) ≡ lengthOf t
+    go (Scalar x n) e = sym (first-byte s x n e .long)
+    go (IllFormed n) e = impossible (cc (text-ill s (ill-at s n e)))
+    go End e = absurd (omega (arith, ap length (end-empty s e)))
+
 pub text-end : (s : List ℕ) → s ≡ [] → textOf s ≡ text.WellFormed
 text-end s e = rest-well s (ap (λ (c : Decoded). c .rest) (means-decode (ends (none-empty s e))) ∙ e)
-
--- the first ill-formed place, from a later place on
-abbrev pub shift : ℕ → Text → Text
-shift k text.WellFormed = text.WellFormed
-shift k (text.IllFormed p n) = text.IllFormed (k + p) n
 
 shift-by : (k p : ℕ) (r : List ℕ) → textBy (k + p) r ≡ shift k (textBy p r)
 shift-by k p [] = refl

@@ -52,3 +52,13 @@ abbrev pub packed : Step → ℕ
 packed (Scalar x n) = x * 8 + n
 packed (IllFormed n) = 0
 packed End = 0
+
+-- the length of a sequence; 0 where there is none
+abbrev pub lengthOf : Step → ℕ
+lengthOf (Scalar x n) = n
+lengthOf (IllFormed n) = 0
+lengthOf End = 0
+
+-- the length that the first byte of a well-formed sequence tells
+unfoldable pub knownLength : ℕ → ℕ
+knownLength b = cond (ltb b 0x80) 1 (cond (ltb b 0xE0) 2 (cond (ltb b 0xF0) 3 4))

@@ -55,6 +55,11 @@ textBy p (b ∷ r) = text.IllFormed p (subpartOf (b ∷ r))
 unfoldable pub textOf : List ℕ → Text
 textOf s = textBy (widthOf (decode s .characters)) (decode s .rest)
 
+-- what is said of a part that begins at byte k, said of the whole
+abbrev pub shift : ℕ → Text → Text
+shift k text.WellFormed = text.WellFormed
+shift k (text.IllFormed p n) = text.IllFormed (k + p) n
+
 -- what `decode` means: well-formed sequences one after the other, up to the place where none begins
 abbrev pub characterOf : List ℕ → Character
 characterOf q = record { code = codePoint q; width = length q }

@@ -7,7 +7,7 @@ ghost use Rattle.utf8.specs.Scalar.{isScalar};
 ghost use Rattle.utf8.specs.Table.{_to_, codePoint};
 ghost use Rattle.utf8.specs.Subpart.{subpartOf};
 ghost use Rattle.utf8.specs.Head.{stepOf, IllHead};
-ghost use Rattle.utf8.specs.Lead.{leadOf, byteFits, packed};
+ghost use Rattle.utf8.specs.Lead.{leadOf, byteFits, packed, knownLength};
 ghost use Rattle.utf8.specs.Text.{textOf};
 ghost use mathlib.Core.List.{[], _∷_};
 
@@ -182,6 +182,22 @@ pub fn decode_packed(s: &[u8], at: usize) -> usize
     ensures { λ r. ⌜ r ≡ packed (stepOf (drop at (now (s .entry)))) ⌝ }
 {
     pack(&s[at..])
+}
+
+// The length of a well-formed sequence, by its first byte alone.
+pub fn measure_known(b: u8) -> usize
+    ensures { λ r. ⌜ r ≡ knownLength b ⌝ }
+{
+    if b < 0x80 {
+        return 1;
+    }
+    if b < 0xE0 {
+        return 2;
+    }
+    if b < 0xF0 {
+        return 3;
+    }
+    4
 }
 
 // The length of the maximal subpart at the head of `s`, where no sequence begins.

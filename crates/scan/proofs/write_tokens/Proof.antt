@@ -134,23 +134,23 @@ add-w c =
     let k = c .before .before .before .before .before .before .before .before .before .before .before .before .before .before .before in
     omega (arith, due-fits (turned c) (k .pre .1 .1 .1), k)
 
-mul-put-token : tie.Need-mul-put-token Inv-loop μ-loop
-mul-put-token c =
+mul-put-record : tie.Need-mul-put-record Inv-loop μ-loop
+mul-put-record c =
     let k = c .before .before .before .before .before .before .before .before .before .before .before .before .before .before .before in
     omega (arith, due-fits (turned c) (k .pre .1 .1 .1), k)
 
-sub-put-token : tie.Need-sub-put-token Inv-loop μ-loop
-sub-put-token c =
+sub-put-record : tie.Need-sub-put-record Inv-loop μ-loop
+sub-put-record c =
     let k = c .before .before .before .before .before .before .before .before .before .before .before .before .before .before .before in
     omega (arith, due-room (turned c) (k .pre .1 .1 .1))
 
-part-put-token-start : tie.Need-part-put-token-start Inv-loop μ-loop
-part-put-token-start c =
+part-put-record-start : tie.Need-part-put-record-start Inv-loop μ-loop
+part-put-record-start c =
     let k = c .before .before .before .before .before .before .before .before .before .before .before .before .before .before .before in
     omega (arith, due-room (turned c) (k .pre .1 .1 .1))
 
-put-token-requires : tie.Need-put-token-requires Inv-loop μ-loop
-put-token-requires c κs =
+put-record-requires : tie.Need-put-record-requires Inv-loop μ-loop
+put-record-requires c κs =
     let k = c .before .before .before .before .before .before .before .before .before .before .before .before .before .before .before .before in
     let p = k .pre .1 .1 in
     let b = due-bounds (turned (c .before)) (p .1) in
@@ -161,14 +161,14 @@ loop-less c =
     let k = c .before .before .before .before .before .before .before .before .before .before in
     let j = k .before .before .before .before .before .before .before .before .before in
     let t = stands (k) in
-    let i = due-put (turned (c .before .before .before .before)) (j .pre .1 .1 .1) _ (c .before .before .put-token .ensures) in
+    let i = due-put (turned (c .before .before .before .before)) (j .pre .1 .1 .1) _ (c .before .before .put-record .ensures) in
     omega (arith, t .some-bytes, t .within, writing-less i)
 
 loop-again : tie.Need-loop-again Inv-loop μ-loop
 loop-again c =
     let k = c .before .before .before .before .before .before .before .before .before .before .before .before in
     let j = k .before .before .before .before .before .before .before in (
-      due-put (turned (c .before .before .before .before)) (j .pre .1 .1 .1) _ (c .before .before .put-token .ensures),
+      due-put (turned (c .before .before .before .before)) (j .pre .1 .1 .1) _ (c .before .before .put-record .ensures),
       k .read-for-tokens .ensures .memo,
     )
 
@@ -200,23 +200,23 @@ add-w-2 c =
     let k = c .before .before .before .before .before .before .before .before .before .before .before .before .before .before .before in
     omega (arith, due-fits (settled c) (k .pre .1 .1 .1), k)
 
-mul-put-token-2 : tie.Need-mul-put-token-2 Inv-loop μ-loop
-mul-put-token-2 c =
+mul-put-record-2 : tie.Need-mul-put-record-2 Inv-loop μ-loop
+mul-put-record-2 c =
     let k = c .before .before .before .before .before .before .before .before .before .before .before .before .before .before .before in
     omega (arith, due-fits (settled c) (k .pre .1 .1 .1), k)
 
-sub-put-token-2 : tie.Need-sub-put-token-2 Inv-loop μ-loop
-sub-put-token-2 c =
+sub-put-record-2 : tie.Need-sub-put-record-2 Inv-loop μ-loop
+sub-put-record-2 c =
     let k = c .before .before .before .before .before .before .before .before .before .before .before .before .before .before .before in
     omega (arith, due-room (settled c) (k .pre .1 .1 .1))
 
-part-put-token-start-2 : tie.Need-part-put-token-start-2 Inv-loop μ-loop
-part-put-token-start-2 c =
+part-put-record-start-2 : tie.Need-part-put-record-start-2 Inv-loop μ-loop
+part-put-record-start-2 c =
     let k = c .before .before .before .before .before .before .before .before .before .before .before .before .before .before .before in
     omega (arith, due-room (settled c) (k .pre .1 .1 .1))
 
-put-token-requires-2 : tie.Need-put-token-requires-2 Inv-loop μ-loop
-put-token-requires-2 c κs =
+put-record-requires-2 : tie.Need-put-record-requires-2 Inv-loop μ-loop
+put-record-requires-2 c κs =
     let k = c .before .before .before .before .before .before .before .before .before .before .before .before .before .before .before .before in
     let p = k .pre .1 .1 in
     let b = due-bounds (settled (c .before)) (p .1) in
@@ -232,7 +232,7 @@ loop-again-3 : tie.Need-loop-again-3 Inv-loop μ-loop
 loop-again-3 c =
     let k = c .before .before .before .before .before .before .before .before .before .before .before .before in
     let j = k .before .before .before .before .before .before .before in (
-      due-put (settled (c .before .before .before .before)) (j .pre .1 .1 .1) _ (c .before .before .put-token2 .ensures),
+      due-put (settled (c .before .before .before .before)) (j .pre .1 .1 .1) _ (c .before .before .put-record2 .ensures),
       k .read-for-tokens .ensures .memo,
     )
 
@@ -246,19 +246,19 @@ add-w-3 c =
     let k = c .before .before .before .before .before .before .before in
     omega (arith, due-fits (last c) (k .pre .1 .1 .1), k)
 
-mul-put-token-3 : tie.Need-mul-put-token-3 Inv-loop μ-loop
-mul-put-token-3 c =
+mul-put-record-3 : tie.Need-mul-put-record-3 Inv-loop μ-loop
+mul-put-record-3 c =
     let k = c .before .before .before .before .before .before .before in
     omega (arith, due-fits (last c) (k .pre .1 .1 .1), k)
 
-sub-put-token-3 : tie.Need-sub-put-token-3 Inv-loop μ-loop
-sub-put-token-3 c = omega (arith, due-room (last c) (c .before .before .before .before .before .before .before .pre .1 .1 .1))
+sub-put-record-3 : tie.Need-sub-put-record-3 Inv-loop μ-loop
+sub-put-record-3 c = omega (arith, due-room (last c) (c .before .before .before .before .before .before .before .pre .1 .1 .1))
 
-part-put-token-start-3 : tie.Need-part-put-token-start-3 Inv-loop μ-loop
-part-put-token-start-3 c = omega (arith, due-room (last c) (c .before .before .before .before .before .before .before .pre .1 .1 .1))
+part-put-record-start-3 : tie.Need-part-put-record-start-3 Inv-loop μ-loop
+part-put-record-start-3 c = omega (arith, due-room (last c) (c .before .before .before .before .before .before .before .pre .1 .1 .1))
 
-put-token-requires-3 : tie.Need-put-token-requires-3 Inv-loop μ-loop
-put-token-requires-3 c κs =
+put-record-requires-3 : tie.Need-put-record-requires-3 Inv-loop μ-loop
+put-record-requires-3 c κs =
     let p = c .before .before .before .before .before .before .before .before .pre .1 .1 in
     let b = due-bounds (last (c .before)) (p .1) in
     ((omega (arith, b .0, p .0), omega (arith, b .1, p .0)), due-part (last (c .before)) (p .1))
@@ -266,13 +266,13 @@ put-token-requires-3 c κs =
 same-length-3 : tie.Need-same-length-3 Inv-loop μ-loop
 same-length-3 c =
     let k = c .before .before .before .before .before .before .before .before .before .before .before in
-    due-put (last (c .before .before .before .before)) (k .pre .1 .1 .1) _ (c .before .before .put-token3 .ensures) .long
+    due-put (last (c .before .before .before .before)) (k .pre .1 .1 .1) _ (c .before .before .put-record3 .ensures) .long
 
 returns-3 : tie.Need-returns-3 Inv-loop μ-loop
 returns-3 c =
     let k = c .before .before .before .before .before in
     let l = last (c .before .before .before .before) in
-    let i = due-put l (k .before .before .before .before .before .before .pre .1 .1 .1) _ (c .before .before .put-token3 .ensures) in
+    let i = due-put l (k .before .before .before .before .before .before .pre .1 .1 .1) _ (c .before .before .put-record3 .ensures) in
     writes-end i (ended (k)) (omega (arith, writing-less (k .before .loop .inv .0)))
 
 returns-4 : tie.Need-returns-4 Inv-loop μ-loop
@@ -293,11 +293,11 @@ write-tokens-spec =
     (λ c κs. search needs)
     mul-w
     add-w
-    mul-put-token
-    sub-put-token
-    part-put-token-start
+    mul-put-record
+    sub-put-record
+    part-put-record-start
     (λ c. search needs)
-    put-token-requires
+    put-record-requires
     loop-less
     loop-again
     waiting-after-requires
@@ -307,22 +307,22 @@ write-tokens-spec =
     returns
     sub-state
     add-w-2
-    mul-put-token-2
-    sub-put-token-2
-    part-put-token-start-2
+    mul-put-record-2
+    sub-put-record-2
+    part-put-record-start-2
     (λ c. search needs)
-    put-token-requires-2
+    put-record-requires-2
     loop-less-3
     loop-again-3
     (λ c. search needs)
     returns-2
     add-w-3
-    mul-put-token-3
-    sub-put-token-3
-    part-put-token-start-3
+    mul-put-record-3
+    sub-put-record-3
+    part-put-record-start-3
     (λ c. search needs)
     (λ c. search needs)
-    put-token-requires-3
+    put-record-requires-3
     same-length-3
     returns-3
     (λ c. search needs)

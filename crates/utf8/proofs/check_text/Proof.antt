@@ -9,8 +9,8 @@ use Rattle.lists.proofs.LaidLaws.{rest}
 use Rattle.utf8.specs.declared.Text.the-variants as text
 use Rattle.utf8.specs.Subpart.{subpartOf}
 use Rattle.utf8.specs.Head.{IllHead}
-use Rattle.utf8.specs.Text.{textOf}
-use Rattle.utf8.proofs.TextLaws.{shift, shift-zero, Turn, turn, Unpacked, unpacked, ascii-turn, ill-here, end-here}
+use Rattle.utf8.specs.Text.{textOf, shift}
+use Rattle.utf8.proofs.TextLaws.{shift-zero, Turn, turn, Unpacked, unpacked, ascii-turn, ill-here, end-here}
 use Rattle.utf8.proofs.check_text.Statement.{statement}
 use Rattle.utf8.proofs.check_text.Tie as tie
 

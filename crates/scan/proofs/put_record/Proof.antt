@@ -1,10 +1,10 @@
--- `scan::put_token` meets its contract. Assumes nothing.
+-- `scan::put_record` meets its contract. Assumes nothing.
 use native.Mathlib.Omega.{arith}
 use lib.ListN.{length-set}
 use Rattle.scan.proofs.WriteLaws.{three-words}
 use borrow.Author.Needs.{needs}
-use Rattle.scan.proofs.put_token.Statement.{statement}
-use Rattle.scan.proofs.put_token.Tie as tie
+use Rattle.scan.proofs.put_record.Statement.{statement}
+use Rattle.scan.proofs.put_record.Tie as tie
 
 slice-write-out-2 : tie.Need-slice-write-out-2
 slice-write-out-2 c = simp length-set (omega arith)
@@ -15,8 +15,8 @@ slice-write-out-3 c = simp length-set (omega arith)
 returns : tie.Need-returns
 returns c = three-words (c .args .out .now) _ _ _ (c .pre .1)
 
-pub put-token-spec : {M : Type 1} → statement M
-put-token-spec =
+pub put-record-spec : {M : Type 1} → statement M
+put-record-spec =
     tie.close
     (tie.spec
     (λ c. search needs)

@@ -1,0 +1,265 @@
+-- Looking for the next hashtag, character by character: each step keeps what is still to be found. Assumes nothing.
+use Prim.Native.Nat.{ℕ, zero, suc, _+_, _-_, _≤_, _<_}
+use mathlib.Core.Path.{_≡_, refl, sym, ap, subst, _∙_}
+use mathlib.Core.Bool.{Bool, true, false, not, _&&_}
+use mathlib.Core.List.{List, [], _∷_}
+use mathlib.Core.Logic.{_⊎_, inl, inr}
+use native.Mathlib.Omega.{arith}
+use native.Mathlib.Decide.{decLt}
+use mathlib.Core.Option.{none}
+use lib.ListN.{length, getD, drop, length-drop, drop-of-length-le}
+use lib.Seq.{drop-drop, getD-drop}
+use lib.Dec.{ltb, eqb}
+use borrow.Author.Tests.{lt-ltb, le-ltb, ltb-true, eqb-true}
+use Rattle.lists.proofs.BoolLaws.{and-left, and-right, impossible}
+use Rattle.utf8.specs.declared.Step.{Step}
+use Rattle.utf8.specs.declared.Step.the-variants.{Scalar, IllFormed, End}
+use Rattle.utf8.specs.Head.{stepOf, IllHead}
+use Rattle.utf8.specs.declared.Text.{Text}
+use Rattle.utf8.specs.declared.Text.the-variants.{WellFormed, IllFormed as Bad}
+use Rattle.utf8.specs.Lead.{lengthOf, knownLength}
+use Rattle.utf8.specs.Text.{Character, widthOf, decode, textOf, shift}
+use Rattle.utf8.proofs.SequenceLaws.{ill-at, end-empty}
+use Rattle.utf8.proofs.TextLaws.{step-bounds, known-length, decode-scalar, decode-ill, decode-empty, turn}
+use Rattle.image.specs.Check.{refusalOf}
+use Rattle.character.specs.Read.{ReadAs}
+use Rattle.character.specs.declared.Character.{Character as Read}
+use Rattle.character.proofs.CharacterLaws.{ascii-at}
+use Rattle.hashtag.specs.Sign.{isSign, continues}
+use Rattle.hashtag.specs.Find.{Span, runOf, hashtagsFrom}
+use Rattle.hashtag.specs.Seek.{charactersAt, hashtagsAt, continuesFirst, freeAt, isPlain, Plain, signOf, Sought}
+use Rattle.hashtag.specs.declared.Sign.{Sign}
+use Rattle.hashtag.proofs.SignLaws.{not-true, continuesBy, by-traits}
+use Rattle.hashtag.proofs.RunLaws.{Characters, run-yes, run-no, run-none}
+use Rattle.hashtag.proofs.FindLaws.{found-none, found-begins, found-passes}
+
+-- the run of characters by the first of them
+pub run-first : (s : List ℕ) (cs : Characters) → continuesFirst s cs ≡ true → 0 < length (runOf s cs)
+run-first s (c ∷ r) e = omega (arith, ap length (run-yes s c r e))
+run-first s [] e = impossible (cc)
+
+pub no-run-first : (s : List ℕ) (cs : Characters) → continuesFirst s cs ≡ false → runOf s cs ≡ []
+no-run-first s (c ∷ r) e = run-no s c r e
+no-run-first s [] e = run-none s
+
+-- a plain byte
+not-sign : (b : ℕ) → b < 0x80 → eqb b 0x23 ≡ false → isSign b ≡ false
+unfolding isSign
+not-sign b h e = rw (e, other 0xFE5F (omega arith), other 0xFF03 (omega arith))
+  where
+    other : (k : ℕ) → 0x80 ≤ k → eqb b k ≡ false
+    other k l = go (eqb b k) refl
+      where
+        go : (t : Bool) → eqb b k ≡ t → t ≡ false
+        go true f = let g = eqb-true b k f in absurd (omega arith)
+        go false f = refl
+
+plain-byte : (b : ℕ) → isPlain b ≡ true → (b < 0x80) × (isSign b ≡ false)
+plain-byte b e =
+    let h = ltb-true b 0x80 (and-right (not (eqb b 0x23)) (ltb b 0x80) e) in
+    (h, not-sign b h (not-true (eqb b 0x23) (and-left (not (eqb b 0x23)) (ltb b 0x80) e)))
+
+pub plain-begins : (text : List ℕ) (from : ℕ) → from ≤ length text → Plain text from from
+plain-begins text from h = record { above = omega arith; within = h; each = λ i l u. absurd (omega arith) }
+
+pub plain-more : {text : List ℕ} {from at : ℕ} → Plain text from at → at < length text → isPlain (getD text at 0) ≡ true → Plain text from (at + 1)
+plain-more {text} {from} {at} p h e =
+    record { above = omega (arith, p .above); within = omega arith; each = λ i l u. go i l u (decLt i at) }
+  where
+    go : (i : ℕ) → from ≤ i → i < at + 1 → Dec (i < at) → isPlain (getD text i 0) ≡ true
+    go i l u (yes v) = p .each i l v
+    go i l u (no v) = let q : i ≡ at = omega arith in ap (λ (j : ℕ). isPlain (getD text j 0)) q ∙ e
+
+-- the length of the sequence at a place: none begins there, or one of this length
+pub measured-none : (text : List ℕ) (at n : ℕ) → at < length text → n ≡ lengthOf (stepOf (drop at text)) → n ≡ 0 → IllHead (drop at text)
+measured-none text at n h e z = go (stepOf (drop at text)) refl (sym e ∙ z)
+  where
+    go : (t : Step) → stepOf (drop at text) ≡ t → lengthOf t ≡ 0 → IllHead (drop at text)
+    go (Scalar x k) f l = absurd (omega (arith, step-bounds (drop at text) x k f .some-bytes))
+    go (IllFormed k) f l = ill-at (drop at text) k f
+    go End f l = absurd (omega (arith, ap length (end-empty (drop at text) f), length-drop at text))
+
+pub measured-some : (text : List ℕ) (at n : ℕ) → n ≡ lengthOf (stepOf (drop at text)) → (n ≡ 0 → ⊥) → (x : ℕ) × (stepOf (drop at text) ≡ Scalar x n)
+measured-some text at n e z = go (stepOf (drop at text)) refl e
+  where
+    go : (t : Step) → stepOf (drop at text) ≡ t → n ≡ lengthOf t → (x : ℕ) × (stepOf (drop at text) ≡ Scalar x n)
+    go (Scalar x k) f l = (x, f ∙ ap (Scalar x) (sym l))
+    go (IllFormed k) f l = absurd (z l)
+    go End f l = absurd (z l)
+
+-- of a text that is well-formed from the place on
+pub measured-known : (text : List ℕ) (at : ℕ) → at < length text → textOf (drop at text) ≡ WellFormed → knownLength (getD text at 0) ≡ lengthOf (stepOf (drop at text))
+measured-known text at h w =
+    let z : getD (drop at text) 0 0 ≡ getD text at 0 = getD-drop at text 0 0 ∙ ap (λ (k : ℕ). getD text k 0) (let q : at + 0 ≡ at = omega arith in q) in
+    ap knownLength (sym z) ∙ known-length (drop at text) (omega (arith, length-drop at text)) w
+
+pub unshifted : (k : ℕ) (t : Text) → shift k t ≡ WellFormed → t ≡ WellFormed
+unshifted k WellFormed e = refl
+unshifted k (Bad p n) e = impossible (cc)
+
+module _ (s text : List ℕ) where
+  -- a character stands at a place
+  pub record Here (at x n : ℕ) : Type 0 where
+    pub some-bytes : 0 < n
+    pub within : at + n ≤ length text
+    pub decoded : charactersAt text at ≡ record { code = x; width = n } ∷ charactersAt text (at + n)
+    pub same : shift at (textOf (drop at text)) ≡ shift (at + n) (textOf (drop (at + n) text))
+
+  pub here : (at x n : ℕ) → at < length text → stepOf (drop at text) ≡ Scalar x n → Here at x n
+  here at x n h e =
+      let t = turn text at x n (omega arith) e in
+      record {
+        some-bytes = t .some-bytes;
+        within = t .within;
+        decoded = ap (λ d. d .characters) (decode-scalar (drop at text) x n e)
+            ∙ ap (λ (u : List ℕ). record { code = x; width = n } ∷ decode u .characters) (drop-drop n at text);
+        same = t .same;
+      }
+
+  -- by the length of the sequence there
+  pub record Stands (at n : ℕ) : Type 0 where
+    pub code : ℕ
+    pub here : Here at code n
+    pub sign : signOf (stepOf (drop at text)) ≡ isSign code
+
+  pub stands : (at n : ℕ) → at < length text → n ≡ lengthOf (stepOf (drop at text)) → (n ≡ 0 → ⊥) → Stands at n
+  stands at n h e z = let (x, f) = measured-some text at n e z in record { code = x; here = here at x n h f; sign = ap signOf f }
+
+  -- none stands where the text is ill-formed, nor at its end
+  pub none-ill : (at : ℕ) → IllHead (drop at text) → charactersAt text at ≡ []
+  none-ill at e = ap (λ d. d .characters) (decode-ill (drop at text) e)
+
+  pub none-end : (at : ℕ) → length text ≤ at → charactersAt text at ≡ []
+  none-end at h = ap (λ (u : List ℕ). decode u .characters) (drop-of-length-le text h) ∙ ap (λ d. d .characters) decode-empty
+
+  -- what was read at a place tells whether hashtag Continue stands there
+  pub read-continues : (at : ℕ) (r : Read) → refusalOf s ≡ none → at < length text → ReadAs s text at r → 0 < r .len
+      → Here at (r .code) (r .len) × (continuesBy (r .code) (r .traits) ≡ continuesFirst s (charactersAt text at))
+  read-continues at r a h e l =
+      let k = here at (r .code) (r .len) h (e .some l .0) in
+      (k, by-traits s (r .code) (r .traits) a (e .some l .1) ∙ ap (continuesFirst s) (sym (k .decoded)))
+
+  -- how far a run goes that began at a place
+  pub record Running (from at : ℕ) : Type 0 where
+    pub above : from ≤ at
+    pub within : at ≤ length text
+    pub same : from + widthOf (runOf s (charactersAt text from)) ≡ at + widthOf (runOf s (charactersAt text at))
+
+  pub running-begins : (from : ℕ) → from ≤ length text → Running from from
+  running-begins from h = record { above = omega arith; within = h; same = refl }
+
+  module _ {from at : ℕ} (i : Running from at) where
+    abbrev Ends : Type 0
+    Ends = (at ≡ from + widthOf (runOf s (charactersAt text from))) × (at ≤ length text)
+
+    run-over : runOf s (charactersAt text at) ≡ [] → Ends
+    run-over e = (omega (arith, i .same, ap widthOf e), i .within)
+
+    pub run-ill : IllHead (drop at text) → Ends
+    run-ill e = run-over (ap (runOf s) (none-ill at e) ∙ run-none s)
+
+    pub run-end : length text ≤ at → Ends
+    run-end h = run-over (ap (runOf s) (none-end at h) ∙ run-none s)
+
+    pub run-stops : continuesFirst s (charactersAt text at) ≡ false → Ends
+    run-stops e = run-over (no-run-first s (charactersAt text at) e)
+
+    pub run-goes : {x n : ℕ} → Here at x n → continuesFirst s (charactersAt text at) ≡ true → Running from (at + n)
+    run-goes {x} {n} h e =
+        let c : Character = record { code = x; width = n } in
+        let r = charactersAt text (at + n) in
+        let f : continues s c ≡ true = sym (ap (continuesFirst s) (h .decoded)) ∙ e in
+        let w = ap (λ (cs : Characters). widthOf (runOf s cs)) (h .decoded) ∙ ap widthOf (run-yes s c r f) in
+        record { above = omega (arith, i .above); within = h .within; same = omega (arith, i .same) }
+
+  -- what was passed over from one place to another: no hashtag begins there
+  pub record Seeking (from before at : ℕ) : Type 0 where
+    pub above : from ≤ at
+    pub within : at ≤ length text
+    pub form : shift at (textOf (drop at text)) ≡ shift from (textOf (drop from text))
+    pub rest : hashtagsAt s text true from ≡ hashtagsAt s text (freeAt s text before at) at
+
+  pub seeking-begins : (from : ℕ) → from ≤ length text → Seeking from from from
+  seeking-begins from h = record { above = omega arith; within = h; form = refl; rest = rw (le-ltb from from (omega arith)) }
+
+  -- from there on it is as well-formed as from the first place on
+  pub seeking-known : {from before at : ℕ} → Seeking from before at → textOf (drop from text) ≡ WellFormed → textOf (drop at text) ≡ WellFormed
+  seeking-known {from} {before} {at} i e = unshifted at (textOf (drop at text)) (i .form ∙ ap (shift from) e)
+
+  module _ {from before at : ℕ} (i : Seeking from before at) where
+    abbrev free : Bool
+    free = freeAt s text before at
+
+    -- no character stands here
+    sought-no : charactersAt text at ≡ [] → (at < length text → IllHead (drop at text)) → Sought s text from (record { at = at; next = at })
+    sought-no e k =
+        record {
+          above = i .above;
+          rises = omega arith;
+          within = i .within;
+          form = i .form;
+          none = λ _. (i .rest ∙ ap (hashtagsFrom s free at) e ∙ found-none s free at, k);
+          some = λ h. absurd (omega arith);
+        }
+
+    pub sought-ill : IllHead (drop at text) → Sought s text from (record { at = at; next = at })
+    sought-ill e = sought-no (none-ill at e) (λ _. e)
+
+    pub sought-end : length text ≤ at → Sought s text from (record { at = at; next = at })
+    sought-end h = sought-no (none-end at h) (λ l. absurd (omega arith))
+
+    module _ {x n : ℕ} (h : Here at x n) where
+      abbrev next : Characters
+      next = charactersAt text (at + n)
+
+      -- a hashtag begins here
+      pub sought-some : isSign x ≡ true → (free && continuesFirst s next) ≡ true → Sought s text from (record { at = at; next = at + n })
+      sought-some g b =
+          record {
+            above = i .above;
+            rises = omega arith;
+            within = h .within;
+            form = sym (h .same) ∙ i .form;
+            none = λ l. absurd (omega (arith, h .some-bytes));
+            some = λ _. i .rest ∙ ap (hashtagsFrom s free at) (h .decoded)
+                ∙ found-begins s free at (record { code = x; width = n }) next (and-left free (continuesFirst s next) b) g (run-first s next (and-right free (continuesFirst s next) b));
+          }
+
+      -- none does
+      pub seeking-over : (isSign x ≡ false) ⊎ ((free && continuesFirst s next) ≡ false) → Seeking from at (at + n)
+      seeking-over g =
+          record {
+            above = omega (arith, i .above);
+            within = h .within;
+            form = sym (h .same) ∙ i .form;
+            rest = i .rest ∙ ap (hashtagsFrom s free at) (h .decoded) ∙ found-passes s free at (record { code = x; width = n }) next (passes g)
+                ∙ ap (λ (b : Bool). hashtagsFrom s b (at + n) next) (sym (rw (lt-ltb at (at + n) (omega (arith, h .some-bytes)), h .decoded)));
+          }
+        where
+          no : (b : Bool) → free ≡ b → (b && continuesFirst s next) ≡ false → (free ≡ false) ⊎ (runOf s next ≡ [])
+          no true e f = inr (no-run-first s next f)
+          no false e f = inl e
+
+          passes : (isSign x ≡ false) ⊎ ((free && continuesFirst s next) ≡ false) → (isSign x ≡ false) ⊎ ((free ≡ false) ⊎ (runOf s next ≡ []))
+          passes (inl e) = inl e
+          passes (inr e) = inr (no free refl e)
+
+  -- plain bytes
+  one-plain : {from before at : ℕ} → Seeking from before at → at < length text → isPlain (getD text at 0) ≡ true → Seeking from at (at + 1)
+  one-plain {from} {before} {at} i h e =
+      let p = plain-byte (getD text at 0) e in
+      seeking-over i (here at (getD text at 0) 1 h (ascii-at text at h (p .0))) (inl (p .1))
+
+  pub seeking-plain : {from before at past : ℕ} → Seeking from before at → Plain text at past → at < past → Seeking from (past - 1) past
+  seeking-plain {from} {before} {at} {past} i p h = go (past - at - 1) past (omega arith) p
+    where
+      go : (k q : ℕ) → q ≡ at + suc k → Plain text at q → Seeking from (q - 1) q
+      go zero q e p =
+          let y : at ≡ q - 1 = omega arith in
+          let z : at + 1 ≡ q = omega arith in
+          subst (λ (b : ℕ). Seeking from b q) y (subst (Seeking from at) z (one-plain i (omega (arith, p .within)) (p .each at (omega arith) (omega arith))))
+      go (suc k) q e p =
+          let z : (q - 1) + 1 ≡ q = omega arith in
+          let l = p .within in
+          let j = go k (q - 1) (omega arith) (record { above = omega arith; within = omega arith; each = λ m u v. p .each m u (omega arith) }) in
+          subst (Seeking from (q - 1)) z (one-plain j (omega arith) (p .each (q - 1) (omega arith) (omega arith)))

@@ -1,0 +1,20 @@
+-- `hashtag::is_sign` meets its contract. Assumes nothing.
+use borrow.Author.Tests.{ne-eqb}
+use Rattle.hashtag.specs.Sign.{isSign}
+use Rattle.hashtag.proofs.is_sign.Statement.{statement}
+use Rattle.hashtag.proofs.is_sign.Tie as tie
+
+returns : tie.Need-returns
+unfolding isSign
+returns c = simp (c .if1 .taken)
+
+returns-2 : tie.Need-returns-2
+unfolding isSign
+returns-2 c = simp (c .if2 .taken)
+
+returns-3 : tie.Need-returns-3
+unfolding isSign
+returns-3 c = simp (ne-eqb _ _ (c .before .if1 .left), ne-eqb _ _ (c .if2 .left))
+
+pub is-sign-spec : {M : Type 1} → statement M
+is-sign-spec = tie.close (tie.spec returns returns-2 returns-3)

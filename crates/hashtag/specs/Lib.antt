@@ -1,0 +1,5 @@
+pub mod Hashtag
+pub mod Sign
+pub mod Find
+pub mod Listed
+pub mod Seek

@@ -1,0 +1,60 @@
+-- What writing the list of a text's hashtags answers under an image, and what the buffer then holds
+-- (docs/RULES.md, "Hashtags" and "Named refusals").
+use Prim.Native.Nat.{ℕ, _+_}
+use mathlib.Core.List.{List, [], _∷_, _++_}
+use lib.ListN.{length}
+use Rattle.refusal.specs.Outcome.{Outcome, given, refused, unless, outcomeMap}
+use Rattle.refusal.specs.declared.Refusal.the-variants as refusal
+use Rattle.utf8.specs.declared.Text.{Text}
+use Rattle.utf8.specs.declared.Text.the-variants.{WellFormed, IllFormed}
+use Rattle.image.specs.Check.{refusalOf}
+use Rattle.grammar.specs.Record.{tokenWords}
+use Rattle.grammar.specs.Reading.{lengthRefusal, formRefusal, roomed, laidBy}
+use Rattle.hashtag.specs.Find.{Span, hashtagsOf}
+use Rattle.hashtag.specs.declared.Listed.{Listed}
+use Rattle.hashtag.specs.declared.Listed.the-variants.{Refused, Hashtags}
+
+-- the kind of a hashtag in its record; no token has it
+abbrev pub hashtagKind : ℕ
+hashtagKind = 6
+
+-- the words of hashtags, a record each: kind, first byte, one past the last
+abbrev pub spanWords : Span → List ℕ
+spanWords t = tokenWords hashtagKind (t .start) (t .end)
+
+abbrev pub spansWords : List Span → List ℕ
+spansWords [] = []
+spansWords (t ∷ ts) = spanWords t ++ spansWords ts
+
+-- the enum's case for each outcome
+abbrev pub listedBy : Outcome ℕ → Listed
+listedBy (given n) = Hashtags n
+listedBy (refused r) = Refused r
+
+-- 6, else the hashtags of a text within the length limit under an accepted image
+unfoldable pub hashtagsThrough : List ℕ → List ℕ → Outcome (List Span)
+hashtagsThrough s text = unless (formRefusal text) (given (hashtagsOf s text))
+
+unfoldable pub countedThrough : List ℕ → List ℕ → Listed
+countedThrough s text = listedBy (outcomeMap length (hashtagsThrough s text))
+
+-- the answer where so many hashtags were found, and the characters end at a place: what is said of the text from there on
+abbrev pub closedBy : ℕ → ℕ → Text → Listed
+closedBy at n WellFormed = Hashtags n
+closedBy at n (IllFormed p k) = Refused (refusal.IllFormed (at + p) k)
+
+-- 1 to 4 of the image, then 5, then 6; else the text's hashtags
+unfoldable pub hashtagsFound : List ℕ → List ℕ → Outcome (List Span)
+hashtagsFound s text = unless (refusalOf s) (unless (lengthRefusal text) (hashtagsThrough s text))
+
+-- the hashtags that are written into a buffer of so many words; 8 where they need more room
+unfoldable pub hashtagsWritten : List ℕ → List ℕ → ℕ → Outcome (List Span)
+hashtagsWritten s text words = roomed words (hashtagsFound s text)
+
+-- the answer of writing the list
+unfoldable pub hashtagListOf : List ℕ → List ℕ → ℕ → Outcome ℕ
+hashtagListOf s text words = outcomeMap length (hashtagsWritten s text words)
+
+-- what the buffer then holds
+unfoldable pub hashtagListWords : List ℕ → List ℕ → List ℕ → List ℕ
+hashtagListWords s text out = laidBy spansWords out (hashtagsWritten s text (length out))

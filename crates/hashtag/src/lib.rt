@@ -1,0 +1,336 @@
+// Hashtags in flowing text: the list of a text's hashtags under a class image. The call whose name ends in `_checked` takes an image that was
+// checked and accepted.
+ghost use mathlib.Core.Path.{_≡_};
+ghost use mathlib.Core.Bool.{true, not, _&&_, _||_};
+ghost use mathlib.Core.Option.{none};
+ghost use Prim.Native.Nat.{_+_, _*_, _%_, _≤_, _<_};
+ghost use lib.ListN.{length, drop};
+ghost use lib.Dec.{leb};
+ghost use Rattle.lists.specs.Laid.{laid};
+ghost use Rattle.utf8.specs.declared.Text.the-variants.{WellFormed};
+ghost use Rattle.utf8.specs.Head.{stepOf, IllHead};
+ghost use Rattle.utf8.specs.Lead.{lengthOf};
+ghost use Rattle.utf8.specs.Text.{widthOf, textOf};
+ghost use Rattle.image.specs.Class.{classNamed};
+ghost use Rattle.image.specs.Check.{refusalOf};
+ghost use Rattle.character.specs.Read.{TableOf};
+ghost use Rattle.grammar.specs.Kinds.{isContinue};
+ghost use Rattle.grammar.specs.Record.{recordSize};
+ghost use Rattle.grammar.specs.Reading.{maxText};
+ghost use Rattle.hashtag.specs.Sign.{isSign};
+ghost use Rattle.hashtag.specs.Find.{runOf, hashtagsOf};
+ghost use Rattle.hashtag.specs.Listed.{spansWords, hashtagListOf, hashtagListWords, listedBy, countedThrough, closedBy};
+ghost use Rattle.hashtag.specs.Seek.{charactersAt, continuesFirst, freeAt, isPlain, Plain, signOf, Sought};
+use image::Answer;
+use refusal::Refusal;
+use scan::MAX_TEXT;
+use scan::RECORD_WORDS;
+
+// The kind of a hashtag in its record.
+pub const HASHTAG: u32 = 6;
+
+// The signs that begin a hashtag.
+const NUMBER_SIGN: u32 = 0x23;
+
+const SMALL_NUMBER_SIGN: u32 = 0xFE5F;
+
+const FULLWIDTH_NUMBER_SIGN: u32 = 0xFF03;
+
+// The first byte of the last two.
+const WIDE_SIGNS: u8 = 0xEF;
+
+// How many hashtags, or why not.
+pub enum Listed {
+    Refused(Refusal),
+    Hashtags(usize),
+}
+
+// A sign that begins a hashtag: its first byte, and one past its last. The same place twice: there is none.
+pub struct Sign {
+    pub at: usize,
+    pub next: usize,
+}
+
+// Whether a code point is a sign.
+fn is_sign(code: u32) -> bool
+    ensures { λ r. ⌜ r ≡ isSign code ⌝ }
+{
+    if code == NUMBER_SIGN {
+        return true;
+    }
+    if code == SMALL_NUMBER_SIGN {
+        return true;
+    }
+    code == FULLWIDTH_NUMBER_SIGN
+}
+
+// Whether a character with these traits is hashtag Continue.
+fn continues(code: u32, traits: u32) -> bool
+    ensures { λ r. ⌜ r ≡ (not (isSign code) && (isContinue (classNamed (traits % 8)) || leb 16 traits)) ⌝ }
+{
+    if is_sign(code) {
+        return false;
+    }
+    if character::HASHTAG <= traits {
+        return true;
+    }
+    let class = traits % 8;
+    if class == image::START {
+        return true;
+    }
+    class == image::NONSTART
+}
+
+// Whether the character at a place is hashtag Continue; there may be none.
+fn continues_at<'a>(image: &'a [u8], table: &'a [u8; 128], text: &'a [u8], at: usize) -> bool
+    requires { ⌜ refusalOf (now image) ≡ none ⌝ }
+    requires { ⌜ TableOf (now image) (now table) ⌝ }
+    ensures { λ r. ⌜ r ≡ continuesFirst (now (image .entry)) (charactersAt (now (text .entry)) at) ⌝ }
+{
+    if text.len() <= at {
+        return false;
+    }
+    let c = character::read(image, table, character::no_memo(), text, at);
+    if c.len == 0 {
+        return false;
+    }
+    continues(c.code, c.traits)
+}
+
+// One past the run of hashtag Continue that begins at a place.
+fn find_end<'a>(image: &'a [u8], table: &'a [u8; 128], text: &'a [u8], from: usize) -> usize
+    requires { ⌜ refusalOf (now image) ≡ none ⌝ }
+    requires { ⌜ TableOf (now image) (now table) ⌝ }
+    requires { ⌜ from ≤ length (now text) ⌝ }
+    ensures { λ r. ⌜ (r ≡ from + widthOf (runOf (now (image .entry)) (charactersAt (now (text .entry)) from))) × (r ≤ length (now (text .entry))) ⌝ }
+{
+    let mut memo = character::no_memo();
+    let mut at = from;
+    while at < text.len() {
+        let c = character::read(image, table, memo, text, at);
+        let len = c.len;
+        if len == 0 {
+            return at;
+        }
+        if !continues(c.code, c.traits) {
+            return at;
+        }
+        memo = c.memo;
+        at += len;
+    }
+    at
+}
+
+// Whether a byte is a character by itself, and no sign.
+fn is_plain(b: u8) -> bool
+    ensures { λ r. ⌜ r ≡ isPlain b ⌝ }
+{
+    if b == NUMBER_SIGN as u8 {
+        return false;
+    }
+    b < 0x80
+}
+
+// A place up to which the bytes from a place on are plain.
+fn skip(text: &[u8], from: usize) -> usize
+    requires { ⌜ from ≤ length (now text) ⌝ }
+    ensures { λ r. ⌜ Plain (now (text .entry)) from r ⌝ }
+{
+    let mut at = from;
+    while at < text.len() {
+        if !is_plain(text[at]) {
+            return at;
+        }
+        at += 1;
+    }
+    at
+}
+
+// The length of the sequence at a place; 0 where none begins. Of a text that is known to be well-formed the first byte tells it.
+fn measure(text: &[u8], at: usize, known: bool) -> usize
+    requires { ⌜ at < length (now text) ⌝ }
+    requires { ⌜ (known ≡ true → textOf (drop at (now text)) ≡ WellFormed) ⌝ }
+    ensures { λ r. ⌜ r ≡ lengthOf (stepOf (drop at (now (text .entry)))) ⌝ }
+{
+    if known {
+        return utf8::measure_known(text[at]);
+    }
+    utf8::decode_packed(text, at) % 8
+}
+
+// Whether the sequence at a place is that of a sign.
+fn is_sign_at(text: &[u8], at: usize) -> bool
+    requires { ⌜ at < length (now text) ⌝ }
+    ensures { λ r. ⌜ r ≡ signOf (stepOf (drop at (now (text .entry)))) ⌝ }
+{
+    let b = text[at];
+    if b == NUMBER_SIGN as u8 {
+        return true;
+    }
+    if b != WIDE_SIGNS {
+        return false;
+    }
+    is_sign((utf8::decode_packed(text, at) / 8) as u32)
+}
+
+// Whether no hashtag Continue stands right before a place; the character there begins at `before`, or there is none and the two are the same.
+fn is_free<'a>(
+    image: &'a [u8],
+    table: &'a [u8; 128],
+    text: &'a [u8],
+    before: usize,
+    at: usize,
+) -> bool
+    requires { ⌜ refusalOf (now image) ≡ none ⌝ }
+    requires { ⌜ TableOf (now image) (now table) ⌝ }
+    ensures { λ r. ⌜ r ≡ freeAt (now (image .entry)) (now (text .entry)) before at ⌝ }
+{
+    if before < at {
+        return !continues_at(image, table, text, before);
+    }
+    true
+}
+
+// Whether a sign begins a hashtag: no hashtag Continue stands right before it, and one right after it.
+fn begins<'a>(
+    image: &'a [u8],
+    table: &'a [u8; 128],
+    text: &'a [u8],
+    before: usize,
+    sign: Sign,
+) -> bool
+    requires { ⌜ refusalOf (now image) ≡ none ⌝ }
+    requires { ⌜ TableOf (now image) (now table) ⌝ }
+    ensures { λ r. ⌜ r ≡ (freeAt (now (image .entry)) (now (text .entry)) before (sign .at) && continuesFirst (now (image .entry)) (charactersAt (now (text .entry)) (sign .next))) ⌝ }
+{
+    if is_free(image, table, text, before, sign.at) {
+        return continues_at(image, table, text, sign.next);
+    }
+    false
+}
+
+// The next hashtag from a place on, where no hashtag Continue stands right before that place. `before` is where the character right before
+// `at` begins, or `at` itself where there is none.
+fn seek<'a>(image: &'a [u8], table: &'a [u8; 128], text: &'a [u8], from: usize, known: bool) -> Sign
+    requires { ⌜ refusalOf (now image) ≡ none ⌝ }
+    requires { ⌜ TableOf (now image) (now table) ⌝ }
+    requires { ⌜ from ≤ length (now text) ⌝ }
+    requires { ⌜ (known ≡ true → textOf (drop from (now text)) ≡ WellFormed) ⌝ }
+    ensures { λ r. ⌜ Sought (now (image .entry)) (now (text .entry)) from r ⌝ }
+{
+    let mut before = from;
+    let mut at = from;
+    while at < text.len() {
+        let past = skip(text, at);
+        if at < past {
+            before = past - 1;
+            at = past;
+            continue;
+        }
+        let len = measure(text, at, known);
+        if len == 0 {
+            return Sign { at, next: at };
+        }
+        let next = at + len;
+        if is_sign_at(text, at) {
+            if begins(image, table, text, before, Sign { at, next }) {
+                return Sign { at, next };
+            }
+        }
+        before = at;
+        at = next;
+    }
+    Sign { at, next: at }
+}
+
+// The answer where the characters end at a place: so many hashtags, or refusal 6 if the text goes on there.
+fn close(text: &[u8], at: usize, count: usize) -> Listed
+    requires { ⌜ at ≤ length (now text) ⌝ }
+    requires { ⌜ (at < length (now text) → IllHead (drop at (now text))) ⌝ }
+    ensures { λ r. ⌜ r ≡ closedBy at count (textOf (drop at (now (text .entry)))) ⌝ }
+{
+    if at < text.len() {
+        return Listed::Refused(scan::refuse_at(text, at));
+    }
+    Listed::Hashtags(count)
+}
+
+// The number of hashtags.
+fn count_hashtags<'a>(image: &'a [u8], table: &'a [u8; 128], text: &'a [u8]) -> Listed
+    requires { ⌜ refusalOf (now image) ≡ none ⌝ }
+    requires { ⌜ TableOf (now image) (now table) ⌝ }
+    ensures { λ r. ⌜ r ≡ countedThrough (now (image .entry)) (now (text .entry)) ⌝ }
+{
+    let mut count: usize = 0;
+    let mut at = 0;
+    while at < text.len() {
+        let sign = seek(image, table, text, at, false);
+        if sign.next <= sign.at {
+            return close(text, sign.at, count);
+        }
+        count += 1;
+        at = sign.next;
+    }
+    Listed::Hashtags(count)
+}
+
+// The words of all hashtags of a well-formed text.
+fn write_hashtags<'a>(image: &'a [u8], table: &'a [u8; 128], text: &'a [u8], out: &mut [u32])
+    requires { ⌜ refusalOf (now image) ≡ none ⌝ }
+    requires { ⌜ TableOf (now image) (now table) ⌝ }
+    requires { ⌜ length (now text) ≤ maxText ⌝ }
+    requires { ⌜ textOf (now text) ≡ WellFormed ⌝ }
+    requires { ⌜ recordSize * length (hashtagsOf (now image) (now text)) ≤ length (now out) ⌝ }
+    ensures { λ _. ⌜ now (out .exit) ≡ laid (now (out .entry)) 0 (spansWords (hashtagsOf (now (image .entry)) (now (text .entry)))) ⌝ }
+{
+    let mut w = 0;
+    let mut at = 0;
+    while at < text.len() {
+        let sign = seek(image, table, text, at, true);
+        if sign.next <= sign.at {
+            return;
+        }
+        let end = find_end(image, table, text, sign.next);
+        scan::put_record(&mut out[w..], HASHTAG, sign.at, end);
+        w += RECORD_WORDS;
+        at = sign.next;
+    }
+}
+
+// The list of a text's hashtags, written whole, under an image that was checked. After a refusal the buffer is as it was.
+pub fn list_checked<'a>(image: &'a [u8], text: &'a [u8], out: &mut [u32]) -> Listed
+    requires { ⌜ refusalOf (now image) ≡ none ⌝ }
+    ensures { λ r. ⌜ r ≡ listedBy (hashtagListOf (now (image .entry)) (now (text .entry)) (length (now (out .entry)))) ⌝ }
+    ensures { λ r. ⌜ now (out .exit) ≡ hashtagListWords (now (image .entry)) (now (text .entry)) (now (out .entry)) ⌝ }
+{
+    if MAX_TEXT < text.len() {
+        return Listed::Refused(Refusal::TextLength);
+    }
+    let table = character::fill_table(image);
+    let counted = count_hashtags(image, &table, text);
+    match counted {
+        Listed::Refused(r) => Listed::Refused(r),
+        Listed::Hashtags(count) => {
+            if out.len() / RECORD_WORDS < count {
+                return Listed::Refused(Refusal::Room(count));
+            }
+            write_hashtags(image, &table, text, out);
+            Listed::Hashtags(count)
+        }
+    }
+}
+
+// The list of a text's hashtags, written whole. After a refusal the buffer is as it was.
+pub fn list<'a>(image: &'a [u8], text: &'a [u8], out: &mut [u32]) -> Listed
+    ensures { λ r. ⌜ r ≡ listedBy (hashtagListOf (now (image .entry)) (now (text .entry)) (length (now (out .entry)))) ⌝ }
+    ensures { λ r. ⌜ now (out .exit) ≡ hashtagListWords (now (image .entry)) (now (text .entry)) (now (out .entry)) ⌝ }
+{
+    let answer = image::judge(image);
+    match answer {
+        Answer::Refused(r) => Listed::Refused(r),
+        Answer::Accepted {
+            version: _,
+            ranges: _,
+        } => list_checked(image, text, out),
+    }
+}
