@@ -6,8 +6,8 @@ mod icu;
 use icu::Icu;
 use luffinarc::calls::{self, Answer};
 use luffinarc::{
-    write_image, Image, Profile, CHANGED_ENTRY_WORDS, MAX_CHANGED_ENTRIES, MAX_RUNS, RUN_WORDS,
-    TOKEN_WORDS,
+    write_image, Image, Profile, CHANGED_ENTRY_WORDS, MAX_CHANGED_ENTRIES, MAX_RUNS, RECORD_WORDS,
+    RUN_WORDS,
 };
 use luffinarc_bench::changes::Changes;
 use luffinarc_bench::rival::{self, Tables};
@@ -95,7 +95,7 @@ impl<'a> Subject<'a> {
 
     /// Words with room for a token at each byte, written before.
     fn words(&self) -> Vec<u32> {
-        vec![0; TOKEN_WORDS * self.sample.text.len()]
+        vec![0; RECORD_WORDS * self.sample.text.len()]
     }
 
     /// Counting, against the rival.
@@ -112,7 +112,7 @@ impl<'a> Subject<'a> {
         let (mut words, mut list) = (self.words(), Vec::with_capacity(self.words().len()));
         let count = self.image.list(text, &mut words).unwrap();
         self.tables.list(text, &mut list).unwrap();
-        assert!(words[..TOKEN_WORDS * count] == list, "{}: the lists differ", self.sample.name);
+        assert!(words[..RECORD_WORDS * count] == list, "{}: the lists differ", self.sample.name);
         race(1, &mut || _ = black_box(self.image.list(black_box(text), &mut words)), &mut || {
             _ = black_box(self.tables.list(black_box(text), &mut list))
         })

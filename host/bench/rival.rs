@@ -2,7 +2,7 @@
 //! library's UTF-8 check, then a lexer over two-stage tables.
 
 use luffinarc::{
-    Class, Kind, Range, Role, MAX_ENTRIES, MAX_IMAGE, MAX_RANGES, MAX_TEXT, TOKEN_WORDS,
+    Class, Kind, Range, Role, MAX_ENTRIES, MAX_IMAGE, MAX_RANGES, MAX_TEXT, RECORD_WORDS,
 };
 use std::str::Utf8Error;
 
@@ -225,6 +225,6 @@ impl Tables {
     pub fn list(&self, text: &[u8], list: &mut Vec<u32>) -> Result<usize, Refused> {
         list.clear();
         self.lex(text, |kind, start, end| list.extend_from_slice(&[kind.number(), start, end]))?;
-        Ok(list.len() / TOKEN_WORDS)
+        Ok(list.len() / RECORD_WORDS)
     }
 }

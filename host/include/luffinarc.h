@@ -41,7 +41,7 @@ extern "C" {
 
 /* The words of a range (first, last, class) and of a token (kind, start byte, end byte). */
 #define LUFFINARC_RANGE_WORDS 3
-#define LUFFINARC_TOKEN_WORDS 3
+#define LUFFINARC_RECORD_WORDS 3
 
 /* The words of a run (first, last, older class, newer class) and of a changed entry (code point, older role, newer
  * role). */

@@ -1,6 +1,6 @@
 //! The rival and the reader agree.
 
-use luffinarc::{write_image, Image, Profile, Role, MAX_CHANGED_ENTRIES, MAX_RUNS, TOKEN_WORDS};
+use luffinarc::{write_image, Image, Profile, Role, MAX_CHANGED_ENTRIES, MAX_RUNS, RECORD_WORDS};
 use luffinarc_bench::changes::Changes;
 use luffinarc_bench::rival::{check, Refused, Tables};
 use luffinarc_bench::texts;
@@ -24,19 +24,19 @@ fn with_profile(profile: &[(u32, Role)]) -> Vec<u8> {
 
 /// The reader's list of a text.
 fn read(image: &[u8], text: &[u8]) -> Result<Vec<u32>, Refusal> {
-    let mut words = vec![0; TOKEN_WORDS * text.len()];
+    let mut words = vec![0; RECORD_WORDS * text.len()];
     let count = list(image, text, &mut words)?;
-    words.truncate(TOKEN_WORDS * count);
+    words.truncate(RECORD_WORDS * count);
     Ok(words)
 }
 
 /// The rival's list of a text, its refusals named as the reader's.
 fn rival(tables: &Tables, text: &[u8]) -> Result<Vec<u32>, Refusal> {
-    let mut words = Vec::with_capacity(TOKEN_WORDS * text.len());
+    let mut words = Vec::with_capacity(RECORD_WORDS * text.len());
     let listed = tables.list(text, &mut words);
     assert_eq!(tables.count(text), listed);
     match listed {
-        Ok(count) => assert_eq!(TOKEN_WORDS * count, words.len()),
+        Ok(count) => assert_eq!(RECORD_WORDS * count, words.len()),
         Err(Refused::TextLength) => return Err(Refusal::TextLength),
         Err(Refused::IllFormed { place, len }) => {
             return Err(Refusal::IllFormed { place: place as u64, len: len as u64 })
@@ -52,9 +52,9 @@ fn agree(bytes: &[u8], name: &str, text: &str) -> usize {
     let tokens = read(bytes, text.as_bytes()).unwrap_or_else(|r| panic!("{name}: {r}"));
     assert!(rival(&tables(&image), text.as_bytes()).unwrap() == tokens, "{name}");
     let mut words = vec![0; tokens.len()];
-    assert_eq!(image.list(text, &mut words), Ok(tokens.len() / TOKEN_WORDS), "{name}");
+    assert_eq!(image.list(text, &mut words), Ok(tokens.len() / RECORD_WORDS), "{name}");
     assert!(words == tokens, "{name}");
-    tokens.len() / TOKEN_WORDS
+    tokens.len() / RECORD_WORDS
 }
 
 /// On every text, under its profile and under others.
@@ -75,7 +75,7 @@ fn on_the_texts() {
 fn dotted_names() {
     let text = texts::dotted();
     let tokens = read(&with_profile(&texts::MEDIALS), text.as_bytes()).unwrap();
-    let of = |kind| tokens.chunks(TOKEN_WORDS).filter(|token| token[0] == kind).count();
+    let of = |kind| tokens.chunks(RECORD_WORDS).filter(|token| token[0] == kind).count();
     let names = text.split_ascii_whitespace().count();
     assert_eq!((of(kind::IDENTIFIER), of(kind::SYNTAX)), (names, 0));
 }

@@ -56,4 +56,4 @@ pub use image::{
 };
 pub use names::{Class, Kind, Role};
 pub use refusal::{PairRefusal, Refusal};
-pub use token::{part, Token, Tokens, MAX_TEXT, TOKEN_WORDS};
+pub use token::{part, Token, Tokens, MAX_TEXT, RECORD_WORDS};

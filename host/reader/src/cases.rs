@@ -17,7 +17,8 @@ use crate::image::{
 };
 use crate::lister::MAX_SCRIPT;
 use crate::names::class;
-use crate::token::{count, part, TOKEN_WORDS};
+use crate::record::RECORD_WORDS;
+use crate::token::{count, part};
 use crate::utf8::first;
 
 const SEED: u64 = 0x9E37_79B9_7F4A_7C15;
@@ -290,7 +291,7 @@ pub fn count_case(rng: &mut Rng) -> CountCase {
 
 pub fn list_case(rng: &mut Rng) -> ListCase {
     let CountCase { image, text } = count_case(rng);
-    let exact = TOKEN_WORDS * count(&image, &text).unwrap_or(8);
+    let exact = RECORD_WORDS * count(&image, &text).unwrap_or(8);
     ListCase { image, text, room: room(rng, exact) }
 }
 

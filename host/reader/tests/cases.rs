@@ -3,7 +3,7 @@
 use luffinarc_reader::cases::*;
 use luffinarc_reader::changes::{CHANGED_ENTRY_WORDS, MAX_CHANGED_ENTRIES, MAX_RUNS, RUN_WORDS};
 use luffinarc_reader::image::{parse, permitted, write, MAX_ENTRIES, MAX_RANGES, RANGE_WORDS};
-use luffinarc_reader::token::TOKEN_WORDS;
+use luffinarc_reader::record::RECORD_WORDS;
 use luffinarc_reader::*;
 
 const RUNS: usize = 4000;
@@ -131,7 +131,7 @@ fn changed() {
 /// The list covers the text without gaps, and each token stands at its place.
 fn division(image: &[u8], text: &[u8], words: &[u32]) {
     let mut place = 0;
-    for (i, token) in words.chunks(TOKEN_WORDS).enumerate() {
+    for (i, token) in words.chunks(RECORD_WORDS).enumerate() {
         let (start, end) = (token[1] as usize, token[2] as usize);
         assert!(start == place && end > start);
         if i < 20 {
@@ -152,7 +152,7 @@ fn lists() {
         let mut words = vec![7; case.room];
         let result = list(&case.image, &case.text, &mut words);
         lists.add(&result);
-        let (front, rest) = words.split_at(TOKEN_WORDS * result.unwrap_or(0));
+        let (front, rest) = words.split_at(RECORD_WORDS * result.unwrap_or(0));
         assert!(rest.iter().all(|&word| word == 7));
         if result.is_ok() {
             division(&case.image, &case.text, front);
@@ -219,7 +219,7 @@ fn stability() {
     for _ in 0..RUNS {
         let case = stable_case(&mut rng);
         assert_eq!(pair(&case.older, &case.newer), Ok(()));
-        let room = TOKEN_WORDS * rng.below(30);
+        let room = RECORD_WORDS * rng.below(30);
         let (mut old_words, mut new_words) = (vec![7; room], vec![7; room]);
         let older = list(&case.older, &case.text, &mut old_words);
         let newer = list(&case.newer, &case.text, &mut new_words);

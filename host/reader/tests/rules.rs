@@ -4,7 +4,8 @@ use luffinarc_reader::changes::changes_of;
 use luffinarc_reader::class::{NONSTART, OTHER, START, SYNTAX, WHITE};
 use luffinarc_reader::image::{profile_offset, MAX_IMAGE, MAX_RANGES, RANGE_BYTES};
 use luffinarc_reader::lister::MAX_SCRIPT;
-use luffinarc_reader::token::{MAX_TEXT, TOKEN_WORDS};
+use luffinarc_reader::record::RECORD_WORDS;
+use luffinarc_reader::token::MAX_TEXT;
 use luffinarc_reader::*;
 
 /// The ranges of M.
@@ -37,10 +38,10 @@ fn m2() -> Vec<u8> {
 }
 
 fn tokens(image: &[u8], text: &[u8]) -> Result<Vec<u32>, Refusal> {
-    let mut words = vec![0; TOKEN_WORDS * text.len()];
+    let mut words = vec![0; RECORD_WORDS * text.len()];
     let n = list(image, text, &mut words)?;
     assert_eq!(count(image, text), Ok(n));
-    Ok(words[..TOKEN_WORDS * n].to_vec())
+    Ok(words[..RECORD_WORDS * n].to_vec())
 }
 
 #[test]

@@ -1,6 +1,6 @@
 //! Refusal 6 against the standard library: the place, and the length of the maximal subpart there.
 
-use luffinarc::{Image, TOKEN_WORDS};
+use luffinarc::{Image, RECORD_WORDS};
 use luffinarc_reader::cases::{image_of, Rng};
 use luffinarc_reader::image::{Image as Made, Range};
 use luffinarc_reader::{class, Calls, Profile, Reader, Refusal};
@@ -59,7 +59,7 @@ fn six<T>(result: Result<T, Refusal>) -> Option<Refusal> {
 fn compare(calls: &impl Calls, image: &[u8], text: &[u8]) {
     let expected = by_std(text).err();
     assert_eq!(six(calls.count(image, text)), expected, "{text:02X?}");
-    let mut words = vec![7; TOKEN_WORDS * text.len()];
+    let mut words = vec![7; RECORD_WORDS * text.len()];
     assert_eq!(six(calls.list(image, text, &mut words)), expected, "{text:02X?}");
     assert!(expected.is_none() || words.iter().all(|&word| word == 7), "{text:02X?}");
 }

@@ -122,7 +122,7 @@ fn limits() {
         ("MAX_IMAGE", luffinarc::MAX_IMAGE, image::MAX_IMAGE),
         ("MAX_TEXT", luffinarc::MAX_TEXT, token::MAX_TEXT),
         ("RANGE_WORDS", luffinarc::RANGE_WORDS, image::RANGE_WORDS),
-        ("TOKEN_WORDS", luffinarc::TOKEN_WORDS, token::TOKEN_WORDS),
+        ("RECORD_WORDS", luffinarc::RECORD_WORDS, token::RECORD_WORDS),
         ("MAX_RUNS", luffinarc::MAX_RUNS, changes::MAX_RUNS),
         ("MAX_CHANGED_ENTRIES", luffinarc::MAX_CHANGED_ENTRIES, changes::MAX_CHANGED_ENTRIES),
         ("RUN_WORDS", luffinarc::RUN_WORDS, changes::RUN_WORDS),

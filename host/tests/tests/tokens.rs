@@ -1,6 +1,6 @@
 //! The calls on tokens against the independent reader, on made cases and on every short text of some bytes.
 
-use luffinarc::{Image, MAX_TEXT, TOKEN_WORDS};
+use luffinarc::{Image, MAX_TEXT, RECORD_WORDS};
 use luffinarc_reader::cases::*;
 use luffinarc_reader::image::{parse, Image as Made};
 use luffinarc_reader::{class, role, utf8, Calls, Profile, Reader, Refusal, Token};
@@ -51,7 +51,7 @@ fn lists() {
         let token =
             |t: luffinarc::Token| [t.kind.number(), t.range.start as u32, t.range.end as u32];
         assert!(
-            tokens.flat_map(token).eq(words[..TOKEN_WORDS * count].iter().copied()),
+            tokens.flat_map(token).eq(words[..RECORD_WORDS * count].iter().copied()),
             "{case:02X?}"
         );
     }
@@ -121,7 +121,7 @@ fn listers() {
 fn compare(image: &[u8], text: &[u8]) -> Result<usize, Refusal> {
     let result = Library.count(image, text);
     assert_eq!(result, Reader.count(image, text), "{text:02X?}");
-    let room = TOKEN_WORDS * result.unwrap_or(2);
+    let room = RECORD_WORDS * result.unwrap_or(2);
     for room in [room, room.saturating_sub(1), room + 4] {
         let (mut words, mut expected) = (vec![7; room], vec![7; room]);
         let listed = Library.list(image, text, &mut words);
