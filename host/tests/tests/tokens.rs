@@ -201,17 +201,19 @@ fn lengths() {
     results.close("lengths", "ok,5,6,7");
 }
 
-/// Medials of every class, before and after every kind of character.
+/// Medials of every class, before and after every kind of character, of some with role 5 too.
 #[test]
 fn medials() {
     let plain = parse(&data("images/unicode-16.0.img")).unwrap();
     let entries = [
         (0x20, role::MEDIAL),
         (0x2D, role::MEDIAL),
+        (0x2E, role::HASHTAG),
         (0x31, role::MEDIAL),
         (0x41, role::MEDIAL),
         (0x5F, role::START),
         (0x62, role::OTHER),
+        (0x63, role::HASHTAG),
         (0xA0, role::MEDIAL),
         (0x378, role::MEDIAL),
     ];
