@@ -3,10 +3,10 @@
 use luffinarc::{write_image, Image, Profile, Role, MAX_CHANGED_ENTRIES, MAX_RUNS, RECORD_WORDS};
 use luffinarc_bench::changes::Changes;
 use luffinarc_bench::rival::{check, Refused, Tables};
-use luffinarc_bench::texts;
+use luffinarc_bench::{prose, texts};
 use luffinarc_reader::cases::{self, Rng};
 use luffinarc_reader::changes::changes_of;
-use luffinarc_reader::{kind, list, Refusal};
+use luffinarc_reader::{hashtags, kind, list, Refusal};
 
 const IMAGE: &str = concat!(env!("CARGO_MANIFEST_DIR"), "/../data/images/unicode-16.0.img");
 
@@ -30,19 +30,24 @@ fn read(image: &[u8], text: &[u8]) -> Result<Vec<u32>, Refusal> {
     Ok(words)
 }
 
-/// The rival's list of a text, its refusals named as the reader's.
+/// A refusal of the rival, named as the reader's.
+fn named(refused: Refused) -> Refusal {
+    match refused {
+        Refused::TextLength => Refusal::TextLength,
+        Refused::IllFormed { place, len } => {
+            Refusal::IllFormed { place: place as u64, len: len as u64 }
+        }
+        Refused::Characters(place) => Refusal::Characters(place as u64),
+        Refused::Room(needed) => Refusal::Room(needed as u64),
+    }
+}
+
+/// The rival's list of a text.
 fn rival(tables: &Tables, text: &[u8]) -> Result<Vec<u32>, Refusal> {
     let mut words = Vec::with_capacity(RECORD_WORDS * text.len());
     let listed = tables.list(text, &mut words);
     assert_eq!(tables.count(text), listed);
-    match listed {
-        Ok(count) => assert_eq!(RECORD_WORDS * count, words.len()),
-        Err(Refused::TextLength) => return Err(Refusal::TextLength),
-        Err(Refused::IllFormed { place, len }) => {
-            return Err(Refusal::IllFormed { place: place as u64, len: len as u64 })
-        }
-        Err(Refused::Characters(place)) => return Err(Refusal::Characters(place as u64)),
-    }
+    assert_eq!(RECORD_WORDS * listed.map_err(named)?, words.len());
     Ok(words)
 }
 
@@ -95,6 +100,47 @@ fn on_made_cases() {
         assert!(rival(&tables(&image), &case.text) == expected, "{case:02X?}");
     }
     assert!(accepted > 300, "{accepted}");
+}
+
+/// The rival and the reader list a text's hashtags alike in so many words; gives their number.
+fn agree_on_hashtags(bytes: &[u8], text: &[u8], room: usize) -> Result<usize, Refusal> {
+    let (mut words, mut expected) = (vec![7; room], vec![7; room]);
+    let listed = tables(&Image::check(bytes).unwrap()).hashtags(text, &mut words).map_err(named);
+    assert_eq!(listed, hashtags(bytes, text, &mut expected), "{text:02X?}, room {room}");
+    assert!(words == expected, "{text:02X?}, room {room}");
+    listed
+}
+
+/// On flowing text, where the library is held to the reader too.
+#[test]
+fn on_hashtags() {
+    for sample in prose::all() {
+        assert_eq!(sample.text.len(), texts::LENGTH);
+        let (bytes, text) = (with_profile(sample.profile), sample.text.as_bytes());
+        let mut words = vec![7; RECORD_WORDS * text.len()];
+        let count = hashtags(&bytes, text, &mut words).unwrap();
+        assert_eq!(agree_on_hashtags(&bytes, text, RECORD_WORDS * count), Ok(count));
+        let mut listed = vec![7; words.len()];
+        let image = Image::check(&bytes).unwrap();
+        assert_eq!(image.list_hashtags(text, &mut listed), Ok(count));
+        assert!(listed == words, "{}", sample.name);
+        let dense = sample.name == "dense in tags";
+        let apart = if dense { 8..16 } else { 200..300 };
+        assert!(apart.contains(&(text.len() / count)), "{}: {count} tags", sample.name);
+    }
+}
+
+#[test]
+fn on_made_hashtags() {
+    let (mut rng, mut found) = (Rng::new(), 0);
+    for _ in 0..1000 {
+        let case = cases::hashtag_case(&mut rng);
+        if Image::check(&case.image).is_ok() {
+            let listed = agree_on_hashtags(&case.image, &case.text, case.room);
+            found += usize::from(listed.map_or(false, |count| count > 0));
+        }
+    }
+    assert!(found > 200, "{found}");
 }
 
 /// The rival and the reader list the same changes, or both none; gives the numbers of runs and of entries.
