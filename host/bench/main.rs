@@ -187,7 +187,8 @@ fn tokens(subjects: &[Subject]) {
 
 /// Prints the table of listing hashtags in flowing text.
 fn hashtags(subjects: &[Subject]) {
-    println!("\nFlowing text with a tag to 200 to 300 bytes, and one that is dense in tags:\n");
+    println!("\nFlowing text with a tag to 200 to 300 bytes, and one that is dense in tags,");
+    println!("under a profile that makes the plus sign, the hyphen and a spanner part of them:\n");
     head(subjects);
     row("hashtags / hand-written", subjects, |subject| format!("{:.2}", subject.hashtags()));
 }
