@@ -3,7 +3,7 @@
 use luffinarc::{Hashtag, Image, HASHTAG_KIND, MAX_TEXT, RECORD_WORDS};
 use luffinarc_reader::cases::*;
 use luffinarc_reader::hashtag::SIGNS;
-use luffinarc_reader::image::{parse, Image as Made};
+use luffinarc_reader::image::{parse, Image as Made, Range};
 use luffinarc_reader::{class, role, Calls, Profile, Reader, Refusal};
 use luffinarc_tests::{data, named, runs, say, Library};
 
@@ -98,31 +98,32 @@ fn small_texts() {
     }
 }
 
-/// Signs whose class or role is that of hashtag Continue, or any other.
+/// M2 in which the signs have a class, 0 for none, and a role, 0 for none.
+fn with_signs(class: u32, role: u32) -> Vec<u8> {
+    let mut image = parse(&data("images/m2.img")).unwrap();
+    if class != class::UNASSIGNED {
+        image.ranges.extend(SIGNS.map(|point| Range { first: point, last: point, class }));
+        image.ranges.sort_by_key(|range| range.first);
+    }
+    let entries = SIGNS.map(|point| (point, role));
+    let profile = Profile::of(if role == 0 { &[] } else { &entries });
+    image_of(&Made { profile, ..image })
+}
+
+/// Any two signs, whatever their class and role: they begin tags, and are in none.
 #[test]
 fn signs_with_classes_and_roles() {
-    let plain = parse(&data("images/m2.img")).unwrap();
-    for class in [0, class::START, class::NONSTART, class::SYNTAX, class::WHITE, class::OTHER] {
-        let mut ranges = plain.ranges.clone();
-        for point in SIGNS.into_iter().filter(|_| class != class::UNASSIGNED) {
-            ranges.push(luffinarc_reader::image::Range { first: point, last: point, class });
-        }
-        ranges.sort_by_key(|range| range.first);
-        for role in 0..=role::HASHTAG {
-            let entries = SIGNS.map(|point| (point, role));
-            let entries = if role == 0 { &[][..] } else { &entries };
-            let profile = Profile::of(entries);
-            let image = image_of(&Made { ranges: ranges.clone(), profile, ..plain });
-            for sign in SIGNS.map(|point| char::from_u32(point).unwrap()) {
-                for second in SIGNS.map(|point| char::from_u32(point).unwrap()) {
-                    let tag = format!("{second}ab1");
-                    assert_eq!(tags(&image, &format!("{sign}{tag}")), [&tag]);
-                    assert_eq!(tags(&image, &format!("{tag}{sign}c")), [&tag]);
-                    assert_eq!(tags(&image, &format!("{sign}{second}")), [""; 0]);
-                    assert_eq!(tags(&image, &format!("a{sign}{tag}")), [&tag]);
-                    assert_eq!(tags(&image, &format!("é{tag}")), [""; 0]);
-                }
-            }
+    let signs = SIGNS.map(|point| char::from_u32(point).unwrap());
+    let both: Vec<(char, char)> = signs.iter().flat_map(|&a| signs.map(|b| (a, b))).collect();
+    for number in 0..36 {
+        let image = with_signs(number / 6, number % 6);
+        for &(sign, other) in &both {
+            let tag = format!("{sign}ab1");
+            assert_eq!(tags(&image, &format!("{other}{tag}")), [&tag]);
+            assert_eq!(tags(&image, &format!("a{other}{tag}")), [&tag]);
+            assert_eq!(tags(&image, &format!("{tag}{other}c")), [&tag]);
+            assert_eq!(tags(&image, &format!("{sign}{other}")), [""; 0]);
+            assert_eq!(tags(&image, &format!("é{tag}")), [""; 0]);
         }
     }
 }
