@@ -1,6 +1,6 @@
 //! The reader over ICU, if `LUFFINARC_ICU` names the file that holds it.
 
-use luffinarc::TOKEN_WORDS;
+use luffinarc::RECORD_WORDS;
 use std::ffi::{c_void, CStr, CString};
 use std::os::raw::c_char;
 
@@ -38,7 +38,7 @@ impl Icu {
 
     /// Lists the text's tokens in words that have room for one at each byte.
     pub fn list(&self, text: &[u8], medials: &CStr, words: &mut [u32]) -> i64 {
-        assert!(words.len() >= TOKEN_WORDS * text.len());
+        assert!(words.len() >= RECORD_WORDS * text.len());
         let words = words.as_mut_ptr();
         // Safety: as above, and a token has a byte at least.
         unsafe { (self.0)(text.as_ptr(), text.len() as i32, medials.as_ptr(), words) }

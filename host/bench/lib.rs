@@ -3,5 +3,6 @@
 #![forbid(unsafe_code)]
 
 pub mod changes;
+pub mod prose;
 pub mod rival;
 pub mod texts;

@@ -6,10 +6,11 @@ mod icu;
 use icu::Icu;
 use luffinarc::calls::{self, Answer};
 use luffinarc::{
-    write_image, Image, Profile, CHANGED_ENTRY_WORDS, MAX_CHANGED_ENTRIES, MAX_RUNS, RUN_WORDS,
-    TOKEN_WORDS,
+    write_image, Image, Profile, Role, CHANGED_ENTRY_WORDS, MAX_CHANGED_ENTRIES, MAX_RUNS,
+    RECORD_WORDS, RUN_WORDS,
 };
 use luffinarc_bench::changes::Changes;
+use luffinarc_bench::prose;
 use luffinarc_bench::rival::{self, Tables};
 use luffinarc_bench::texts::{self, Sample};
 use luffinarc_reader::cases::{image_of, most_changes};
@@ -89,13 +90,14 @@ impl<'a> Subject<'a> {
     fn new(sample: &'a Sample, bytes: &'a [u8]) -> Subject<'a> {
         let image = Image::check(bytes).unwrap();
         let tables = Tables::new(&image.ranges(), sample.profile);
-        let medials: Vec<u8> = sample.profile.iter().map(|entry| entry.0 as u8).collect();
+        let medials = sample.profile.iter().filter(|entry| entry.1 == Role::Medial);
+        let medials: Vec<u8> = medials.map(|entry| entry.0 as u8).collect();
         Subject { sample, image, tables, medials: CString::new(medials).unwrap() }
     }
 
     /// Words with room for a token at each byte, written before.
     fn words(&self) -> Vec<u32> {
-        vec![0; TOKEN_WORDS * self.sample.text.len()]
+        vec![0; RECORD_WORDS * self.sample.text.len()]
     }
 
     /// Counting, against the rival.
@@ -112,10 +114,24 @@ impl<'a> Subject<'a> {
         let (mut words, mut list) = (self.words(), Vec::with_capacity(self.words().len()));
         let count = self.image.list(text, &mut words).unwrap();
         self.tables.list(text, &mut list).unwrap();
-        assert!(words[..TOKEN_WORDS * count] == list, "{}: the lists differ", self.sample.name);
+        assert!(words[..RECORD_WORDS * count] == list, "{}: the lists differ", self.sample.name);
         race(1, &mut || _ = black_box(self.image.list(black_box(text), &mut words)), &mut || {
             _ = black_box(self.tables.list(black_box(text), &mut list))
         })
+    }
+
+    /// Listing hashtags, against the rival.
+    fn hashtags(&self) -> f64 {
+        let text = self.sample.text.as_bytes();
+        let (mut words, mut list) = (self.words(), self.words());
+        let count = self.image.list_hashtags(text, &mut words).unwrap();
+        assert_eq!(self.tables.hashtags(text, &mut list), Ok(count), "{}", self.sample.name);
+        assert!(words == list, "{}: the lists differ", self.sample.name);
+        race(
+            1,
+            &mut || _ = black_box(self.image.list_hashtags(black_box(text), &mut words)),
+            &mut || _ = black_box(self.tables.hashtags(black_box(text), &mut list)),
+        )
     }
 
     /// Counting, against ICU.
@@ -149,10 +165,15 @@ fn row<T>(name: &str, cells: &[T], cell: impl Fn(&T) -> String) {
     println!();
 }
 
-/// Prints the table of counting and listing.
-fn tokens(subjects: &[Subject]) {
+/// Prints the head of a table.
+fn head(subjects: &[Subject]) {
     row("", subjects, |subject| subject.sample.name.to_string());
     row("---", subjects, |_| "---".to_string());
+}
+
+/// Prints the table of counting and listing tokens.
+fn tokens(subjects: &[Subject]) {
+    head(subjects);
     row("count / hand-written", subjects, |subject| format!("{:.2}", subject.count()));
     row("list / hand-written", subjects, |subject| format!("{:.2}", subject.list()));
     match Icu::load() {
@@ -162,6 +183,24 @@ fn tokens(subjects: &[Subject]) {
             row("list / ICU", subjects, |subject| format!("{:.2}", subject.list_icu(&icu)));
         }
     }
+}
+
+/// Prints the table of listing hashtags in flowing text.
+fn hashtags(subjects: &[Subject]) {
+    println!("\nFlowing text with a tag to 200 to 300 bytes, and one that is dense in tags,");
+    println!("under a profile that makes the plus sign, the hyphen and a spanner part of them:\n");
+    head(subjects);
+    row("hashtags / hand-written", subjects, |subject| format!("{:.2}", subject.hashtags()));
+}
+
+/// Hands samples, each under the image with its profile, to what prints their table.
+fn with_subjects(image: &Image, samples: &[Sample], print: fn(&[Subject])) {
+    let with_profile = |sample: &Sample| {
+        write_image(image.version(), &image.ranges(), &Profile::new(sample.profile)).unwrap()
+    };
+    let images: Vec<Vec<u8>> = samples.iter().map(with_profile).collect();
+    let both = samples.iter().zip(&images);
+    print(&both.map(|(sample, bytes)| Subject::new(sample, bytes)).collect::<Vec<_>>());
 }
 
 /// Looking up these numbers, against the rival.
@@ -232,20 +271,14 @@ fn main() {
         "Dotted names are read under a profile that makes the hyphen and the full stop medial."
     );
     println!(
-        "List: 3 words lent for every byte of the text, to both, and written before the clock."
+        "List: {RECORD_WORDS} words lent for every byte of the text, to both, and written before the clock."
     );
     println!(
         "Library: as `rt staticlib` compiles it. Rival: Rust, opt-level 3. Both for plain x86-64."
     );
     println!("They take turns, {ROUNDS} rounds or more in {SECONDS} s for each figure.\n");
-    let samples = texts::all();
-    let with_profile = |sample: &Sample| {
-        write_image(image.version(), &ranges, &Profile::new(sample.profile)).unwrap()
-    };
-    let images: Vec<Vec<u8>> = samples.iter().map(with_profile).collect();
-    let subjects: Vec<Subject> =
-        samples.iter().zip(&images).map(|(sample, bytes)| Subject::new(sample, bytes)).collect();
-    tokens(&subjects);
+    with_subjects(&image, &texts::all(), tokens);
+    with_subjects(&image, &prose::all(), hashtags);
     let tables = Tables::new(&ranges, &[]);
     let rising: Vec<u32> = (0..=0x10FFFF).filter(|&p| char::from_u32(p).is_some()).collect();
     let mixed: Vec<u32> = texts::mixed().chars().map(u32::from).collect();

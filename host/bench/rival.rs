@@ -2,7 +2,8 @@
 //! library's UTF-8 check, then a lexer over two-stage tables.
 
 use luffinarc::{
-    Class, Kind, Range, Role, MAX_ENTRIES, MAX_IMAGE, MAX_RANGES, MAX_TEXT, TOKEN_WORDS,
+    Class, Kind, Range, Role, HASHTAG_KIND, MAX_ENTRIES, MAX_IMAGE, MAX_RANGES, MAX_TEXT,
+    RECORD_WORDS,
 };
 use std::str::Utf8Error;
 
@@ -11,6 +12,11 @@ const CONTINUE: u8 = 2;
 const SYNTAX: u8 = 4;
 const WHITE: u8 = 8;
 const MEDIAL: u8 = 16;
+/// Hashtag Continue.
+const TAG: u8 = 32;
+
+/// The signs that begin a hashtag.
+pub const SIGNS: [char; 3] = ['#', '\u{FE5F}', '\u{FF03}'];
 
 /// Why a text is refused.
 #[derive(Clone, Copy, Debug, PartialEq, Eq)]
@@ -22,6 +28,8 @@ pub enum Refused {
         len: usize,
     },
     Characters(usize),
+    /// The records needed.
+    Room(usize),
 }
 
 /// The flags of every code point: a block index and blocks of 256, and the
@@ -36,8 +44,8 @@ pub struct Tables {
 fn flags(class: Class, medial: bool) -> u8 {
     let medial = if medial { MEDIAL } else { 0 };
     match class {
-        Class::Start => START | CONTINUE,
-        Class::Nonstart => CONTINUE,
+        Class::Start => START | CONTINUE | TAG,
+        Class::Nonstart => CONTINUE | TAG,
         Class::Syntax => SYNTAX | medial,
         Class::White => WHITE | medial,
         Class::Unassigned | Class::Other => medial,
@@ -57,7 +65,11 @@ fn flat(ranges: &[Range], profile: &[(u32, Role)]) -> Vec<u8> {
             Role::Nonstart => flags(Class::Nonstart, false),
             Role::Medial => flags(classes[point as usize], true),
             Role::Other => flags(Class::Other, false),
+            Role::Hashtag => flags(classes[point as usize], false) | TAG,
         };
+    }
+    for sign in SIGNS {
+        all[sign as usize] &= !TAG;
     }
     all
 }
@@ -67,6 +79,15 @@ fn flat(ranges: &[Range], profile: &[(u32, Role)]) -> Vec<u8> {
 fn ill_formed(text: &[u8], error: Utf8Error) -> Refused {
     let place = error.valid_up_to();
     Refused::IllFormed { place, len: error.error_len().unwrap_or(text.len() - place) }
+}
+
+/// The text, if it is not too long and well-formed.
+#[inline(always)]
+fn check_text(text: &[u8]) -> Result<&str, Refused> {
+    if text.len() > MAX_TEXT {
+        return Err(Refused::TextLength);
+    }
+    std::str::from_utf8(text).map_err(|error| ill_formed(text, error))
 }
 
 /// A word of 32 bits, little-endian.
@@ -101,7 +122,7 @@ pub fn check(image: &[u8]) -> Option<usize> {
     for entry in image[entries..].chunks_exact(8) {
         let (point, role) = (word(entry, 0), word(entry, 4));
         let scalar = char::from_u32(point).is_some();
-        if !scalar || !(1..=4).contains(&role) || point_before.map_or(false, |p| p >= point) {
+        if !scalar || !(1..=5).contains(&role) || point_before.map_or(false, |p| p >= point) {
             return None;
         }
         point_before = Some(point);
@@ -191,10 +212,7 @@ impl Tables {
     /// Hands each token's kind, start and end to the taker.
     #[inline(always)]
     fn lex(&self, text: &[u8], mut take: impl FnMut(Kind, u32, u32)) -> Result<(), Refused> {
-        if text.len() > MAX_TEXT {
-            return Err(Refused::TextLength);
-        }
-        std::str::from_utf8(text).map_err(|error| ill_formed(text, error))?;
+        check_text(text)?;
         let mut at = 0;
         while at < text.len() {
             let (found, length) = self.look(text, at);
@@ -225,6 +243,33 @@ impl Tables {
     pub fn list(&self, text: &[u8], list: &mut Vec<u32>) -> Result<usize, Refused> {
         list.clear();
         self.lex(text, |kind, start, end| list.extend_from_slice(&[kind.number(), start, end]))?;
-        Ok(list.len() / TOKEN_WORDS)
+        Ok(list.len() / RECORD_WORDS)
+    }
+    /// Whether a character is hashtag Continue.
+    #[inline(always)]
+    fn tags(&self, c: Option<char>) -> bool {
+        c.map_or(false, |c| self.flags_of(c.into()) & TAG != 0)
+    }
+
+    /// Lists the text's hashtags in the words, three each, and counts them. They are found first: only the characters
+    /// beside a sign are looked up, and those of a tag.
+    pub fn hashtags(&self, text: &[u8], words: &mut [u32]) -> Result<usize, Refused> {
+        let text = check_text(text)?;
+        let mut found: Vec<(usize, usize)> = Vec::new();
+        for (start, sign) in text.match_indices(&SIGNS[..]) {
+            let from = start + sign.len();
+            if self.tags(text[from..].chars().next())
+                && !self.tags(text[..start].chars().next_back())
+            {
+                found.push((start, self.run(text.as_bytes(), from, TAG)));
+            }
+        }
+        if words.len() / RECORD_WORDS < found.len() {
+            return Err(Refused::Room(found.len()));
+        }
+        for (record, &(start, end)) in words.chunks_exact_mut(RECORD_WORDS).zip(&found) {
+            record.copy_from_slice(&[HASHTAG_KIND, start as u32, end as u32]);
+        }
+        Ok(found.len())
     }
 }

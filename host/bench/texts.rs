@@ -10,7 +10,7 @@ pub const LENGTH: usize = MAX_TEXT;
 /// The medials of dotted names: the hyphen and the full stop.
 pub const MEDIALS: [(u32, Role); 2] = [(0x2D, Role::Medial), (0x2E, Role::Medial)];
 
-const KEYS: [&str; 24] = [
+pub(crate) const KEYS: [&str; 24] = [
     "panel",
     "valve",
     "pump_2",
@@ -36,7 +36,7 @@ const KEYS: [&str; 24] = [
     "display",
     "language",
 ];
-const POLISH: [&str; 24] = [
+pub(crate) const POLISH: [&str; 24] = [
     "zawór",
     "ciśnienie",
     "wejście",
@@ -62,7 +62,7 @@ const POLISH: [&str; 24] = [
     "światło",
     "Łódź",
 ];
-const WORDS: [&str; 30] = [
+pub(crate) const WORDS: [&str; 30] = [
     "panel",
     "étage",
     "Größe",
@@ -94,11 +94,11 @@ const WORDS: [&str; 30] = [
     "ግፊት",
     "𞤣𞤮𞤼𞥅𞤢𞤤",
 ];
-const SIGNS: [&str; 16] =
+pub(crate) const SIGNS: [&str; 16] =
     ["=", ";", ",", ".", "(", ")", "{", "}", "+", "«", "»", "→", "≤", "。", "、", "×"];
 
 /// Lines until the text is full; the rest is spaces.
-fn filled(mut line: impl FnMut() -> String) -> String {
+pub(crate) fn filled(mut line: impl FnMut() -> String) -> String {
     let mut text = String::with_capacity(LENGTH);
     loop {
         let next = line();
@@ -140,7 +140,7 @@ pub fn polish() -> String {
 }
 
 /// A word of Adlam letters, with marks and digits after the first.
-fn adlam_word(rng: &mut Rng) -> String {
+pub(crate) fn adlam_word(rng: &mut Rng) -> String {
     let letter = |rng: &mut Rng| char::from_u32(0x1E900 + rng.below(68) as u32).unwrap();
     let mut word = String::from(letter(rng));
     for _ in 0..2 + rng.below(7) {

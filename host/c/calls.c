@@ -69,6 +69,9 @@ static void empty_slices(const uint8_t *m, size_t m_len)
     CHECK(luffinarc_list(m, m_len, NULL, 0, NULL, 0, answer) == 0 && gave(0, 0, 0));
     CHECK(luffinarc_token(m, m_len, NULL, 0, 0, answer) == LUFFINARC_DONE && gave(0, 0, 0));
     CHECK(luffinarc_token(m, m_len, NULL, 0, 1, answer) == LUFFINARC_SHAPE && gave(0, 0, 0));
+    CHECK(luffinarc_hashtags(NULL, 0, NULL, 0, NULL, 0, answer) == LUFFINARC_LENGTH && gave(0, 0, 0));
+    CHECK(luffinarc_hashtags(m, m_len, NULL, 0, NULL, 0, answer) == 0 && gave(0, 0, 0));
+    CHECK(luffinarc_hashtags_checked(m, m_len, NULL, 0, NULL, 0, answer) == 0 && gave(0, 0, 0));
     CHECK(luffinarc_part(NULL, 0, 0, 0, answer) == 0 && gave(0, 0, 0));
     CHECK(luffinarc_part(NULL, 0, 0, 1, answer) == LUFFINARC_SHAPE && gave(0, 0, 0));
 }
@@ -158,6 +161,44 @@ static void tokens(const uint8_t *m, size_t m_len)
     CHECK(luffinarc_part(text, 7, 5, 2, answer) == LUFFINARC_SHAPE && gave(0, 0, 0));
 }
 
+/* Writes M with 5F as part of hashtags to `out`, of 108 bytes. */
+static void write_tagged(const uint8_t *m, size_t m_len, uint8_t *out)
+{
+    uint32_t words[15];
+    CHECK(luffinarc_read(m, m_len, words, 15, points, roles, answer) == 0 && gave(VERSION, 5, 1));
+    points[1] = 0x5F, roles[1] = LUFFINARC_ROLE_HASHTAG;
+    CHECK(luffinarc_write(VERSION, words, 15, points, roles, 2, out, 108, answer) == 0 && gave(108, 0, 0));
+    roles[1] = LUFFINARC_ROLE_HASHTAG + 1;
+    CHECK(luffinarc_write(VERSION, words, 15, points, roles, 2, out, 108, answer) == LUFFINARC_ENTRY && gave(1, 0, 0));
+}
+
+/* Hashtags, with each sign, with an image checked in each call and once before. */
+static void hashtags(const uint8_t *m, size_t m_len)
+{
+    static const uint8_t text[] = "%##a_ b#c \xEF\xBC\x83" "1.\xEF\xB9\x9Fz", bad[] = "#a\xE2\x82#b";
+    static const uint32_t list[] = {
+        LUFFINARC_KIND_HASHTAG, 2, 5, LUFFINARC_KIND_HASHTAG, 10, 14, LUFFINARC_KIND_HASHTAG, 15, 19,
+    };
+    uint32_t words[10];
+    uint8_t p[108];
+    memset(words, 0xFF, sizeof words);
+    write_tagged(m, m_len, p);
+    CHECK(luffinarc_check(p, 108, points, roles, answer) == 0 && gave(VERSION, 5, 2));
+    CHECK(points[1] == 0x5F && roles[1] == LUFFINARC_ROLE_HASHTAG);
+    CHECK(luffinarc_hashtags(p, 108, text, 19, words, 8, answer) == LUFFINARC_ROOM && gave(3, 0, 0));
+    CHECK(luffinarc_hashtags_checked(p, 108, text, 19, NULL, 0, answer) == LUFFINARC_ROOM && gave(3, 0, 0));
+    CHECK(luffinarc_hashtags(p, 108, bad, 6, words, 10, answer) == LUFFINARC_ILL_FORMED && gave(2, 2, 0));
+    CHECK(luffinarc_hashtags(p, 107, text, 19, words, 10, answer) == LUFFINARC_LENGTH && gave(0, 0, 0));
+    CHECK(words[0] == UINT32_MAX);
+    CHECK(luffinarc_hashtags(p, 108, text, 19, words, 10, answer) == 0 && gave(3, 0, 0));
+    CHECK(memcmp(words, list, sizeof list) == 0 && words[9] == UINT32_MAX);
+    memset(words, 0xFF, sizeof words);
+    CHECK(luffinarc_hashtags_checked(p, 108, text, 19, words, 9, answer) == 0 && gave(3, 0, 0));
+    CHECK(memcmp(words, list, sizeof list) == 0 && words[9] == UINT32_MAX);
+    CHECK(luffinarc_lookup(p, 108, 0x5F, answer) == 0 && gave(LUFFINARC_CLASS_UNASSIGNED, 3, 0));
+    CHECK(luffinarc_count(p, 108, text, 19, answer) == LUFFINARC_CHARACTERS && gave(0, 0, 0));
+}
+
 /* Ill-formed texts: the place, and the length of the maximal subpart there. */
 static void ill_formed(const uint8_t *m, size_t m_len)
 {
@@ -192,6 +233,7 @@ int main(int argc, char **argv)
     images(m, m_len, m2, m2_len);
     changes(m, m_len, m2, m2_len);
     tokens(m, m_len);
+    hashtags(m, m_len);
     ill_formed(m, m_len);
     printf("%d passed, %d failed\n", passed, failed);
     return failed != 0;

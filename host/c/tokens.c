@@ -77,7 +77,7 @@ static int list(struct bytes image, struct bytes text)
         print_refusal(refusal, answer);
         return 1;
     }
-    size_t words_len = LUFFINARC_TOKEN_WORDS * (size_t)answer[0];
+    size_t words_len = LUFFINARC_RECORD_WORDS * (size_t)answer[0];
     uint32_t *words = malloc((words_len + 1) * sizeof *words);
     if (words == NULL) {
         perror("tokens");
@@ -85,7 +85,7 @@ static int list(struct bytes image, struct bytes text)
     }
     luffinarc_list_checked(image.at, image.len, text.at, text.len, words, words_len, answer);
     printf("tokens %" PRIu64 "\n", answer[0]);
-    for (size_t i = 0; i < words_len; i += LUFFINARC_TOKEN_WORDS)
+    for (size_t i = 0; i < words_len; i += LUFFINARC_RECORD_WORDS)
         printf("%s %" PRIu32 " %" PRIu32 "\n", kind_name(words[i]), words[i + 1], words[i + 2]);
     free(words);
     return 0;

@@ -1,4 +1,4 @@
-/* Luffinarc: class images and tokens by Unicode Standard Annex #31.
+/* Luffinarc: class images, tokens and hashtags by Unicode Standard Annex #31.
  *
  * The functions are those of the static library target/staticlib/libluffinarc.a, which `rt staticlib luffinarc` makes.
  * They are proved to answer as their definitions say, for all images, texts and numbers (those whose name ends in
@@ -39,9 +39,10 @@ extern "C" {
 #define LUFFINARC_MAX_RUNS 16383
 #define LUFFINARC_MAX_CHANGED_ENTRIES 128
 
-/* The words of a range (first, last, class) and of a token (kind, start byte, end byte). */
+/* The words of a range (first, last, class), and of a record in a list of tokens or of hashtags (kind, start byte, end
+ * byte). */
 #define LUFFINARC_RANGE_WORDS 3
-#define LUFFINARC_TOKEN_WORDS 3
+#define LUFFINARC_RECORD_WORDS 3
 
 /* The words of a run (first, last, older class, newer class) and of a changed entry (code point, older role, newer
  * role). */
@@ -88,19 +89,22 @@ enum luffinarc_class {
     LUFFINARC_CLASS_OTHER = 5
 };
 
-/* Roles of profile entries: the class of the code point is Start, Nonstart or Other; a medial keeps its class. */
+/* Roles of profile entries: the class of the code point is Start, Nonstart or Other; a medial keeps its class, and so
+ * does a code point that is part of hashtags. */
 enum luffinarc_role {
     LUFFINARC_ROLE_START = 1,
     LUFFINARC_ROLE_NONSTART = 2,
     LUFFINARC_ROLE_MEDIAL = 3,
-    LUFFINARC_ROLE_OTHER = 4
+    LUFFINARC_ROLE_OTHER = 4,
+    LUFFINARC_ROLE_HASHTAG = 5
 };
 
-/* Kinds of tokens. */
+/* Kinds of tokens, and the kind in the record of a hashtag, which no token has. */
 enum luffinarc_kind {
     LUFFINARC_KIND_IDENTIFIER = 1,
     LUFFINARC_KIND_SYNTAX = 2,
-    LUFFINARC_KIND_WHITESPACE = 3
+    LUFFINARC_KIND_WHITESPACE = 3,
+    LUFFINARC_KIND_HASHTAG = 6
 };
 
 /* Checks an image.
@@ -177,11 +181,11 @@ uint32_t luffinarc_changes(const uint8_t *older, size_t older_len,
 uint32_t luffinarc_count(const uint8_t *image, size_t image_len,
                          const uint8_t *text, size_t text_len, uint64_t *answer);
 
-/* Writes the list of a text's tokens to `words`, three words each: kind, first byte, one past the last byte.
+/* Writes the list of a text's tokens to `words`, LUFFINARC_RECORD_WORDS each: kind, first byte, one past the last byte.
  *
  * 0: answer[0] is their number; the words past the list stay as they were.
- * Refusals: 1 to 4, 5, 6 with place and length, 7, then 8 where words_len / 3, rounded down, is below the number of
- * tokens. words is left as it was.
+ * Refusals: 1 to 4, 5, 6 with place and length, 7, then 8 where words_len / LUFFINARC_RECORD_WORDS, rounded down, is
+ * below the number of tokens. words is left as it was.
  */
 uint32_t luffinarc_list(const uint8_t *image, size_t image_len,
                         const uint8_t *text, size_t text_len,
@@ -197,6 +201,22 @@ uint32_t luffinarc_list(const uint8_t *image, size_t image_len,
 uint32_t luffinarc_token(const uint8_t *image, size_t image_len,
                          const uint8_t *text, size_t text_len,
                          size_t place, uint64_t *answer);
+
+/* Writes the list of a text's hashtags to `words`, LUFFINARC_RECORD_WORDS each: LUFFINARC_KIND_HASHTAG, first byte, one
+ * past the last byte.
+ *
+ * A hashtag is one of the signs U+0023, U+FE5F and U+FF03 and after it the longest run of hashtag Continue, at least
+ * one, where no hashtag Continue stands right before the sign. Hashtag Continue are the code points whose class after
+ * the profile is Start or Nonstart, or whose role is LUFFINARC_ROLE_HASHTAG, but none of the signs. Medials play no
+ * part. No text is refused for its characters.
+ *
+ * 0: answer[0] is their number, which may be 0; the words past the list stay as they were.
+ * Refusals: 1 to 4, 5, 6 with place and length, then 8 where words_len / LUFFINARC_RECORD_WORDS, rounded down, is below
+ * the number of hashtags, with that number. words is left as it was.
+ */
+uint32_t luffinarc_hashtags(const uint8_t *image, size_t image_len,
+                            const uint8_t *text, size_t text_len,
+                            uint32_t *words, size_t words_len, uint64_t *answer);
 
 /* Hands back a part of a text, from byte `start` to before byte `end`.
  *
@@ -227,6 +247,10 @@ uint32_t luffinarc_list_checked(const uint8_t *image, size_t image_len,
 uint32_t luffinarc_token_checked(const uint8_t *image, size_t image_len,
                                  const uint8_t *text, size_t text_len,
                                  size_t place, uint64_t *answer);
+
+uint32_t luffinarc_hashtags_checked(const uint8_t *image, size_t image_len,
+                                    const uint8_t *text, size_t text_len,
+                                    uint32_t *words, size_t words_len, uint64_t *answer);
 
 #ifdef __cplusplus
 }

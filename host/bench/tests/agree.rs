@@ -1,12 +1,12 @@
 //! The rival and the reader agree.
 
-use luffinarc::{write_image, Image, Profile, Role, MAX_CHANGED_ENTRIES, MAX_RUNS, TOKEN_WORDS};
+use luffinarc::{write_image, Image, Profile, Role, MAX_CHANGED_ENTRIES, MAX_RUNS, RECORD_WORDS};
 use luffinarc_bench::changes::Changes;
 use luffinarc_bench::rival::{check, Refused, Tables};
-use luffinarc_bench::texts;
+use luffinarc_bench::{prose, texts};
 use luffinarc_reader::cases::{self, Rng};
 use luffinarc_reader::changes::changes_of;
-use luffinarc_reader::{kind, list, Refusal};
+use luffinarc_reader::{hashtags, kind, list, Refusal};
 
 const IMAGE: &str = concat!(env!("CARGO_MANIFEST_DIR"), "/../data/images/unicode-16.0.img");
 
@@ -24,25 +24,30 @@ fn with_profile(profile: &[(u32, Role)]) -> Vec<u8> {
 
 /// The reader's list of a text.
 fn read(image: &[u8], text: &[u8]) -> Result<Vec<u32>, Refusal> {
-    let mut words = vec![0; TOKEN_WORDS * text.len()];
+    let mut words = vec![0; RECORD_WORDS * text.len()];
     let count = list(image, text, &mut words)?;
-    words.truncate(TOKEN_WORDS * count);
+    words.truncate(RECORD_WORDS * count);
     Ok(words)
 }
 
-/// The rival's list of a text, its refusals named as the reader's.
+/// A refusal of the rival, named as the reader's.
+fn named(refused: Refused) -> Refusal {
+    match refused {
+        Refused::TextLength => Refusal::TextLength,
+        Refused::IllFormed { place, len } => {
+            Refusal::IllFormed { place: place as u64, len: len as u64 }
+        }
+        Refused::Characters(place) => Refusal::Characters(place as u64),
+        Refused::Room(needed) => Refusal::Room(needed as u64),
+    }
+}
+
+/// The rival's list of a text.
 fn rival(tables: &Tables, text: &[u8]) -> Result<Vec<u32>, Refusal> {
-    let mut words = Vec::with_capacity(TOKEN_WORDS * text.len());
+    let mut words = Vec::with_capacity(RECORD_WORDS * text.len());
     let listed = tables.list(text, &mut words);
     assert_eq!(tables.count(text), listed);
-    match listed {
-        Ok(count) => assert_eq!(TOKEN_WORDS * count, words.len()),
-        Err(Refused::TextLength) => return Err(Refusal::TextLength),
-        Err(Refused::IllFormed { place, len }) => {
-            return Err(Refusal::IllFormed { place: place as u64, len: len as u64 })
-        }
-        Err(Refused::Characters(place)) => return Err(Refusal::Characters(place as u64)),
-    }
+    assert_eq!(RECORD_WORDS * listed.map_err(named)?, words.len());
     Ok(words)
 }
 
@@ -52,9 +57,9 @@ fn agree(bytes: &[u8], name: &str, text: &str) -> usize {
     let tokens = read(bytes, text.as_bytes()).unwrap_or_else(|r| panic!("{name}: {r}"));
     assert!(rival(&tables(&image), text.as_bytes()).unwrap() == tokens, "{name}");
     let mut words = vec![0; tokens.len()];
-    assert_eq!(image.list(text, &mut words), Ok(tokens.len() / TOKEN_WORDS), "{name}");
+    assert_eq!(image.list(text, &mut words), Ok(tokens.len() / RECORD_WORDS), "{name}");
     assert!(words == tokens, "{name}");
-    tokens.len() / TOKEN_WORDS
+    tokens.len() / RECORD_WORDS
 }
 
 /// On every text, under its profile and under others.
@@ -75,7 +80,7 @@ fn on_the_texts() {
 fn dotted_names() {
     let text = texts::dotted();
     let tokens = read(&with_profile(&texts::MEDIALS), text.as_bytes()).unwrap();
-    let of = |kind| tokens.chunks(TOKEN_WORDS).filter(|token| token[0] == kind).count();
+    let of = |kind| tokens.chunks(RECORD_WORDS).filter(|token| token[0] == kind).count();
     let names = text.split_ascii_whitespace().count();
     assert_eq!((of(kind::IDENTIFIER), of(kind::SYNTAX)), (names, 0));
 }
@@ -95,6 +100,47 @@ fn on_made_cases() {
         assert!(rival(&tables(&image), &case.text) == expected, "{case:02X?}");
     }
     assert!(accepted > 300, "{accepted}");
+}
+
+/// The rival and the reader list a text's hashtags alike in so many words; gives their number.
+fn agree_on_hashtags(bytes: &[u8], text: &[u8], room: usize) -> Result<usize, Refusal> {
+    let (mut words, mut expected) = (vec![7; room], vec![7; room]);
+    let listed = tables(&Image::check(bytes).unwrap()).hashtags(text, &mut words).map_err(named);
+    assert_eq!(listed, hashtags(bytes, text, &mut expected), "{text:02X?}, room {room}");
+    assert!(words == expected, "{text:02X?}, room {room}");
+    listed
+}
+
+/// On flowing text, where the library is held to the reader too.
+#[test]
+fn on_hashtags() {
+    for sample in prose::all() {
+        assert_eq!(sample.text.len(), texts::LENGTH);
+        let (bytes, text) = (with_profile(sample.profile), sample.text.as_bytes());
+        let mut words = vec![7; RECORD_WORDS * text.len()];
+        let count = hashtags(&bytes, text, &mut words).unwrap();
+        assert_eq!(agree_on_hashtags(&bytes, text, RECORD_WORDS * count), Ok(count));
+        let mut listed = vec![7; words.len()];
+        let image = Image::check(&bytes).unwrap();
+        assert_eq!(image.list_hashtags(text, &mut listed), Ok(count));
+        assert!(listed == words, "{}", sample.name);
+        let dense = sample.name == "dense in tags";
+        let apart = if dense { 8..16 } else { 200..300 };
+        assert!(apart.contains(&(text.len() / count)), "{}: {count} tags", sample.name);
+    }
+}
+
+#[test]
+fn on_made_hashtags() {
+    let (mut rng, mut found) = (Rng::new(), 0);
+    for _ in 0..1000 {
+        let case = cases::hashtag_case(&mut rng);
+        if Image::check(&case.image).is_ok() {
+            let listed = agree_on_hashtags(&case.image, &case.text, case.room);
+            found += usize::from(listed.map_or(false, |count| count > 0));
+        }
+    }
+    assert!(found > 200, "{found}");
 }
 
 /// The rival and the reader list the same changes, or both none; gives the numbers of runs and of entries.

@@ -118,7 +118,7 @@ pub unsafe fn count_checked(image: &[u8], text: &[u8], answer: &mut Answer) -> u
     ffi::luffinarc_count_checked(image.as_ptr(), image.len(), text, text_len, answer)
 }
 
-/// Writes the list of a text's tokens to `words`, three each: kind, start byte, end byte.
+/// Writes the list of a text's tokens to `words`, a record each: kind, start byte, end byte.
 pub fn list(image: &[u8], text: &[u8], words: &mut [u32], answer: &mut Answer) -> u32 {
     unsafe {
         let (image, image_len) = (image.as_ptr(), image.len());
@@ -161,6 +161,33 @@ pub fn token(image: &[u8], text: &[u8], place: usize, answer: &mut Answer) -> u3
 pub unsafe fn token_checked(image: &[u8], text: &[u8], place: usize, answer: &mut Answer) -> u32 {
     let (text, text_len) = (text.as_ptr(), text.len());
     ffi::luffinarc_token_checked(image.as_ptr(), image.len(), text, text_len, place, answer)
+}
+
+/// Writes the list of a text's hashtags to `words`, a record each: kind, start byte, end byte.
+pub fn hashtags(image: &[u8], text: &[u8], words: &mut [u32], answer: &mut Answer) -> u32 {
+    unsafe {
+        let (image, image_len) = (image.as_ptr(), image.len());
+        let (text, text_len) = (text.as_ptr(), text.len());
+        let (words, words_len) = (words.as_mut_ptr(), words.len());
+        ffi::luffinarc_hashtags(image, image_len, text, text_len, words, words_len, answer)
+    }
+}
+
+/// As [`hashtags`], under an image that is not checked again.
+///
+/// # Safety
+///
+/// [`check`] or [`read`] accepted the image.
+pub unsafe fn hashtags_checked(
+    image: &[u8],
+    text: &[u8],
+    words: &mut [u32],
+    answer: &mut Answer,
+) -> u32 {
+    let (image, image_len) = (image.as_ptr(), image.len());
+    let (text, text_len) = (text.as_ptr(), text.len());
+    let (words, words_len) = (words.as_mut_ptr(), words.len());
+    ffi::luffinarc_hashtags_checked(image, image_len, text, text_len, words, words_len, answer)
 }
 
 /// Hands back a part of a text, as its first byte and its number of bytes.

@@ -53,7 +53,7 @@ pub struct Changes {
 
 /// The role with a number that the library gave, 0 for none.
 fn given_role(number: u32) -> Option<Role> {
-    assert!(number <= Role::Other.number(), "the library gives roles 0 to 4");
+    assert!(number <= Role::Hashtag.number(), "the library gives roles 0 to 5");
     Role::from_number(number)
 }
 

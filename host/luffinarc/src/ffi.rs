@@ -125,6 +125,26 @@ extern "C" {
         answer: *mut Answer,
     ) -> u32;
 
+    pub fn luffinarc_hashtags(
+        image: *const u8,
+        image_len: usize,
+        text: *const u8,
+        text_len: usize,
+        words: *mut u32,
+        words_len: usize,
+        answer: *mut Answer,
+    ) -> u32;
+
+    pub fn luffinarc_hashtags_checked(
+        image: *const u8,
+        image_len: usize,
+        text: *const u8,
+        text_len: usize,
+        words: *mut u32,
+        words_len: usize,
+        answer: *mut Answer,
+    ) -> u32;
+
     pub fn luffinarc_part(
         text: *const u8,
         text_len: usize,

@@ -55,7 +55,7 @@ impl Profile {
     /// The entries: code point and role.
     pub fn entries(&self) -> impl Iterator<Item = (u32, Role)> + '_ {
         let used = self.used.min(MAX_ENTRIES);
-        let role = |number| Role::from_number(number).expect("a profile has roles 1 to 4");
+        let role = |number| Role::from_number(number).expect("a profile has roles 1 to 5");
         (0..used).map(move |i| (self.points[i], role(self.roles[i])))
     }
 }

@@ -1,8 +1,8 @@
-//! Class images and tokens by Unicode Standard Annex #31: safe calls of the proved static library.
+//! Class images, tokens and hashtags by Unicode Standard Annex #31: safe calls of the proved static library.
 //!
 //! A class image says of every code point whether it may begin or continue an identifier, is a syntax character or
 //! white space. Under an image, a text is cut into identifiers, syntax characters and white space: each token is the
-//! longest at its place.
+//! longest at its place. In flowing text, whatever its characters, the hashtags are found.
 //!
 //! Every call ends with an answer or a named [`Refusal`], for all images, texts and numbers. An [`Image`] was checked
 //! once, and the calls on it do not check it again.
@@ -41,8 +41,10 @@
 pub mod calls;
 mod changes;
 mod ffi;
+mod hashtag;
 mod image;
 mod names;
+mod record;
 mod refusal;
 mod token;
 
@@ -50,10 +52,12 @@ pub use changes::{
     list_changes, ChangedEntry, Changes, Run, CHANGED_ENTRY_WORDS, MAX_CHANGED_ENTRIES, MAX_RUNS,
     RUN_WORDS,
 };
+pub use hashtag::{Hashtag, HASHTAG_KIND};
 pub use image::{
     check_pair, write_image, Found, Image, Profile, Range, MAX_ENTRIES, MAX_IMAGE, MAX_RANGES,
     RANGE_WORDS,
 };
 pub use names::{Class, Kind, Role};
+pub use record::RECORD_WORDS;
 pub use refusal::{PairRefusal, Refusal};
-pub use token::{part, Token, Tokens, MAX_TEXT, TOKEN_WORDS};
+pub use token::{part, Token, Tokens, MAX_TEXT};

@@ -48,6 +48,8 @@ pub enum Role {
     Medial = 3,
     /// Its class is Other.
     Other = 4,
+    /// It is part of hashtags and keeps its class.
+    Hashtag = 5,
 }
 
 impl Role {
@@ -58,6 +60,7 @@ impl Role {
             2 => Some(Role::Nonstart),
             3 => Some(Role::Medial),
             4 => Some(Role::Other),
+            5 => Some(Role::Hashtag),
             _ => None,
         }
     }

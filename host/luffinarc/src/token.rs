@@ -3,15 +3,13 @@
 use crate::calls::{self, Answer};
 use crate::image::Image;
 use crate::names::Kind;
+use crate::record::{record, whole_list, RECORD_WORDS};
 use crate::refusal::{result, Refusal};
 use std::iter::FusedIterator;
 use std::ops::Range;
 
 /// The most bytes that a text may have.
 pub const MAX_TEXT: usize = 1_048_576;
-
-/// The words of a token in a list: kind, start byte, end byte.
-pub const TOKEN_WORDS: usize = 3;
 
 /// The kind with a number that the library gave.
 fn given_kind(number: u32) -> Kind {
@@ -38,13 +36,13 @@ impl Iterator for Tokens {
     type Item = Token;
 
     fn next(&mut self) -> Option<Token> {
-        let words = self.words.get(self.next..self.next + TOKEN_WORDS)?;
-        self.next += TOKEN_WORDS;
-        Some(Token { kind: given_kind(words[0]), range: words[1] as usize..words[2] as usize })
+        let (kind, range) = record(self.words.get(self.next..self.next + RECORD_WORDS)?);
+        self.next += RECORD_WORDS;
+        Some(Token { kind: given_kind(kind), range })
     }
 
     fn size_hint(&self) -> (usize, Option<usize>) {
-        let left = (self.words.len() - self.next) / TOKEN_WORDS;
+        let left = (self.words.len() - self.next) / RECORD_WORDS;
         (left, Some(left))
     }
 }
@@ -66,7 +64,7 @@ impl Image<'_> {
         result(number, answer).map(|[count, ..]| count as usize)
     }
 
-    /// Writes the list of a text's tokens to the front of `words`, [`TOKEN_WORDS`] each, and gives their number. The
+    /// Writes the list of a text's tokens to the front of `words`, [`RECORD_WORDS`] each, and gives their number. The
     /// other words stay as they were; after a refusal all do.
     ///
     /// # Errors
@@ -90,16 +88,7 @@ impl Image<'_> {
     /// Those of [`count`](Image::count).
     pub fn tokens<T: AsRef<[u8]> + ?Sized>(&self, text: &T) -> Result<Tokens, Refusal> {
         let text = text.as_ref();
-        // Room for tokens of four bytes on average; a text with more is listed again with the room that it needs.
-        let mut words = vec![0; TOKEN_WORDS * (text.len().min(MAX_TEXT) / 4 + 16)];
-        let count = match self.list(text, &mut words) {
-            Err(Refusal::Room { needed }) => {
-                words = vec![0; TOKEN_WORDS * needed];
-                self.list(text, &mut words)?
-            }
-            listed => listed?,
-        };
-        words.truncate(TOKEN_WORDS * count);
+        let words = whole_list(text, 4, |words| self.list(text, words))?;
         Ok(Tokens { words, next: 0 })
     }
 

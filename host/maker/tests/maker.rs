@@ -215,7 +215,7 @@ fn profiles() {
         ("2G 3", "malformed"),
         ("2E -3", "malformed"),
         ("2E 0", "malformed"),
-        ("2E 5", "malformed"),
+        ("2E 6", "malformed"),
         ("2E 3\n2D 3", "answers 4: profile entry 1 is bad"),
         ("2E 3\n2E 3", "answers 4: profile entry 1 is bad"),
         ("D800 3", "answers 4: profile entry 0 is bad"),
@@ -227,13 +227,13 @@ fn profiles() {
         fs::write(&file, text).unwrap();
         fails(&room, &folder, Some(&file), message);
     }
-    fs::write(&file, "# medials\n2D 3\n  2e\t3 # full stop\n\n5F 1\n").unwrap();
+    fs::write(&file, "2b 5 # in hashtags\n# medials\n2D 3\n  2e\t3 # full stop\n\n5F 1\n").unwrap();
     let out = room.join("image");
     assert!(run("16.0.0", &folder, Some(&file), &out).status.success());
     let image = luffinarc_reader::image::parse(&fs::read(&out).unwrap()).unwrap();
     assert_eq!(
         image.profile.entries(),
-        [(0x2D, role::MEDIAL), (0x2E, role::MEDIAL), (0x5F, role::START)]
+        [(0x2B, role::HASHTAG), (0x2D, role::MEDIAL), (0x2E, role::MEDIAL), (0x5F, role::START)]
     );
     assert_eq!(image.version, 0x100000);
 }

@@ -1,6 +1,8 @@
 //! The calls by one trait, so that another reader can be run on the same cases.
 
-use crate::{changes, image, lister, token, Checked, PairRefusal, Profile, Read, Refusal, Token};
+use crate::{
+    changes, hashtag, image, lister, token, Checked, PairRefusal, Profile, Read, Refusal, Token,
+};
 
 pub trait Calls {
     fn check(&self, image: &[u8]) -> Result<Checked, Refusal>;
@@ -34,6 +36,8 @@ pub trait Calls {
     fn at(&self, image: &[u8], text: &[u8], place: usize) -> Result<Option<Token>, Refusal>;
 
     fn part<'a>(&self, text: &'a [u8], start: usize, end: usize) -> Result<&'a [u8], Refusal>;
+
+    fn hashtags(&self, image: &[u8], text: &[u8], words: &mut [u32]) -> Result<usize, Refusal>;
 
     /// The output of the token lister, where the reader has one.
     fn lister(&self, input: &[u8]) -> Option<String>;
@@ -96,6 +100,10 @@ impl Calls for Reader {
 
     fn part<'a>(&self, text: &'a [u8], start: usize, end: usize) -> Result<&'a [u8], Refusal> {
         token::part(text, start, end)
+    }
+
+    fn hashtags(&self, image: &[u8], text: &[u8], words: &mut [u32]) -> Result<usize, Refusal> {
+        hashtag::hashtags(image, text, words)
     }
 
     fn lister(&self, input: &[u8]) -> Option<String> {

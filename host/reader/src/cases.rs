@@ -6,18 +6,20 @@ mod pairs;
 mod tally;
 mod texts;
 
-pub use images::{damaged_image, image_of, large_image, small_image, valid_image};
+pub use images::{damaged_image, hashtag_image, image_of, large_image, small_image, valid_image};
 pub use pairs::{forbidden_change, most_changes, permitted_changes, unequal_profile};
 pub use tally::Tally;
-pub use texts::{damaged_text, long_text, random_bytes, text, token_text};
+pub use texts::{hashtag_text, random_bytes, text, text_with_hashtags, token_text};
 
 use crate::changes::{changes_of, CHANGED_ENTRY_WORDS, RUN_WORDS};
+use crate::hashtag::hashtags;
 use crate::image::{
     total_length, Image, Profile, Range, CODE_POINTS, MAX_ENTRIES, MAX_RANGES, RANGE_WORDS,
 };
 use crate::lister::MAX_SCRIPT;
 use crate::names::class;
-use crate::token::{count, part, TOKEN_WORDS};
+use crate::record::RECORD_WORDS;
+use crate::token::{count, part};
 use crate::utf8::first;
 
 const SEED: u64 = 0x9E37_79B9_7F4A_7C15;
@@ -198,7 +200,7 @@ fn spoil(rng: &mut Rng, words: &mut Vec<u32>, profile: &mut Profile) {
         }
         7 if used > 0 => {
             let i = rng.below(used);
-            profile.roles[i] = *rng.pick(&[0, 5, 6, u32::MAX]);
+            profile.roles[i] = *rng.pick(&[0, 6, 7, u32::MAX]);
         }
         _ => {}
     }
@@ -290,8 +292,19 @@ pub fn count_case(rng: &mut Rng) -> CountCase {
 
 pub fn list_case(rng: &mut Rng) -> ListCase {
     let CountCase { image, text } = count_case(rng);
-    let exact = TOKEN_WORDS * count(&image, &text).unwrap_or(8);
+    let exact = RECORD_WORDS * count(&image, &text).unwrap_or(8);
     ListCase { image, text, room: room(rng, exact) }
+}
+
+/// Rooms about the exact one; a list that needs any may get none.
+pub fn hashtag_case(rng: &mut Rng) -> ListCase {
+    let made = hashtag_image(rng);
+    let image = if rng.once_in(8) { damaged_image(rng) } else { image_of(&made) };
+    let text = text_with_hashtags(rng, &made);
+    let mut words = vec![0; RECORD_WORDS * text.len()];
+    let exact = RECORD_WORDS * hashtags(&image, &text, &mut words).unwrap_or(8);
+    let room = if rng.once_in(12) { 0 } else { room(rng, exact) };
+    ListCase { image, text, room }
 }
 
 /// A place in the text: about its end, at a code point, or anywhere.

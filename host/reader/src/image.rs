@@ -168,7 +168,7 @@ fn check_profile(entries: &[(u32, u32)]) -> Result<(), Refusal> {
     for i in 0..entries.len() {
         let (point, role) = entries[i];
         let rises = i == 0 || entries[i - 1].0 < point;
-        if !(is_scalar(point) && (role::START..=role::OTHER).contains(&role) && rises) {
+        if !(is_scalar(point) && (role::START..=role::HASHTAG).contains(&role) && rises) {
             return Err(Refusal::Entry(i as u64));
         }
     }

@@ -4,8 +4,9 @@
 use crate::changes::changes_of;
 use crate::image::{parse, HEADER_BYTES, MAX_IMAGE};
 use crate::names::kind;
+use crate::record::RECORD_WORDS;
 use crate::refusal::{PairRefusal, Refusal};
-use crate::token::{count, list, TOKEN_WORDS};
+use crate::token::{count, list};
 
 /// The most bytes of a text that the lister reads.
 pub const MAX_SCRIPT: usize = 8192;
@@ -28,7 +29,7 @@ fn listed(input: &[u8]) -> Result<Vec<u32>, Refusal> {
     if text.len() > MAX_SCRIPT {
         return Err(Refusal::TextLength);
     }
-    let mut words = vec![0; TOKEN_WORDS * count(image, text)?];
+    let mut words = vec![0; RECORD_WORDS * count(image, text)?];
     list(image, text, &mut words)?;
     Ok(words)
 }
@@ -48,8 +49,8 @@ pub fn lister(input: &[u8]) -> String {
         Ok(words) => words,
         Err(refusal) => return format!("{refusal}\n"),
     };
-    let mut output = format!("tokens {}\n", words.len() / TOKEN_WORDS);
-    for token in words.chunks(TOKEN_WORDS) {
+    let mut output = format!("tokens {}\n", words.len() / RECORD_WORDS);
+    for token in words.chunks(RECORD_WORDS) {
         output += &format!("{} {} {}\n", kind_name(token[0]), token[1], token[2]);
     }
     output

@@ -16,11 +16,13 @@ pub mod role {
     pub const NONSTART: u32 = 2;
     pub const MEDIAL: u32 = 3;
     pub const OTHER: u32 = 4;
+    pub const HASHTAG: u32 = 5;
 }
 
-/// Kinds of tokens.
+/// Kinds of tokens, and that of hashtags.
 pub mod kind {
     pub const IDENTIFIER: u32 = 1;
     pub const SYNTAX: u32 = 2;
     pub const WHITESPACE: u32 = 3;
+    pub const HASHTAG: u32 = 6;
 }

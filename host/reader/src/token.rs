@@ -2,14 +2,12 @@
 
 use crate::image::{parse, Image};
 use crate::names::{class, kind, role};
+use crate::record::{write_records, Record};
 use crate::refusal::Refusal;
-use crate::utf8::{decode, maximal_subpart};
+use crate::utf8::{decode, maximal_subpart, Placed};
 
 /// The most bytes of a text.
 pub const MAX_TEXT: usize = 1_048_576;
-
-/// The words of a token: kind, start byte, end byte.
-pub const TOKEN_WORDS: usize = 3;
 
 /// A token: its kind, its first byte and one past its last.
 #[derive(Clone, Copy, Debug, PartialEq, Eq)]
@@ -33,16 +31,15 @@ impl Unit {
     }
 }
 
-/// The units before the first ill-formed place, and that place or the end.
-fn units_of(image: &Image, text: &[u8]) -> (Vec<Unit>, usize) {
-    let (points, end) = decode(text);
-    let unit = |p: &crate::utf8::Placed| Unit {
+/// The units of the code points.
+fn units_of(image: &Image, points: &[Placed]) -> Vec<Unit> {
+    let unit = |p: &Placed| Unit {
         start: p.start,
         end: p.end,
         class: image.class(p.point),
         medial: image.role(p.point) == role::MEDIAL,
     };
-    (points.iter().map(unit).collect(), end)
+    points.iter().map(unit).collect()
 }
 
 /// The length of the run of units, from the front, for which the test holds.
@@ -79,21 +76,27 @@ fn ill_formed(text: &[u8], place: usize) -> Refusal {
     Refusal::IllFormed { place: place as u64, len: len as u64 }
 }
 
-/// The text's tokens, or the first of refusals 5 to 7.
-fn tokens(image: &Image, text: &[u8]) -> Result<Vec<Token>, Refusal> {
+/// The code points of a whole text, or the first of refusals 5 and 6.
+pub(crate) fn whole_text(text: &[u8]) -> Result<Vec<Placed>, Refusal> {
     if text.len() > MAX_TEXT {
         return Err(Refusal::TextLength);
     }
-    let (units, end) = units_of(image, text);
+    let (points, end) = decode(text);
     if end < text.len() {
         return Err(ill_formed(text, end));
     }
+    Ok(points)
+}
+
+/// The text's tokens, or the first of refusals 5 to 7.
+fn tokens(image: &Image, text: &[u8]) -> Result<Vec<Record>, Refusal> {
+    let units = units_of(image, &whole_text(text)?);
     let mut tokens = Vec::new();
     let mut rest = &units[..];
     while !rest.is_empty() {
         let start = rest[0].start;
         let (kind, length) = longest(rest).ok_or(Refusal::Characters(start as u64))?;
-        tokens.push(Token { kind, start, end: rest[length - 1].end });
+        tokens.push([kind, start as u32, rest[length - 1].end as u32]);
         rest = &rest[length..];
     }
     Ok(tokens)
@@ -104,16 +107,9 @@ pub fn count(image: &[u8], text: &[u8]) -> Result<usize, Refusal> {
     Ok(tokens(&parse(image)?, text)?.len())
 }
 
-/// Writes the text's tokens to the lent words, three each, and counts them.
+/// Writes the text's tokens to the lent words, a record each, and counts them.
 pub fn list(image: &[u8], text: &[u8], words: &mut [u32]) -> Result<usize, Refusal> {
-    let tokens = tokens(&parse(image)?, text)?;
-    if words.len() / TOKEN_WORDS < tokens.len() {
-        return Err(Refusal::Room(tokens.len() as u64));
-    }
-    for (token, record) in tokens.iter().zip(words.chunks_exact_mut(TOKEN_WORDS)) {
-        record.copy_from_slice(&[token.kind, token.start as u32, token.end as u32]);
-    }
-    Ok(tokens.len())
+    write_records(&tokens(&parse(image)?, text)?, words)
 }
 
 /// The token at a place; nothing if the place is the text's end.
@@ -125,13 +121,14 @@ pub fn at(image: &[u8], text: &[u8], place: usize) -> Result<Option<Token>, Refu
     if place > text.len() {
         return Err(Refusal::Shape);
     }
-    let (units, q) = units_of(&image, &text[place..]);
+    let (points, q) = decode(&text[place..]);
     if q == 0 && place < text.len() {
         return Err(ill_formed(text, place));
     }
     if place == text.len() {
         return Ok(None);
     }
+    let units = units_of(&image, &points);
     match longest(&units) {
         None => Err(Refusal::Characters(place as u64)),
         Some((kind, length)) => {

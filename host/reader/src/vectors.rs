@@ -6,7 +6,7 @@ use std::collections::BTreeMap;
 use std::io::Write;
 
 const FOLDER: &str = concat!(env!("CARGO_MANIFEST_DIR"), "/../data/vectors/");
-const FILES: [&str; 3] = ["calls.txt", "changes.txt", "form.txt"];
+const FILES: [&str; 4] = ["calls.txt", "changes.txt", "form.txt", "hashtags.txt"];
 
 /// The images under which the form of a text is asked for.
 const FORM_IMAGES: [&str; 2] = ["../images/m.img", "../images/unicode-16.0.img"];
@@ -95,10 +95,14 @@ fn run_write(calls: &impl Calls, args: &[&str]) -> String {
     }
 }
 
-fn run_list(calls: &impl Calls, image: &str, text: &str, room: &str) -> String {
-    let mut lent = vec![7; room.parse().unwrap()];
+/// Of image, text and room, by the call that writes the list.
+fn run_list(
+    args: &[&str],
+    call: impl Fn(&[u8], &[u8], &mut [u32]) -> Result<usize, Refusal>,
+) -> String {
+    let mut lent = vec![7; args[2].parse().unwrap()];
     let before = lent.clone();
-    match calls.list(&bytes(image), &bytes(text), &mut lent) {
+    match call(&bytes(args[0]), &bytes(args[1]), &mut lent) {
         Ok(count) => format!("ok {count} {}", joined(&lent)),
         Err(refusal) => {
             assert_eq!(lent, before, "a refused call changes nothing");
@@ -155,7 +159,7 @@ fn form_by_places(calls: &impl Calls, image: &[u8], text: &[u8]) -> String {
     "ok".to_string()
 }
 
-/// The form of a text, as every call on tokens tells it; all that they tell if they disagree.
+/// The form of a text, as every call on tokens or hashtags tells it; all that they tell if they disagree.
 fn run_form(calls: &impl Calls, text: &str) -> String {
     let text = bytes(text);
     let mut forms = Vec::new();
@@ -164,6 +168,8 @@ fn run_form(calls: &impl Calls, text: &str) -> String {
         forms.push(form(calls.count(&image, &text)));
         forms.push(form(calls.list(&image, &text, &mut [7; 24])));
         forms.push(form(calls.list(&image, &text, &mut [])));
+        forms.push(form(calls.hashtags(&image, &text, &mut [7; 24])));
+        forms.push(form(calls.hashtags(&image, &text, &mut [])));
         forms.push(form_by_places(calls, &image, &text));
     }
     forms.dedup();
@@ -186,7 +192,8 @@ fn run(calls: &impl Calls, call: &str, args: &[&str]) -> Option<String> {
         "pair" => run_pair(calls, args[0], args[1]),
         "changes" => run_changes(calls, args),
         "count" => answer_of(calls.count(&bytes(args[0]), &bytes(args[1])), |n| format!("ok {n}")),
-        "list" => run_list(calls, args[0], args[1], args[2]),
+        "list" => run_list(args, |image, text, words| calls.list(image, text, words)),
+        "hashtags" => run_list(args, |image, text, words| calls.hashtags(image, text, words)),
         "at" => run_at(calls, args[0], args[1], args[2]),
         "form" => run_form(calls, args[0]),
         "part" => {

@@ -3,7 +3,7 @@
 use luffinarc_reader::cases::*;
 use luffinarc_reader::changes::{CHANGED_ENTRY_WORDS, MAX_CHANGED_ENTRIES, MAX_RUNS, RUN_WORDS};
 use luffinarc_reader::image::{parse, permitted, write, MAX_ENTRIES, MAX_RANGES, RANGE_WORDS};
-use luffinarc_reader::token::TOKEN_WORDS;
+use luffinarc_reader::record::RECORD_WORDS;
 use luffinarc_reader::*;
 
 const RUNS: usize = 4000;
@@ -131,7 +131,7 @@ fn changed() {
 /// The list covers the text without gaps, and each token stands at its place.
 fn division(image: &[u8], text: &[u8], words: &[u32]) {
     let mut place = 0;
-    for (i, token) in words.chunks(TOKEN_WORDS).enumerate() {
+    for (i, token) in words.chunks(RECORD_WORDS).enumerate() {
         let (start, end) = (token[1] as usize, token[2] as usize);
         assert!(start == place && end > start);
         if i < 20 {
@@ -152,7 +152,7 @@ fn lists() {
         let mut words = vec![7; case.room];
         let result = list(&case.image, &case.text, &mut words);
         lists.add(&result);
-        let (front, rest) = words.split_at(TOKEN_WORDS * result.unwrap_or(0));
+        let (front, rest) = words.split_at(RECORD_WORDS * result.unwrap_or(0));
         assert!(rest.iter().all(|&word| word == 7));
         if result.is_ok() {
             division(&case.image, &case.text, front);
@@ -160,6 +160,48 @@ fn lists() {
     }
     counts.close("count", "ok,1,2,3,4,5,6,7");
     lists.close("list", "ok,1,2,3,4,5,6,7,8");
+}
+
+/// Each tag is a sign and hashtag Continue as far as it goes, none right before; every sign outside of tags has a reason.
+fn tagged(image: &[u8], text: &[u8], words: &[u32]) {
+    let image = parse(image).unwrap();
+    let text = std::str::from_utf8(text).unwrap();
+    let continues = |c: char| hashtag::is_hashtag_continue(&image, c.into());
+    let is_sign = |c: char| hashtag::SIGNS.contains(&c.into());
+    let mut starts = Vec::new();
+    for tag in words.chunks(RECORD_WORDS) {
+        let (start, end) = (tag[1] as usize, tag[2] as usize);
+        let mut inside = text[start..end].chars();
+        assert!(tag[0] == kind::HASHTAG && inside.next().map_or(false, is_sign));
+        assert!(inside.clone().count() > 0 && inside.all(continues));
+        assert!(!text[end..].chars().next().map_or(false, continues));
+        starts.push(start);
+    }
+    assert!(starts.windows(2).all(|two| two[0] < two[1]));
+    for (place, sign) in text.char_indices().filter(|&(_, c)| is_sign(c)) {
+        let before = text[..place].chars().next_back().map_or(false, continues);
+        let after = text[place + sign.len_utf8()..].chars().next().map_or(false, continues);
+        assert_eq!(starts.binary_search(&place).is_ok(), after && !before);
+    }
+}
+
+#[test]
+fn tags() {
+    let (mut rng, mut tally, mut found) = (Rng::seeded(11), Tally::default(), 0);
+    for _ in 0..RUNS {
+        let case = hashtag_case(&mut rng);
+        let mut words = vec![7; case.room];
+        let result = hashtags(&case.image, &case.text, &mut words);
+        tally.add(&result);
+        let (front, rest) = words.split_at(RECORD_WORDS * result.unwrap_or(0));
+        assert!(rest.iter().all(|&word| word == 7));
+        if result.is_ok() {
+            tagged(&case.image, &case.text, front);
+            found += usize::from(!front.is_empty());
+        }
+    }
+    tally.close("hashtags", "ok,1,2,3,4,5,6,8");
+    assert!(found > RUNS / 4, "{found}");
 }
 
 #[test]
@@ -219,7 +261,7 @@ fn stability() {
     for _ in 0..RUNS {
         let case = stable_case(&mut rng);
         assert_eq!(pair(&case.older, &case.newer), Ok(()));
-        let room = TOKEN_WORDS * rng.below(30);
+        let room = RECORD_WORDS * rng.below(30);
         let (mut old_words, mut new_words) = (vec![7; room], vec![7; room]);
         let older = list(&case.older, &case.text, &mut old_words);
         let newer = list(&case.newer, &case.text, &mut new_words);

@@ -4,7 +4,8 @@ use luffinarc_reader::changes::changes_of;
 use luffinarc_reader::class::{NONSTART, OTHER, START, SYNTAX, WHITE};
 use luffinarc_reader::image::{profile_offset, MAX_IMAGE, MAX_RANGES, RANGE_BYTES};
 use luffinarc_reader::lister::MAX_SCRIPT;
-use luffinarc_reader::token::{MAX_TEXT, TOKEN_WORDS};
+use luffinarc_reader::record::RECORD_WORDS;
+use luffinarc_reader::token::MAX_TEXT;
 use luffinarc_reader::*;
 
 /// The ranges of M.
@@ -37,10 +38,10 @@ fn m2() -> Vec<u8> {
 }
 
 fn tokens(image: &[u8], text: &[u8]) -> Result<Vec<u32>, Refusal> {
-    let mut words = vec![0; TOKEN_WORDS * text.len()];
+    let mut words = vec![0; RECORD_WORDS * text.len()];
     let n = list(image, text, &mut words)?;
     assert_eq!(count(image, text), Ok(n));
-    Ok(words[..TOKEN_WORDS * n].to_vec())
+    Ok(words[..RECORD_WORDS * n].to_vec())
 }
 
 #[test]
@@ -110,6 +111,54 @@ fn small_image_files() {
     };
     assert!(read("m.img") == m());
     assert!(read("m2.img") == m2());
+}
+
+/// The hashtags of a text.
+fn tags(image: &[u8], text: &[u8]) -> Vec<u32> {
+    let mut words = vec![0; RECORD_WORDS * text.len()];
+    let n = hashtags(image, text, &mut words).unwrap();
+    words[..RECORD_WORDS * n].to_vec()
+}
+
+/// M with 5F as part of hashtags.
+fn p() -> Vec<u8> {
+    image(VERSION, &SMALL, &[(0x2E, role::MEDIAL), (0x5F, role::HASHTAG)])
+}
+
+#[test]
+fn tagged_texts() {
+    let cases: [(&[u8], &[u32]); 9] = [
+        (b"", &[]),
+        (b"##a", &[6, 1, 3]),
+        (b"#1.x", &[6, 0, 2]),
+        (b"#_ _#a", &[6, 0, 2]),
+        (b"#a#b", &[6, 0, 2]),
+        (b"a.#b #", &[6, 2, 4]),
+        (b"a#b", &[]),
+        (b"%#a%", &[6, 1, 3]),
+        (b"\xEF\xBC\x83a \xEF\xB9\x9F1", &[6, 0, 4, 6, 5, 9]),
+    ];
+    for (text, expected) in cases {
+        assert_eq!(tags(&p(), text), expected, "{text:02X?}");
+    }
+    let sign = image(VERSION, &SMALL, &[(0x23, role::NONSTART)]);
+    assert_eq!(tags(&sign, b"##a"), [6, 1, 3]);
+    assert_eq!(hashtags(&p(), b"#a #b", &mut [0; 5]), Err(Refusal::Room(2)));
+    let ill_formed = Refusal::IllFormed { place: 2, len: 2 };
+    assert_eq!(hashtags(&p(), b"#a\xE2\x82", &mut []), Err(ill_formed));
+}
+
+/// Role 5 keeps the class of the range for lookup and tokens, and makes no medial.
+#[test]
+fn hashtag_roles() {
+    assert_eq!(lookup(&p(), 0x5F), Ok((class::UNASSIGNED, 3)));
+    assert_eq!(tokens(&p(), b"_"), Err(Refusal::Characters(0)));
+    assert_eq!(tokens(&p(), b"a_b"), Err(Refusal::Characters(1)));
+    let words = [&SMALL[..12], &[0x5F, 0x5F, SYNTAX], &SMALL[12..]].concat();
+    let syntax = image(VERSION, &words, &[(0x5F, role::HASHTAG)]);
+    assert_eq!(tokens(&syntax, b"a_b"), Ok(vec![1, 0, 1, 2, 1, 2, 1, 2, 3]));
+    assert_eq!(pair(&m(), &p()), Err(PairRefusal::Pair(Refusal::Profiles)));
+    assert_eq!(changed(&m(), &p()), (vec![], vec![0x5F, 0, role::HASHTAG]));
 }
 
 #[test]
@@ -191,6 +240,8 @@ fn text_limit() {
     assert_eq!(count(&m(), &text[1..]), Ok(1));
     assert_eq!(count(&m(), &text), Err(Refusal::TextLength));
     assert_eq!(at(&m(), &text, 2 * MAX_TEXT), Err(Refusal::TextLength));
+    assert_eq!(hashtags(&m(), &text[1..], &mut []), Ok(0));
+    assert_eq!(hashtags(&m(), &text, &mut []), Err(Refusal::TextLength));
 }
 
 #[test]

@@ -4,5 +4,5 @@ use luffinarc_reader::{vectors, Reader};
 
 #[test]
 fn every_vector() {
-    assert_eq!(vectors::run_all(&Reader), 12);
+    assert_eq!(vectors::run_all(&Reader), 13);
 }

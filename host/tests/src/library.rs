@@ -58,6 +58,36 @@ fn accepted(number: u32) -> bool {
     !(1..=4).contains(&number)
 }
 
+/// A call that writes a list of a text, and the same on a checked image.
+type Listing = fn(&[u8], &[u8], &mut [u32], &mut Answer) -> u32;
+type CheckedListing = unsafe fn(&[u8], &[u8], &mut [u32], &mut Answer) -> u32;
+
+/// Lists a text in the lent words by both calls, and gives the number of records.
+fn listed(
+    list: Listing,
+    list_checked: CheckedListing,
+    image: &[u8],
+    text: &[u8],
+    words: &mut [u32],
+) -> Result<usize, Refusal> {
+    let (image, text) = (Lent::new(image, 0xAA), Lent::new(text, 0xAA));
+    let (mut lent, mut answer) = (Lent::new(words, 0xAA), OLD);
+    let number = list(image.slice(), text.slice(), lent.slice_mut(), &mut answer);
+    if accepted(number) {
+        let (mut other, mut again) = (Lent::new(words, 0xAA), OLD);
+        let (image, text) = (image.slice(), text.slice());
+        let same = unsafe { list_checked(image, text, other.slice_mut(), &mut again) };
+        assert_eq!((same, again), (number, answer));
+        assert!(other.slice() == lent.slice());
+        other.back(words);
+    }
+    image.same();
+    text.same();
+    lent.back(words);
+    let [count] = values(number, answer)?;
+    Ok(count as usize)
+}
+
 /// The calls of the static library that take any image. Where it is accepted, the calls on a checked image give the
 /// same.
 pub struct Library;
@@ -171,23 +201,7 @@ impl Calls for Library {
     }
 
     fn list(&self, image: &[u8], text: &[u8], words: &mut [u32]) -> Result<usize, Refusal> {
-        let (image, text) = (Lent::new(image, 0xAA), Lent::new(text, 0xAA));
-        let mut lent = Lent::new(words, 0xAA);
-        let mut answer = OLD;
-        let number = calls::list(image.slice(), text.slice(), lent.slice_mut(), &mut answer);
-        if accepted(number) {
-            let (mut other, mut again) = (Lent::new(words, 0xAA), OLD);
-            let (image, text) = (image.slice(), text.slice());
-            let same = unsafe { calls::list_checked(image, text, other.slice_mut(), &mut again) };
-            assert_eq!((same, again), (number, answer));
-            assert!(other.slice() == lent.slice());
-            other.back(words);
-        }
-        image.same();
-        text.same();
-        lent.back(words);
-        let [count] = values(number, answer)?;
-        Ok(count as usize)
+        listed(calls::list, calls::list_checked, image, text, words)
     }
 
     fn at(&self, image: &[u8], text: &[u8], place: usize) -> Result<Option<Token>, Refusal> {
@@ -215,6 +229,10 @@ impl Calls for Library {
         let number = calls::part(text, start, end, &mut answer);
         let [first, length] = values(number, answer)?;
         Ok(&text[first as usize..][..length as usize])
+    }
+
+    fn hashtags(&self, image: &[u8], text: &[u8], words: &mut [u32]) -> Result<usize, Refusal> {
+        listed(calls::hashtags, calls::hashtags_checked, image, text, words)
     }
 
     fn lister(&self, input: &[u8]) -> Option<String> {

@@ -141,7 +141,7 @@ fn two_entries() {
         let both = [0x2D, 0x2E].into_iter().zip(older).filter(|entry| entry.1 != 0);
         made(&[], &both.collect::<Vec<_>>())
     };
-    let roles: Vec<[u32; 2]> = (0..25).map(|i| [i / 5, i % 5]).collect();
+    let roles: Vec<[u32; 2]> = (0..36).map(|i| [i / 6, i % 6]).collect();
     for &older in &roles {
         for &newer in &roles {
             for room in [2 * CHANGED_ENTRY_WORDS, 2 * CHANGED_ENTRY_WORDS - 1] {

@@ -1,6 +1,6 @@
 //! Refusal 6 against the standard library: the place, and the length of the maximal subpart there.
 
-use luffinarc::{Image, TOKEN_WORDS};
+use luffinarc::{Image, RECORD_WORDS};
 use luffinarc_reader::cases::{image_of, Rng};
 use luffinarc_reader::image::{Image as Made, Range};
 use luffinarc_reader::{class, Calls, Profile, Reader, Refusal};
@@ -55,12 +55,17 @@ fn six<T>(result: Result<T, Refusal>) -> Option<Refusal> {
     result.err().filter(|refusal| refusal.number() == 6)
 }
 
-/// Counting and listing a text are refused with 6 where the standard library says so, and nowhere else.
+/// Counting and listing tokens and listing hashtags are refused with 6 where the standard library says so, and nowhere
+/// else.
 fn compare(calls: &impl Calls, image: &[u8], text: &[u8]) {
     let expected = by_std(text).err();
     assert_eq!(six(calls.count(image, text)), expected, "{text:02X?}");
-    let mut words = vec![7; TOKEN_WORDS * text.len()];
+    let mut words = vec![7; RECORD_WORDS * text.len()];
     assert_eq!(six(calls.list(image, text, &mut words)), expected, "{text:02X?}");
+    let mut tags = vec![7; RECORD_WORDS * text.len()];
+    let tagged = calls.hashtags(image, text, &mut tags);
+    assert_eq!(tagged.err(), expected, "{text:02X?}");
+    words.extend(tags);
     assert!(expected.is_none() || words.iter().all(|&word| word == 7), "{text:02X?}");
 }
 
@@ -125,6 +130,8 @@ fn every_two_bytes() {
             let expected = by_std(&text);
             assert_eq!(image.count(&text).map_err(named), expected, "{text:02X?}");
             assert_eq!(image.tokens(&text).map(|t| t.len()).map_err(named), expected);
+            let tagged = image.hashtags(&text).map_err(named);
+            assert_eq!(tagged.err(), expected.err(), "{text:02X?}");
             let second = image.token_at(&text, 1).map_err(named);
             assert_eq!(six(second), by_std_at(&text, 1), "{text:02X?}");
         }

@@ -129,12 +129,14 @@ fn unicode_image(version: &str) -> Vec<u8> {
 fn every_scalar_value() {
     let mut images = ["14.0", "15.0", "16.0", "17.0"].map(unicode_image).to_vec();
     let profile = Profile::of(&[
+        (0x2B, role::HASHTAG),
         (0x2D, role::MEDIAL),
         (0x2E, role::MEDIAL),
         (0x5F, role::START),
         (0xB7, role::MEDIAL),
         (0x378, role::NONSTART),
         (0x4E00, role::OTHER),
+        (0x4E01, role::HASHTAG),
     ]);
     images.push(image_of(&image::Image { profile, ..parse(&images[2]).unwrap() }));
     let mut looked_up = 0;

@@ -1,7 +1,7 @@
 //! Names and numbers are the same in the C header, the Rust crate, the reader and Rattle.
 
-use luffinarc::{Class, Kind, Refusal, Role};
-use luffinarc_reader::{changes, class, image, kind, role, token};
+use luffinarc::{Class, Kind, Refusal, Role, HASHTAG_KIND};
+use luffinarc_reader::{changes, class, image, kind, record, role, token};
 use std::fmt::Debug;
 
 const HEADER: &str = include_str!("../../include/luffinarc.h");
@@ -33,6 +33,17 @@ fn in_rattle(function: &str, line: &str) {
     let start = RATTLE.find(&format!("pub fn {function}(")).expect("it is there");
     let body = RATTLE[start..].split("\n}").next().unwrap();
     assert!(body.contains(line), "no {line} in {function} of Rattle");
+}
+
+/// The number of a public constant of a Rattle crate.
+fn constant(of: &str, name: &str) -> u32 {
+    let file = format!("{}/../../crates/{of}/src/lib.rt", env!("CARGO_MANIFEST_DIR"));
+    let source = std::fs::read_to_string(&file).unwrap_or_else(|error| panic!("{file}: {error}"));
+    let number = |line: &str| {
+        let rest = line.strip_prefix(&format!("pub const {name}: "))?;
+        rest.split_once(" = ")?.1.strip_suffix(';')?.parse().ok()
+    };
+    source.lines().find_map(number).unwrap_or_else(|| panic!("no {name} in {of} of Rattle"))
 }
 
 #[test]
@@ -93,6 +104,7 @@ fn classes_roles_and_kinds() {
         (Role::Nonstart, role::NONSTART),
         (Role::Medial, role::MEDIAL),
         (Role::Other, role::OTHER),
+        (Role::Hashtag, role::HASHTAG),
     ];
     for (role, of_reader) in roles {
         same("ROLE", role, role.number(), of_reader);
@@ -107,11 +119,21 @@ fn classes_roles_and_kinds() {
         same("KIND", kind, kind.number(), of_reader);
         assert_eq!(Kind::from_number(kind.number()), Some(kind));
     }
-    let none = (Class::from_number(6), Role::from_number(5), Kind::from_number(4));
+    let none = (Class::from_number(6), Role::from_number(6), Kind::from_number(4));
     assert_eq!(
         (none, Role::from_number(0), Kind::from_number(0)),
         ((None, None, None), None, None)
     );
+}
+
+/// The role and the kind of hashtags, in Rattle too. The kind is that of no token.
+#[test]
+fn hashtags() {
+    assert_eq!(constant("lookup", "HASHTAG_ROLE"), Role::Hashtag.number());
+    assert_eq!(constant("hashtag", "HASHTAG"), HASHTAG_KIND);
+    assert_eq!((in_c("LUFFINARC_KIND_HASHTAG"), kind::HASHTAG), (HASHTAG_KIND, HASHTAG_KIND));
+    assert_eq!(Kind::from_number(HASHTAG_KIND), None);
+    assert_eq!(constant("scan", "RECORD_WORDS") as usize, luffinarc::RECORD_WORDS);
 }
 
 #[test]
@@ -122,7 +144,7 @@ fn limits() {
         ("MAX_IMAGE", luffinarc::MAX_IMAGE, image::MAX_IMAGE),
         ("MAX_TEXT", luffinarc::MAX_TEXT, token::MAX_TEXT),
         ("RANGE_WORDS", luffinarc::RANGE_WORDS, image::RANGE_WORDS),
-        ("TOKEN_WORDS", luffinarc::TOKEN_WORDS, token::TOKEN_WORDS),
+        ("RECORD_WORDS", luffinarc::RECORD_WORDS, record::RECORD_WORDS),
         ("MAX_RUNS", luffinarc::MAX_RUNS, changes::MAX_RUNS),
         ("MAX_CHANGED_ENTRIES", luffinarc::MAX_CHANGED_ENTRIES, changes::MAX_CHANGED_ENTRIES),
         ("RUN_WORDS", luffinarc::RUN_WORDS, changes::RUN_WORDS),

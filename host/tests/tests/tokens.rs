@@ -1,6 +1,6 @@
 //! The calls on tokens against the independent reader, on made cases and on every short text of some bytes.
 
-use luffinarc::{Image, MAX_TEXT, TOKEN_WORDS};
+use luffinarc::{Image, MAX_TEXT, RECORD_WORDS};
 use luffinarc_reader::cases::*;
 use luffinarc_reader::image::{parse, Image as Made};
 use luffinarc_reader::{class, role, utf8, Calls, Profile, Reader, Refusal, Token};
@@ -51,7 +51,7 @@ fn lists() {
         let token =
             |t: luffinarc::Token| [t.kind.number(), t.range.start as u32, t.range.end as u32];
         assert!(
-            tokens.flat_map(token).eq(words[..TOKEN_WORDS * count].iter().copied()),
+            tokens.flat_map(token).eq(words[..RECORD_WORDS * count].iter().copied()),
             "{case:02X?}"
         );
     }
@@ -121,7 +121,7 @@ fn listers() {
 fn compare(image: &[u8], text: &[u8]) -> Result<usize, Refusal> {
     let result = Library.count(image, text);
     assert_eq!(result, Reader.count(image, text), "{text:02X?}");
-    let room = TOKEN_WORDS * result.unwrap_or(2);
+    let room = RECORD_WORDS * result.unwrap_or(2);
     for room in [room, room.saturating_sub(1), room + 4] {
         let (mut words, mut expected) = (vec![7; room], vec![7; room]);
         let listed = Library.list(image, text, &mut words);
@@ -201,17 +201,19 @@ fn lengths() {
     results.close("lengths", "ok,5,6,7");
 }
 
-/// Medials of every class, before and after every kind of character.
+/// Medials of every class, before and after every kind of character, of some with role 5 too.
 #[test]
 fn medials() {
     let plain = parse(&data("images/unicode-16.0.img")).unwrap();
     let entries = [
         (0x20, role::MEDIAL),
         (0x2D, role::MEDIAL),
+        (0x2E, role::HASHTAG),
         (0x31, role::MEDIAL),
         (0x41, role::MEDIAL),
         (0x5F, role::START),
         (0x62, role::OTHER),
+        (0x63, role::HASHTAG),
         (0xA0, role::MEDIAL),
         (0x378, role::MEDIAL),
     ];

@@ -1,6 +1,7 @@
 //! Made images: valid and damaged.
 
 use super::Rng;
+use crate::hashtag::SIGNS;
 use crate::image::{
     profile_offset, total_length, Image, Profile, Range, CODE_POINTS, ENTRY_BYTES, FORMAT,
     HEADER_BYTES, MAX_ENTRIES, MAX_IMAGE, MAX_RANGES, RANGE_BYTES,
@@ -8,12 +9,13 @@ use crate::image::{
 use crate::names::class::{NONSTART, OTHER, START, SYNTAX, WHITE};
 use crate::names::role;
 use crate::utf8::is_scalar;
+use std::collections::{BTreeMap, BTreeSet};
 
 /// Code points at which something changes: length, class or limit.
-pub const EDGES: [u32; 30] = [
-    0x00, 0x09, 0x20, 0x2D, 0x2E, 0x30, 0x39, 0x41, 0x5A, 0x5F, 0x61, 0x7A, 0x7F, 0x80, 0xB7, 0xE9,
-    0x104, 0x7FF, 0x800, 0x200C, 0x200E, 0x2028, 0xD7FF, 0xE000, 0xFEFF, 0xFFFD, 0xFFFF, 0x10000,
-    0x1E922, 0x10FFFF,
+pub const EDGES: [u32; 33] = [
+    0x00, 0x09, 0x20, 0x23, 0x2D, 0x2E, 0x30, 0x39, 0x41, 0x5A, 0x5F, 0x61, 0x7A, 0x7F, 0x80, 0xB7,
+    0xE9, 0x104, 0x7FF, 0x800, 0x200C, 0x200E, 0x2028, 0xD7FF, 0xE000, 0xFE5F, 0xFEFF, 0xFF03,
+    0xFFFD, 0xFFFF, 0x10000, 0x1E922, 0x10FFFF,
 ];
 
 /// Ranges like those in use: letters, digits, signs and blanks.
@@ -106,9 +108,13 @@ fn push(rng: &mut Rng, ranges: &mut Vec<Range>, first: u32, last: u32) {
     ranges.push(Range { first, last, class });
 }
 
+fn any_role(rng: &mut Rng) -> u32 {
+    role::START + rng.below(role::HASHTAG as usize) as u32
+}
+
 /// A profile of so many entries, by points of the edges and of the ranges.
 fn profile(rng: &mut Rng, ranges: &[Range], m: usize) -> Profile {
-    let mut points = std::collections::BTreeSet::new();
+    let mut points = BTreeSet::new();
     while points.len() < m {
         let point = match rng.below(3) {
             0 if !ranges.is_empty() => rng.pick(ranges).first,
@@ -119,8 +125,8 @@ fn profile(rng: &mut Rng, ranges: &[Range], m: usize) -> Profile {
             points.insert(point);
         }
     }
-    let role = |rng: &mut Rng| if rng.once_in(2) { role::MEDIAL } else { 1 + rng.below(4) as u32 };
-    let entries: Vec<(u32, u32)> = points.into_iter().map(|point| (point, role(rng))).collect();
+    let entry = |point| (point, if rng.once_in(2) { role::MEDIAL } else { any_role(rng) });
+    let entries: Vec<(u32, u32)> = points.into_iter().map(entry).collect();
     Profile::of(&entries)
 }
 
@@ -144,8 +150,15 @@ pub fn small_image(rng: &mut Rng) -> Image {
 }
 
 /// The roles, medials more often.
-const ROLES: [u32; 6] =
-    [role::START, role::NONSTART, role::MEDIAL, role::MEDIAL, role::MEDIAL, role::OTHER];
+const ROLES: [u32; 7] = [
+    role::START,
+    role::NONSTART,
+    role::MEDIAL,
+    role::MEDIAL,
+    role::MEDIAL,
+    role::OTHER,
+    role::HASHTAG,
+];
 
 /// An image like those in use: letters, digits, signs and blanks.
 fn script_image(rng: &mut Rng) -> Image {
@@ -199,6 +212,28 @@ pub fn valid_image(rng: &mut Rng) -> Image {
         6..=19 => small_image(rng),
         _ => script_image(rng),
     }
+}
+
+/// Code points that tags may hold by their role: a hyphen, a full stop, a blank, a letter, a mark, joiners.
+const IN_TAGS: [u32; 8] = [0x20, 0x2D, 0x2E, 0x5F, 0x61, 0x301, 0x200D, 0x1F527];
+
+/// A valid image in whose profile signs have roles of their own, and some code points role 5.
+pub fn hashtag_image(rng: &mut Rng) -> Image {
+    let image = valid_image(rng);
+    let mut entries: BTreeMap<u32, u32> = image.profile.entries().into_iter().collect();
+    let (of_signs, of_others) = (1 + rng.below(8), 1 + rng.below(8));
+    for point in SIGNS {
+        if rng.once_in(of_signs) {
+            entries.insert(point, any_role(rng));
+        }
+    }
+    for point in IN_TAGS {
+        if rng.once_in(of_others) {
+            entries.insert(point, role::HASHTAG);
+        }
+    }
+    let entries: Vec<(u32, u32)> = entries.into_iter().take(MAX_ENTRIES).collect();
+    Image { profile: Profile::of(&entries), ..image }
 }
 
 /// Limits of the header's words, and numbers beside them.
@@ -261,11 +296,11 @@ fn damage_profile(rng: &mut Rng, draft: &mut Draft) {
     }
     let i = 1 + rng.below(draft.entries.len() - 1);
     match rng.below(5) {
-        0 => draft.entries[i].1 = *rng.pick(&[0, 5, 6, u32::MAX]),
+        0 => draft.entries[i].1 = *rng.pick(&[0, 6, 7, u32::MAX]),
         1 => draft.entries[i].0 = *rng.pick(&[0xD800, 0xDBFF, 0xDFFF, 0x110000, u32::MAX]),
         2 => draft.entries[i].0 = draft.entries[i - 1].0,
         3 => draft.entries.swap(i - 1, i),
-        _ => draft.entries[0] = (*rng.pick(&[0, 0xD800, u32::MAX]), rng.below(6) as u32),
+        _ => draft.entries[0] = (*rng.pick(&[0, 0xD800, u32::MAX]), rng.below(7) as u32),
     }
     draft.fit();
 }
@@ -278,7 +313,7 @@ fn over_limit(rng: &mut Rng) -> Draft {
     let (n, m) = *rng.pick(&counts);
     let full = spread_image(rng, n, 0);
     let mut draft = Draft::of(&full);
-    draft.entries = (0..m as u32).map(|i| (0x100 + i, 1 + i % 4)).collect();
+    draft.entries = (0..m as u32).map(|i| (0x100 + i, 1 + i % role::HASHTAG)).collect();
     draft.fit();
     draft
 }

@@ -84,10 +84,10 @@ pub fn unequal_profile(rng: &mut Rng, image: &Image) -> Image {
     let i = rng.below(entries.len().max(1));
     match choice {
         1 => drop(entries.remove(i)),
-        2 => entries[i].1 = entries[i].1 % role::OTHER + 1,
+        2 => entries[i].1 = entries[i].1 % role::HASHTAG + 1,
         _ if entries.len() == MAX_ENTRIES => drop(entries.pop()),
         _ if entries.last().map_or(false, |entry| entry.0 == 0x10FFFF) => drop(entries.pop()),
-        _ => entries.push((0x10FFFF, 1 + rng.below(role::OTHER as usize) as u32)),
+        _ => entries.push((0x10FFFF, 1 + rng.below(role::HASHTAG as usize) as u32)),
     }
     Image { profile: Profile::of(&entries), ..image.clone() }
 }
@@ -101,5 +101,5 @@ pub fn most_changes() -> (Image, Image) {
         let ranges = (0..MAX_RANGES as u32).map(range).collect();
         Image { version: 1, ranges, profile: Profile::of(&entries) }
     };
-    (image(0, class::START, 0, role::START), image(2, class::NONSTART, 1, role::OTHER))
+    (image(0, class::START, 0, role::START), image(2, class::NONSTART, 1, role::HASHTAG))
 }

@@ -1,7 +1,8 @@
-//! Made texts: of tokens, of any bytes, damaged, long.
+//! Made texts: of tokens, with hashtags, of any bytes, damaged, long.
 
 use super::images::EDGES;
 use super::Rng;
+use crate::hashtag::{is_hashtag_continue, SIGNS};
 use crate::image::Image;
 use crate::names::class::{NONSTART, OTHER, START, SYNTAX, UNASSIGNED, WHITE};
 use crate::names::role;
@@ -36,6 +37,7 @@ struct Palette {
     whites: Vec<u32>,
     medials: Vec<u32>,
     others: Vec<u32>,
+    hashtags: Vec<u32>,
 }
 
 /// Code points worth trying: of some ranges, beside them, of the profile.
@@ -59,20 +61,18 @@ fn candidates(rng: &mut Rng, image: &Image) -> Vec<u32> {
 
 fn palette(rng: &mut Rng, image: &Image) -> Palette {
     let points = candidates(rng, image);
-    let of = |test: &dyn Fn(u32) -> bool| -> Vec<u32> {
-        points.iter().copied().filter(|&point| test(image.class(point))).collect()
+    let with = |test: &dyn Fn(u32) -> bool| -> Vec<u32> {
+        points.iter().copied().filter(|&point| test(point)).collect()
     };
+    let of = |classes: &[u32]| with(&|point| classes.contains(&image.class(point)));
     Palette {
-        starts: of(&|class| class == START),
-        continues: of(&|class| class == START || class == NONSTART),
-        syntaxes: of(&|class| class == SYNTAX),
-        whites: of(&|class| class == WHITE),
-        others: of(&|class| class == UNASSIGNED || class == OTHER || class == NONSTART),
-        medials: points
-            .iter()
-            .copied()
-            .filter(|&point| image.role(point) == role::MEDIAL)
-            .collect(),
+        starts: of(&[START]),
+        continues: of(&[START, NONSTART]),
+        syntaxes: of(&[SYNTAX]),
+        whites: of(&[WHITE]),
+        others: of(&[UNASSIGNED, OTHER, NONSTART]),
+        medials: with(&|point| image.role(point) == role::MEDIAL),
+        hashtags: with(&|point| is_hashtag_continue(image, point)),
     }
 }
 
@@ -120,15 +120,36 @@ pub fn token_text(rng: &mut Rng, image: &Image, pieces: usize) -> Vec<u8> {
     text
 }
 
+/// A text of tags and of what may stand about them.
+pub fn hashtag_text(rng: &mut Rng, image: &Image, pieces: usize) -> Vec<u8> {
+    let palette = palette(rng, image);
+    let mut text = Vec::new();
+    for _ in 0..pieces {
+        let (signs, length) = (1 + rng.below(3) / 2, 1 + rng.below(4));
+        match rng.below(10) {
+            0..=3 => {
+                push_from(rng, &mut text, &SIGNS, signs);
+                push_from(rng, &mut text, &palette.hashtags, length);
+            }
+            4 => push_from(rng, &mut text, &SIGNS, signs),
+            5 => push_from(rng, &mut text, &palette.hashtags, length),
+            6 => push_from(rng, &mut text, &palette.medials, 1),
+            7 => push_from(rng, &mut text, &palette.others, 1),
+            8 => push_from(rng, &mut text, &palette.syntaxes, 1),
+            _ => push_from(rng, &mut text, &palette.whites, length),
+        }
+    }
+    text
+}
+
 /// At most so many bytes of any kind.
 pub fn random_bytes(rng: &mut Rng, most: usize) -> Vec<u8> {
     let length = rng.below(most + 1);
     (0..length).map(|_| rng.word() as u8).collect()
 }
 
-/// A text whose UTF-8 is damaged at a random place.
-pub fn damaged_text(rng: &mut Rng, image: &Image) -> Vec<u8> {
-    let mut text = token_text(rng, image, 12);
+/// Damages the UTF-8 of a text at a random place.
+fn damage(rng: &mut Rng, mut text: Vec<u8>) -> Vec<u8> {
     let place = rng.below(text.len() + 1);
     match rng.below(5) {
         0 => text.truncate(place),
@@ -140,9 +161,9 @@ pub fn damaged_text(rng: &mut Rng, image: &Image) -> Vec<u8> {
     text
 }
 
-/// A text about as long as a text may be.
-pub fn long_text(rng: &mut Rng, image: &Image) -> Vec<u8> {
-    let piece = [token_text(rng, image, 40), b" ".to_vec()].concat();
+/// The piece again and again, about as often as a text has room for it.
+fn repeated(rng: &mut Rng, mut piece: Vec<u8>) -> Vec<u8> {
+    piece.push(b' ');
     let length = MAX_TEXT + 2 - rng.below(4);
     let mut text = piece.repeat(length / piece.len());
     text.resize(length, b' ');
@@ -152,14 +173,36 @@ pub fn long_text(rng: &mut Rng, image: &Image) -> Vec<u8> {
     text
 }
 
-pub fn text(rng: &mut Rng, image: &Image) -> Vec<u8> {
+/// A text of so many pieces by the maker, or another: empty, of any bytes, damaged, long.
+fn varied(
+    rng: &mut Rng,
+    image: &Image,
+    make: impl Fn(&mut Rng, &Image, usize) -> Vec<u8>,
+) -> Vec<u8> {
     let pieces = 1 + rng.below(16);
     match rng.below(16) {
         0 => vec![],
         1 => random_bytes(rng, 24),
-        2 | 3 => damaged_text(rng, image),
-        4 if rng.once_in(12) && image.ranges.len() < 100 => long_text(rng, image),
-        5 => token_text(rng, image, 200),
-        _ => token_text(rng, image, pieces),
+        2 | 3 => {
+            let text = make(rng, image, 12);
+            damage(rng, text)
+        }
+        4 if rng.once_in(12) && image.ranges.len() < 100 => {
+            let piece = make(rng, image, 40);
+            repeated(rng, piece)
+        }
+        5 => make(rng, image, 200),
+        _ => make(rng, image, pieces),
     }
+}
+
+/// A text for the calls on tokens.
+pub fn text(rng: &mut Rng, image: &Image) -> Vec<u8> {
+    varied(rng, image, token_text)
+}
+
+/// A text for the list of hashtags.
+pub fn text_with_hashtags(rng: &mut Rng, image: &Image) -> Vec<u8> {
+    let make = if rng.once_in(5) { token_text } else { hashtag_text };
+    varied(rng, image, make)
 }
