@@ -6,14 +6,15 @@ use mathlib.Core.List.{List, [], _∷_, _++_, append-assoc, append-nil}
 use mathlib.Core.Logic.{_⊎_, inl, inr}
 use native.Mathlib.Omega.{arith}
 use lib.ListN.{length, length-append}
+use borrow.Author.Tests.{not-true}
 use Rattle.lists.proofs.BoolLaws.{and-left, and-right, impossible}
 use Rattle.utf8.specs.Text.{Character, widthOf}
 use Rattle.grammar.specs.All.{All}
 use Rattle.hashtag.specs.Hashtag.{HashtagIdentifier, Hashtag}
 use Rattle.hashtag.specs.Sign.{signs, continues, IsSign, IsContinue}
 use Rattle.hashtag.specs.Find.{Span, runOf, spanBy, hashtagsFrom, HashtagAt, Has, Rising}
-use Rattle.hashtag.proofs.SignLaws.{no-sign, not-true}
-use Rattle.hashtag.proofs.RunLaws.{Characters, Identifier, run-yes, run-no, run-none, run-continues, restOf, run-rest, run-longest, run-append}
+use Rattle.hashtag.proofs.SignLaws.{no-sign}
+use Rattle.hashtag.proofs.RunLaws.{Characters, Identifier, run-yes, run-no, run-none, run-continues, afterRun, run-after, run-longest, run-append}
 
 has-append : (t : Span) (xs bs : List Span) → Has t (xs ++ bs) → Has t xs ⊎ Has t bs
 has-append t [] bs h = inr h
@@ -96,8 +97,8 @@ module _ (s : List ℕ) where
       record {
         before = [];
         units = c ∷ runOf s r;
-        after = restOf s r;
-        whole = ap (λ (l : Characters). c ∷ l) (run-rest s r);
+        after = afterRun s r;
+        whole = ap (λ (l : Characters). c ∷ l) (run-after s r);
         identifier = go (runOf s r) refl h (run-continues s r);
         longest = λ v w e i. most v w e i;
         alone = and-left free (signs c) b;
@@ -109,11 +110,11 @@ module _ (s : List ℕ) where
       go [] e l a = absurd (omega arith)
       go (d ∷ ds) e l a = record { sign = c; first = d; others = ds; whole = refl; start = and-right free (signs c) b; continued = a }
 
-      most : (v w : Characters) → (c ∷ runOf s r) ++ restOf s r ≡ v ++ w → Identifier s v → length v ≤ suc (length (runOf s r))
+      most : (v w : Characters) → (c ∷ runOf s r) ++ afterRun s r ≡ v ++ w → Identifier s v → length v ≤ suc (length (runOf s r))
       most v w e i =
-          let k : c ∷ (runOf s r ++ restOf s r) ≡ i .sign ∷ ((i .first ∷ i .others) ++ w) = e ∙ ap (λ (l : Characters). l ++ w) (i .whole) in
-          let m : runOf s r ++ restOf s r ≡ (i .first ∷ i .others) ++ w = cc in
-          let n = ap (λ (l : Characters). length (runOf s l)) (run-rest s r ∙ m) in
+          let k : c ∷ (runOf s r ++ afterRun s r) ≡ i .sign ∷ ((i .first ∷ i .others) ++ w) = e ∙ ap (λ (l : Characters). l ++ w) (i .whole) in
+          let m : runOf s r ++ afterRun s r ≡ (i .first ∷ i .others) ++ w = cc in
+          let n = ap (λ (l : Characters). length (runOf s l)) (run-after s r ∙ m) in
           let o = run-longest s (i .first ∷ i .others) w (i .continued) in
           let x = ap length (i .whole) in
           omega arith

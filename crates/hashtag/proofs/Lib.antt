@@ -3,5 +3,6 @@ pub mod RunLaws
 pub mod FindLaws
 pub mod AllLaws
 pub mod SeekLaws
+pub mod KnownLaws
 pub mod ListLaws
 pub mod AnswerLaws

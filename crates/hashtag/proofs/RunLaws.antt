@@ -40,14 +40,14 @@ module _ (s : List ℕ) where
       go true e h = subst (All (IsContinue s)) (sym (run-yes c r e)) (e, h)
       go false e h = subst (All (IsContinue s)) (sym (run-no c r e)) tt
 
-  pub restOf : Characters → Characters
+  pub afterRun : Characters → Characters
   unfolding runOf
-  restOf cs = drop (length (runOf s cs)) cs
+  afterRun cs = drop (length (runOf s cs)) cs
 
-  pub run-rest : (cs : Characters) → cs ≡ runOf s cs ++ restOf cs
-  unfolding restOf runOf
-  run-rest [] = refl
-  run-rest (c ∷ r) = go (continues s c) (run-rest r)
+  pub run-after : (cs : Characters) → cs ≡ runOf s cs ++ afterRun cs
+  unfolding afterRun runOf
+  run-after [] = refl
+  run-after (c ∷ r) = go (continues s c) (run-after r)
     where
       go : (b : Bool) → r ≡ runOf s r ++ drop (length (runOf s r)) r → c ∷ r ≡ cond b (c ∷ runOf s r) [] ++ drop (length (cond b (c ∷ runOf s r) [])) (c ∷ r)
       go true h = ap (λ (l : Characters). c ∷ l) h

@@ -1,25 +1,25 @@
 -- Looking for the next hashtag, character by character: each step keeps what is still to be found. Assumes nothing.
 use Prim.Native.Nat.{ℕ, zero, suc, _+_, _-_, _≤_, _<_}
 use mathlib.Core.Path.{_≡_, refl, sym, ap, subst, _∙_}
-use mathlib.Core.Bool.{Bool, true, false, not, _&&_}
+use mathlib.Core.Bool.{Bool, true, false, _&&_, cond}
 use mathlib.Core.List.{List, [], _∷_}
 use mathlib.Core.Logic.{_⊎_, inl, inr}
 use native.Mathlib.Omega.{arith}
 use native.Mathlib.Decide.{decLt}
 use mathlib.Core.Option.{none}
-use lib.ListN.{length, getD, drop, length-drop, drop-of-length-le}
-use lib.Seq.{drop-drop, getD-drop}
-use lib.Dec.{ltb, eqb}
-use borrow.Author.Tests.{lt-ltb, le-ltb, ltb-true, eqb-true}
+use lib.ListN.{length, getD, set, drop, length-set, length-drop, drop-of-length-le}
+use lib.Seq.{drop-drop, getD-drop, getD-set-same, getD-set-other}
+use lib.Dec.{leb, ltb, eqb}
+use borrow.Author.Tests.{lt-ltb, le-ltb, leb-true, ltb-true, ne-eqb}
 use Rattle.lists.proofs.BoolLaws.{and-left, and-right, impossible}
 use Rattle.utf8.specs.declared.Step.{Step}
 use Rattle.utf8.specs.declared.Step.the-variants.{Scalar, IllFormed, End}
 use Rattle.utf8.specs.Head.{stepOf, IllHead}
 use Rattle.utf8.specs.declared.Text.{Text}
 use Rattle.utf8.specs.declared.Text.the-variants.{WellFormed, IllFormed as Bad}
-use Rattle.utf8.specs.Lead.{lengthOf, knownLength}
+use Rattle.utf8.specs.Lead.{lengthOf, knownLength, isTrail}
 use Rattle.utf8.specs.Text.{Character, widthOf, decode, textOf, shift}
-use Rattle.utf8.proofs.SequenceLaws.{ill-at, end-empty}
+use Rattle.utf8.proofs.SequenceLaws.{known-bounds, ill-at, end-empty}
 use Rattle.utf8.proofs.TextLaws.{step-bounds, known-length, decode-scalar, decode-ill, decode-empty, turn}
 use Rattle.image.specs.Check.{refusalOf}
 use Rattle.character.specs.Read.{ReadAs}
@@ -27,9 +27,9 @@ use Rattle.character.specs.declared.Character.{Character as Read}
 use Rattle.character.proofs.CharacterLaws.{ascii-at}
 use Rattle.hashtag.specs.Sign.{isSign, continues}
 use Rattle.hashtag.specs.Find.{Span, runOf, hashtagsFrom}
-use Rattle.hashtag.specs.Seek.{charactersAt, hashtagsAt, continuesFirst, freeAt, isPlain, Plain, signOf, Sought}
+use Rattle.hashtag.specs.Seek.{charactersAt, hashtagsAt, continuesFirst, freeAt, stopOf, Stops, Skipped, signOf, Sought}
 use Rattle.hashtag.specs.declared.Sign.{Sign}
-use Rattle.hashtag.proofs.SignLaws.{not-true, continuesBy, by-traits}
+use Rattle.hashtag.proofs.SignLaws.{continuesBy, by-traits, no-sign-here}
 use Rattle.hashtag.proofs.RunLaws.{Characters, run-yes, run-no, run-none}
 use Rattle.hashtag.proofs.FindLaws.{found-none, found-begins, found-passes}
 
@@ -42,33 +42,61 @@ pub no-run-first : (s : List ℕ) (cs : Characters) → continuesFirst s cs ≡ 
 no-run-first s (c ∷ r) e = run-no s c r e
 no-run-first s [] e = run-none s
 
--- a plain byte
-not-sign : (b : ℕ) → b < 0x80 → eqb b 0x23 ≡ false → isSign b ≡ false
-unfolding isSign
-not-sign b h e = rw (e, other 0xFE5F (omega arith), other 0xFF03 (omega arith))
+-- what a byte tells where a search doesn't stop
+pub no-stop : (known : Bool) (b : ℕ) → stopOf known b ≡ 0 → (b ≡ 0x23 → ⊥) × (b ≡ 0xEF → ⊥)
+no-stop known b e = (λ f. impossible (sym e ∙ rw f), λ f. impossible (sym e ∙ rw f))
+
+plain-byte : (b : ℕ) → stopOf false b ≡ 0 → b < 0x80
+plain-byte b e = go (eqb b 0x23) (eqb b 0xEF) (decLt b 0x80) e
   where
-    other : (k : ℕ) → 0x80 ≤ k → eqb b k ≡ false
-    other k l = go (eqb b k) refl
-      where
-        go : (t : Bool) → eqb b k ≡ t → t ≡ false
-        go true f = let g = eqb-true b k f in absurd (omega arith)
-        go false f = refl
+    go : (x y : Bool) → Dec (b < 0x80) → _≡_ {A = ℕ} (cond x 1 (cond y 1 (cond (ltb b 0x80) 0 1))) 0 → b < 0x80
+    go x y (yes h) f = h
+    go true y (no h) f = absurd (omega arith)
+    go false true (no h) f = absurd (omega arith)
+    go false false (no h) f = impossible (sym f ∙ rw (le-ltb b 0x80 (let z : 0x80 ≤ b = omega arith in z)))
 
-plain-byte : (b : ℕ) → isPlain b ≡ true → (b < 0x80) × (isSign b ≡ false)
-plain-byte b e =
-    let h = ltb-true b 0x80 (and-right (not (eqb b 0x23)) (ltb b 0x80) e) in
-    (h, not-sign b h (not-true (eqb b 0x23) (and-left (not (eqb b 0x23)) (ltb b 0x80) e)))
+pub trail-passes : (b : ℕ) → isTrail b ≡ true → stopOf true b ≡ 0
+trail-passes b e =
+    let h = leb-true 0x80 b (and-left (leb 0x80 b) (ltb b 0xC0) e) in
+    let l = ltb-true b 0xC0 (and-right (leb 0x80 b) (ltb b 0xC0) e) in
+    rw (ne-eqb b 0x23 (λ f. absurd (omega arith)), ne-eqb b 0xEF (λ f. absurd (omega arith)))
 
-pub plain-begins : (text : List ℕ) (from : ℕ) → from ≤ length text → Plain text from from
-plain-begins text from h = record { above = omega arith; within = h; each = λ i l u. absurd (omega arith) }
+-- one more byte of the table
+pub stops-more : {known : Bool} {t : List ℕ} {k v : ℕ} → Stops known t k → k < 256 → v ≡ stopOf known k → Stops known (set t k v) (k + 1)
+stops-more {known} {t} {k} {v} f h e = record { long = length-set t k v ∙ f .long; each = λ y l. go y l (decLt y k) }
+  where
+    go : (y : ℕ) → y < k + 1 → Dec (y < k) → getD (set t k v) y 0 ≡ stopOf known y
+    go y l (yes p) = getD-set-other t k y v 0 (λ q. absurd (omega arith)) ∙ f .each y p
+    go y l (no p) =
+        let q : y ≡ k = omega arith in
+        let b = f .long in
+        ap (λ (j : ℕ). getD (set t k v) j 0) q ∙ getD-set-same t k v 0 (omega arith) ∙ e ∙ ap (stopOf known) (sym q)
 
-pub plain-more : {text : List ℕ} {from at : ℕ} → Plain text from at → at < length text → isPlain (getD text at 0) ≡ true → Plain text from (at + 1)
-plain-more {text} {from} {at} p h e =
+pub stops-all : {known : Bool} {t : List ℕ} {k : ℕ} → Stops known t k → 256 ≤ k → Stops known t 256
+stops-all f h = record { long = f .long; each = λ y l. f .each y (omega arith) }
+
+-- bytes that were passed over
+pub record Passed (known : Bool) (text : List ℕ) (from to : ℕ) : Type 0 where
+  pub above : from ≤ to
+  pub within : to ≤ length text
+  pub each : (i : ℕ) → from ≤ i → i < to → stopOf known (getD text i 0) ≡ 0
+
+pub passed : {known : Bool} {text : List ℕ} {from to : ℕ} → Skipped known text from to → Passed known text from to
+passed p = record { above = p .above; within = p .within; each = p .each }
+
+pub skipped : {known : Bool} {text : List ℕ} {from to : ℕ} → Passed known text from to → (to < length text → stopOf known (getD text to 0) ≡ 0 → ⊥) → Skipped known text from to
+skipped p h = record { above = p .above; within = p .within; each = p .each; stop = h }
+
+pub passed-begins : (known : Bool) (text : List ℕ) (from : ℕ) → from ≤ length text → Passed known text from from
+passed-begins known text from h = record { above = omega arith; within = h; each = λ i l u. absurd (omega arith) }
+
+pub passed-more : {known : Bool} {text : List ℕ} {from at : ℕ} → Passed known text from at → at < length text → stopOf known (getD text at 0) ≡ 0 → Passed known text from (at + 1)
+passed-more {known} {text} {from} {at} p h e =
     record { above = omega (arith, p .above); within = omega arith; each = λ i l u. go i l u (decLt i at) }
   where
-    go : (i : ℕ) → from ≤ i → i < at + 1 → Dec (i < at) → isPlain (getD text i 0) ≡ true
+    go : (i : ℕ) → from ≤ i → i < at + 1 → Dec (i < at) → stopOf known (getD text i 0) ≡ 0
     go i l u (yes v) = p .each i l v
-    go i l u (no v) = let q : i ≡ at = omega arith in ap (λ (j : ℕ). isPlain (getD text j 0)) q ∙ e
+    go i l u (no v) = let q : i ≡ at = omega arith in ap (λ (j : ℕ). stopOf known (getD text j 0)) q ∙ e
 
 -- the length of the sequence at a place: none begins there, or one of this length
 pub measured-none : (text : List ℕ) (at n : ℕ) → at < length text → n ≡ lengthOf (stepOf (drop at text)) → n ≡ 0 → IllHead (drop at text)
@@ -87,8 +115,8 @@ measured-some text at n e z = go (stepOf (drop at text)) refl e
     go (IllFormed k) f l = absurd (z l)
     go End f l = absurd (z l)
 
--- of a text that is well-formed from the place on
-pub measured-known : (text : List ℕ) (at : ℕ) → at < length text → textOf (drop at text) ≡ WellFormed → knownLength (getD text at 0) ≡ lengthOf (stepOf (drop at text))
+-- of a text that is well-formed from the place on the first byte tells it
+measured-known : (text : List ℕ) (at : ℕ) → at < length text → textOf (drop at text) ≡ WellFormed → knownLength (getD text at 0) ≡ lengthOf (stepOf (drop at text))
 measured-known text at h w =
     let z : getD (drop at text) 0 0 ≡ getD text at 0 = getD-drop at text 0 0 ∙ ap (λ (k : ℕ). getD text k 0) (let q : at + 0 ≡ at = omega arith in q) in
     ap knownLength (sym z) ∙ known-length (drop at text) (omega (arith, length-drop at text)) w
@@ -119,11 +147,20 @@ module _ (s text : List ℕ) where
   -- by the length of the sequence there
   pub record Stands (at n : ℕ) : Type 0 where
     pub code : ℕ
+    pub step : stepOf (drop at text) ≡ Scalar code n
     pub here : Here at code n
     pub sign : signOf (stepOf (drop at text)) ≡ isSign code
 
+  stands-at : {x : ℕ} (at n : ℕ) → stepOf (drop at text) ≡ Scalar x n → at < length text → Stands at n
+  stands-at {x} at n f h = record { code = x; step = f; here = here at x n h f; sign = ap signOf f }
+
   pub stands : (at n : ℕ) → at < length text → n ≡ lengthOf (stepOf (drop at text)) → (n ≡ 0 → ⊥) → Stands at n
-  stands at n h e z = let (x, f) = measured-some text at n e z in record { code = x; here = here at x n h f; sign = ap signOf f }
+  stands at n h e z = let (x, f) = measured-some text at n e z in stands-at at n f h
+
+  -- and by the first byte of a text that is well-formed
+  pub stands-known : (at : ℕ) → at < length text → textOf (drop at text) ≡ WellFormed → Stands at (knownLength (getD text at 0))
+  stands-known at h w =
+      stands at (knownLength (getD text at 0)) h (measured-known text at h w) (λ z. absurd (omega (arith, known-bounds (getD text at 0) .0)))
 
   -- none stands where the text is ill-formed, nor at its end
   pub none-ill : (at : ℕ) → IllHead (drop at text) → charactersAt text at ≡ []
@@ -244,16 +281,17 @@ module _ (s text : List ℕ) where
           passes (inl e) = inl e
           passes (inr e) = inr (no free refl e)
 
-  -- plain bytes
-  one-plain : {from before at : ℕ} → Seeking from before at → at < length text → isPlain (getD text at 0) ≡ true → Seeking from at (at + 1)
+  -- bytes that are characters by themselves
+  one-plain : {from before at : ℕ} → Seeking from before at → at < length text → stopOf false (getD text at 0) ≡ 0 → Seeking from at (at + 1)
   one-plain {from} {before} {at} i h e =
-      let p = plain-byte (getD text at 0) e in
-      seeking-over i (here at (getD text at 0) 1 h (ascii-at text at h (p .0))) (inl (p .1))
+      let k = stands-at at 1 (ascii-at text at h (plain-byte (getD text at 0) e)) h in
+      let n = no-stop false (getD text at 0) e in
+      seeking-over i (k .here) (inl (sym (k .sign) ∙ sym (no-sign-here text at (n .0) (n .1))))
 
-  pub seeking-plain : {from before at past : ℕ} → Seeking from before at → Plain text at past → at < past → Seeking from (past - 1) past
-  seeking-plain {from} {before} {at} {past} i p h = go (past - at - 1) past (omega arith) p
+  pub seeking-plain : {from before at past : ℕ} → Seeking from before at → Skipped false text at past → at < past → Seeking from (past - 1) past
+  seeking-plain {from} {before} {at} {past} i p h = go (past - at - 1) past (omega arith) (passed p)
     where
-      go : (k q : ℕ) → q ≡ at + suc k → Plain text at q → Seeking from (q - 1) q
+      go : (k q : ℕ) → q ≡ at + suc k → Passed false text at q → Seeking from (q - 1) q
       go zero q e p =
           let y : at ≡ q - 1 = omega arith in
           let z : at + 1 ≡ q = omega arith in

@@ -7,7 +7,7 @@ use mathlib.Core.List.{List}
 use mathlib.Core.Logic.{_⊎_, inl, inr}
 use mathlib.Core.Option.{none}
 use native.Mathlib.Omega.{arith}
-use borrow.Author.Tests.{eqb-true, ne-eqb}
+use borrow.Author.Tests.{eqb-true, ne-eqb, not-true}
 use lib.Dec.{leb, eqb}
 use lib.ListN.{length, getD, drop}
 use lib.Seq.{getD-drop}
@@ -25,14 +25,6 @@ use Rattle.character.proofs.CharacterLaws.{ascii-at}
 use Rattle.grammar.specs.Kinds.{isContinue}
 use Rattle.hashtag.specs.Sign.{isSign, isHashtagContinue}
 use Rattle.hashtag.specs.Seek.{signOf}
-
-pub not-true : (b : Bool) → not b ≡ true → b ≡ false
-not-true true e = impossible (cc)
-not-true false e = refl
-
-pub not-false : (b : Bool) → not b ≡ false → b ≡ true
-not-false true e = refl
-not-false false e = impossible (cc)
 
 -- a sign is never hashtag Continue
 pub no-sign : (s : List ℕ) (x : ℕ) → isHashtagContinue s x ≡ true → isSign x ≡ false

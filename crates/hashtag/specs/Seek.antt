@@ -1,13 +1,15 @@
 -- Looking for the next hashtag of a text, from a byte place on (docs/RULES.md, "Hashtags").
 use Prim.Native.Nat.{ℕ, _+_, _≤_, _<_}
 use mathlib.Core.Path.{_≡_}
-use mathlib.Core.Bool.{Bool, true, false, not, _&&_, cond}
+use mathlib.Core.Bool.{Bool, true, false, not, cond}
 use mathlib.Core.List.{List, [], _∷_}
+use mathlib.Core.Logic.{_⊎_}
 use lib.Dec.{ltb, eqb}
 use lib.ListN.{length, getD, drop}
 use Rattle.utf8.specs.declared.Step.{Step}
 use Rattle.utf8.specs.declared.Step.the-variants.{Scalar, IllFormed, End}
 use Rattle.utf8.specs.Head.{IllHead}
+use Rattle.utf8.specs.Lead.{isTrail}
 use Rattle.utf8.specs.Text.{Character, widthOf, decode, textOf, shift}
 use Rattle.hashtag.specs.Sign.{isSign, continues}
 use Rattle.hashtag.specs.Find.{Span, runOf, hashtagsFrom}
@@ -29,15 +31,32 @@ continuesFirst s (c ∷ r) = continues s c
 abbrev pub freeAt : List ℕ → List ℕ → ℕ → ℕ → Bool
 freeAt s text before at = cond (ltb before at) (not (continuesFirst s (charactersAt text before))) true
 
--- a byte that is a character by itself, and no sign
-abbrev pub isPlain : ℕ → Bool
-isPlain b = not (eqb b 0x23) && ltb b 0x80
+-- where a search for signs stops, by the byte there: the first bytes of the signs; and, in a text that isn't known to be well-formed, every
+-- byte that isn't a character by itself
+abbrev pub stopOf : Bool → ℕ → ℕ
+stopOf known b = cond (eqb b 0x23) 1 (cond (eqb b 0xEF) 1 (cond known 0 (cond (ltb b 0x80) 0 1)))
 
--- the bytes from one place to before another are plain
-pub record Plain (text : List ℕ) (from to : ℕ) : Type 0 where
+-- the first k bytes of the table of them
+pub record Stops (known : Bool) (t : List ℕ) (k : ℕ) : Type 0 where
+  pub long : length t ≡ 256
+  pub each : (b : ℕ) → b < k → getD t b 0 ≡ stopOf known b
+
+abbrev pub StopsOf : Bool → List ℕ → Type 0
+StopsOf known t = Stops known t 256
+
+-- the first place from a place on where it stops, or the text's end
+pub record Skipped (known : Bool) (text : List ℕ) (from to : ℕ) : Type 0 where
   pub above : from ≤ to
   pub within : to ≤ length text
-  pub each : (i : ℕ) → from ≤ i → i < to → isPlain (getD text i 0) ≡ true
+  pub each : (i : ℕ) → from ≤ i → i < to → stopOf known (getD text i 0) ≡ 0
+  pub stop : to < length text → stopOf known (getD text to 0) ≡ 0 → ⊥
+
+-- the last place before another, and no sooner than a third, where no byte stands that only follows others; the third where there is none
+pub record Backed (text : List ℕ) (from to r : ℕ) : Type 0 where
+  pub above : from ≤ r
+  pub below : r ≤ to
+  pub others : (i : ℕ) → r < i → i < to → isTrail (getD text i 0) ≡ true
+  pub first : ((r < to) × (isTrail (getD text r 0) ≡ false)) ⊎ ((r ≡ from) × (r < to → isTrail (getD text r 0) ≡ true))
 
 -- whether a sequence is that of a sign
 abbrev pub signOf : Step → Bool

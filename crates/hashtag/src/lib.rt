@@ -1,7 +1,7 @@
 // Hashtags in flowing text: the list of a text's hashtags under a class image. The call whose name ends in `_checked` takes an image that was
 // checked and accepted.
 ghost use mathlib.Core.Path.{_≡_};
-ghost use mathlib.Core.Bool.{true, not, _&&_, _||_};
+ghost use mathlib.Core.Bool.{Bool, true, false, not, _&&_, _||_};
 ghost use mathlib.Core.Option.{none};
 ghost use Prim.Native.Nat.{_+_, _*_, _%_, _≤_, _<_};
 ghost use lib.ListN.{length, drop};
@@ -9,7 +9,7 @@ ghost use lib.Dec.{leb};
 ghost use Rattle.lists.specs.Laid.{laid};
 ghost use Rattle.utf8.specs.declared.Text.the-variants.{WellFormed};
 ghost use Rattle.utf8.specs.Head.{stepOf, IllHead};
-ghost use Rattle.utf8.specs.Lead.{lengthOf};
+ghost use Rattle.utf8.specs.Lead.{isTrail};
 ghost use Rattle.utf8.specs.Text.{widthOf, textOf};
 ghost use Rattle.image.specs.Class.{classNamed};
 ghost use Rattle.image.specs.Check.{refusalOf};
@@ -20,7 +20,7 @@ ghost use Rattle.grammar.specs.Reading.{maxText};
 ghost use Rattle.hashtag.specs.Sign.{isSign};
 ghost use Rattle.hashtag.specs.Find.{runOf, hashtagsOf};
 ghost use Rattle.hashtag.specs.Listed.{spansWords, hashtagListOf, hashtagListWords, listedBy, countedThrough, closedBy};
-ghost use Rattle.hashtag.specs.Seek.{charactersAt, continuesFirst, freeAt, isPlain, Plain, signOf, Sought};
+ghost use Rattle.hashtag.specs.Seek.{charactersAt, continuesFirst, freeAt, stopOf, StopsOf, Skipped, Backed, signOf, Sought};
 use image::Answer;
 use refusal::Refusal;
 use scan::MAX_TEXT;
@@ -121,41 +121,59 @@ fn find_end<'a>(image: &'a [u8], table: &'a [u8; 128], text: &'a [u8], from: usi
     at
 }
 
-// Whether a byte is a character by itself, and no sign.
-fn is_plain(b: u8) -> bool
-    ensures { λ r. ⌜ r ≡ isPlain b ⌝ }
+// What a table of bytes has for a byte: 1 where a search stops there, else 0. In a text that is known to be well-formed only the first bytes
+// of the signs stop it, in another every byte that isn't a character by itself too.
+fn stop_at(b: usize, known: bool) -> u8
+    ensures { λ r. ⌜ r ≡ stopOf known b ⌝ }
 {
-    if b == NUMBER_SIGN as u8 {
-        return false;
+    if b == NUMBER_SIGN as usize {
+        return 1;
     }
-    b < 0x80
+    if b == WIDE_SIGNS as usize {
+        return 1;
+    }
+    if known {
+        return 0;
+    }
+    if b < 0x80 {
+        return 0;
+    }
+    1
 }
 
-// A place up to which the bytes from a place on are plain.
-fn skip(text: &[u8], from: usize) -> usize
+// The table of bytes.
+fn fill_stops(known: bool) -> [u8; 256]
+    ensures { λ r. ⌜ StopsOf known r ⌝ }
+{
+    let mut stops = [0u8; 256];
+    let mut i = 0;
+    while i < 256 {
+        stops[i] = stop_at(i, known);
+        i += 1;
+    }
+    stops
+}
+
+// What the table has for a byte.
+fn look(stops: &[u8; 256], b: u8) -> u8
+    ensures { λ r. ⌜ ((known : Bool) → StopsOf known (now (stops .entry)) → r ≡ stopOf known b) ⌝ }
+{
+    stops[b as usize]
+}
+
+// The first place from a place on where a search stops, or the text's end.
+fn skip<'a>(stops: &'a [u8; 256], text: &'a [u8], from: usize) -> usize
     requires { ⌜ from ≤ length (now text) ⌝ }
-    ensures { λ r. ⌜ Plain (now (text .entry)) from r ⌝ }
+    ensures { λ r. ⌜ ((known : Bool) → StopsOf known (now (stops .entry)) → Skipped known (now (text .entry)) from r) ⌝ }
 {
     let mut at = from;
     while at < text.len() {
-        if !is_plain(text[at]) {
+        if look(stops, text[at]) != 0 {
             return at;
         }
         at += 1;
     }
     at
-}
-
-// The length of the sequence at a place; 0 where none begins. Of a text that is known to be well-formed the first byte tells it.
-fn measure(text: &[u8], at: usize, known: bool) -> usize
-    requires { ⌜ at < length (now text) ⌝ }
-    requires { ⌜ (known ≡ true → textOf (drop at (now text)) ≡ WellFormed) ⌝ }
-    ensures { λ r. ⌜ r ≡ lengthOf (stepOf (drop at (now (text .entry)))) ⌝ }
-{
-    if known {
-        return utf8::measure_known(text[at]);
-    }
-    utf8::decode_packed(text, at) % 8
 }
 
 // Whether the sequence at a place is that of a sign.
@@ -211,23 +229,29 @@ fn begins<'a>(
 
 // The next hashtag from a place on, where no hashtag Continue stands right before that place. `before` is where the character right before
 // `at` begins, or `at` itself where there is none.
-fn seek<'a>(image: &'a [u8], table: &'a [u8; 128], text: &'a [u8], from: usize, known: bool) -> Sign
+fn seek<'a>(
+    image: &'a [u8],
+    table: &'a [u8; 128],
+    stops: &'a [u8; 256],
+    text: &'a [u8],
+    from: usize,
+) -> Sign
     requires { ⌜ refusalOf (now image) ≡ none ⌝ }
     requires { ⌜ TableOf (now image) (now table) ⌝ }
+    requires { ⌜ StopsOf false (now stops) ⌝ }
     requires { ⌜ from ≤ length (now text) ⌝ }
-    requires { ⌜ (known ≡ true → textOf (drop from (now text)) ≡ WellFormed) ⌝ }
     ensures { λ r. ⌜ Sought (now (image .entry)) (now (text .entry)) from r ⌝ }
 {
     let mut before = from;
     let mut at = from;
     while at < text.len() {
-        let past = skip(text, at);
+        let past = skip(stops, text, at);
         if at < past {
             before = past - 1;
             at = past;
             continue;
         }
-        let len = measure(text, at, known);
+        let len = utf8::measure(text, at);
         if len == 0 {
             return Sign { at, next: at };
         }
@@ -238,6 +262,66 @@ fn seek<'a>(image: &'a [u8], table: &'a [u8; 128], text: &'a [u8], from: usize, 
             }
         }
         before = at;
+        at = next;
+    }
+    Sign { at, next: at }
+}
+
+// Whether a byte only follows others in a sequence.
+fn is_trail(b: u8) -> bool
+    ensures { λ r. ⌜ r ≡ isTrail b ⌝ }
+{
+    if b < 0x80 {
+        return false;
+    }
+    b < 0xC0
+}
+
+// Where the character begins that ends at a place, not before another place; the same place where the two are the same.
+fn step_back(text: &[u8], from: usize, to: usize) -> usize
+    requires { ⌜ (from ≤ to) × (to ≤ length (now text)) ⌝ }
+    ensures { λ r. ⌜ Backed (now (text .entry)) from to r ⌝ }
+{
+    let mut at = to;
+    while from < at {
+        at -= 1;
+        if !is_trail(text[at]) {
+            return at;
+        }
+    }
+    at
+}
+
+// As `seek`, in a text that is well-formed from the place on: bytes that begin no sign are passed over, whatever character they are of.
+fn seek_known<'a>(
+    image: &'a [u8],
+    table: &'a [u8; 128],
+    stops: &'a [u8; 256],
+    text: &'a [u8],
+    from: usize,
+) -> Sign
+    requires { ⌜ refusalOf (now image) ≡ none ⌝ }
+    requires { ⌜ TableOf (now image) (now table) ⌝ }
+    requires { ⌜ StopsOf true (now stops) ⌝ }
+    requires { ⌜ (from ≤ length (now text)) × (textOf (drop from (now text)) ≡ WellFormed) ⌝ }
+    ensures { λ r. ⌜ Sought (now (image .entry)) (now (text .entry)) from r ⌝ }
+{
+    let mut at = from;
+    while at < text.len() {
+        let past = skip(stops, text, at);
+        if text.len() <= past {
+            return Sign {
+                at: past,
+                next: past,
+            };
+        }
+        let next = past + utf8::measure_known(text[past]);
+        if is_sign_at(text, past) {
+            let before = step_back(text, from, past);
+            if begins(image, table, text, before, Sign { at: past, next }) {
+                return Sign { at: past, next };
+            }
+        }
         at = next;
     }
     Sign { at, next: at }
@@ -261,10 +345,11 @@ fn count_hashtags<'a>(image: &'a [u8], table: &'a [u8; 128], text: &'a [u8]) -> 
     requires { ⌜ TableOf (now image) (now table) ⌝ }
     ensures { λ r. ⌜ r ≡ countedThrough (now (image .entry)) (now (text .entry)) ⌝ }
 {
+    let stops = fill_stops(false);
     let mut count: usize = 0;
     let mut at = 0;
     while at < text.len() {
-        let sign = seek(image, table, text, at, false);
+        let sign = seek(image, table, &stops, text, at);
         if sign.next <= sign.at {
             return close(text, sign.at, count);
         }
@@ -283,10 +368,11 @@ fn write_hashtags<'a>(image: &'a [u8], table: &'a [u8; 128], text: &'a [u8], out
     requires { ⌜ recordSize * length (hashtagsOf (now image) (now text)) ≤ length (now out) ⌝ }
     ensures { λ _. ⌜ now (out .exit) ≡ laid (now (out .entry)) 0 (spansWords (hashtagsOf (now (image .entry)) (now (text .entry)))) ⌝ }
 {
+    let stops = fill_stops(true);
     let mut w = 0;
     let mut at = 0;
     while at < text.len() {
-        let sign = seek(image, table, text, at, true);
+        let sign = seek_known(image, table, &stops, text, at);
         if sign.next <= sign.at {
             return;
         }

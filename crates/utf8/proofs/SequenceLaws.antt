@@ -1,6 +1,6 @@
 -- The step at the head of a text and the sequences of Table 3-7: each finds the other, and nothing else.
 -- Assumes nothing.
-use Prim.Native.Nat.{ℕ, suc, _+_, _≤_, _<_}
+use Prim.Native.Nat.{ℕ, zero, suc, _+_, _≤_, _<_}
 use mathlib.Core.Path.{_≡_, refl, sym, ap, subst, _∙_}
 use mathlib.Core.Bool.{Bool, true, false, false≢true, cond}
 use mathlib.Core.List.{List, [], _∷_, _++_, append-nil}
@@ -8,14 +8,14 @@ use mathlib.Core.Logic.{inl, inr}
 use native.Mathlib.Omega.{arith}
 use lib.ListN.{length, take, drop, getD, length-append, length-take, take-append-drop}
 use lib.Dec.{ltb}
-use borrow.Author.Tests.{lt-ltb, le-ltb}
+use borrow.Author.Tests.{lt-ltb, le-ltb, le-leb, lt-leb}
 use Rattle.lists.proofs.BoolLaws.{and-left, and-right, impossible}
 use Rattle.utf8.specs.declared.Step.{Step}
 use Rattle.utf8.specs.declared.Step.the-variants.{Scalar, IllFormed, End}
 use Rattle.utf8.specs.Scalar.{isScalar, below-surrogates, above-surrogates}
 use Rattle.utf8.specs.Table.{Bytes, _to_, Row, table, inside, fits, Fills, FillsOne, Sequence, codePoint}
 use Rattle.utf8.specs.Subpart.{subpartOf, Subpart, MaximalSubpart}
-use Rattle.utf8.specs.Lead.{knownLength}
+use Rattle.utf8.specs.Lead.{knownLength, isTrail}
 use Rattle.utf8.specs.Head.{stepIn, stepOf, IllHead, NoSequence, StepMeans, sequence, no-sequence, empty}
 use Rattle.utf8.proofs.ScalarLaws.{means-scalar}
 use Rattle.utf8.proofs.TableLaws.{inside-in, inside-out, inside-above}
@@ -77,7 +77,7 @@ known-4 : (b : ℕ) → 0xF0 ≤ b → 4 ≡ knownLength b
 unfolding knownLength
 known-4 b h = rw (le-ltb b 0x80 (omega arith), le-ltb b 0xE0 (omega arith), le-ltb b 0xF0 h)
 
-known-bounds : (b : ℕ) → (1 ≤ knownLength b) × (knownLength b ≤ 4)
+pub known-bounds : (b : ℕ) → (1 ≤ knownLength b) × (knownLength b ≤ 4)
 unfolding knownLength
 known-bounds b = go (ltb b 0x80) (ltb b 0xE0) (ltb b 0xF0)
   where
@@ -87,33 +87,66 @@ known-bounds b = go (ltb b 0x80) (ltb b 0xE0) (ltb b 0xF0)
     go false false true = (omega arith, omega arith)
     go false false false = (omega arith, omega arith)
 
--- what holds of every sequence: it stands for a scalar value, and its first byte tells its length, and which sequences stand for ASCII and for
--- the code points from F000 to FFFF
+-- what holds of every sequence: it stands for a scalar value; its first byte tells its length, and whether it stands for ASCII or for
+-- the code points from F000 to FFFF; which byte is the first
 pub record Right (q : List ℕ) : Type 0 where
   pub scalar : isScalar (codePoint q) ≡ true
   pub long : length q ≡ knownLength (getD q 0 0)
   pub ascii : codePoint q < 0x80 → getD q 0 0 ≡ codePoint q
   pub high : 0xF000 ≤ codePoint q → codePoint q ≤ 0xFFFF → getD q 0 0 ≡ 0xEF
+  pub first : isTrail (getD q 0 0) ≡ false
+  pub others : (i : ℕ) → 0 < i → i < length q → isTrail (getD q i 0) ≡ true
+
+-- bytes that follow others
+trail : (b : ℕ) → 0x80 ≤ b → b ≤ 0xBF → isTrail b ≡ true
+trail b h l = rw (le-leb 0x80 b h, lt-ltb b 0xC0 (omega arith))
+
+low-lead : (b : ℕ) → b < 0x80 → isTrail b ≡ false
+low-lead b h = rw (lt-leb 0x80 b h)
+
+high-lead : (b : ℕ) → 0xC0 ≤ b → isTrail b ≡ false
+high-lead b h = rw (le-leb 0x80 b (omega arith), le-ltb b 0xC0 h)
+
+one-other : (b c : ℕ) → isTrail c ≡ true → (i : ℕ) → 0 < i → i < 2 → isTrail (getD (b ∷ c ∷ []) i 0) ≡ true
+one-other b c t zero h l = absurd (omega arith)
+one-other b c t (suc zero) h l = t
+one-other b c t (suc (suc i)) h l = absurd (omega arith)
+
+two-others : (b c d : ℕ) → isTrail c ≡ true → isTrail d ≡ true → (i : ℕ) → 0 < i → i < 3 → isTrail (getD (b ∷ c ∷ d ∷ []) i 0) ≡ true
+two-others b c d t u zero h l = absurd (omega arith)
+two-others b c d t u (suc zero) h l = t
+two-others b c d t u (suc (suc zero)) h l = u
+two-others b c d t u (suc (suc (suc i))) h l = absurd (omega arith)
+
+three-others :
+    (b c d e : ℕ) → isTrail c ≡ true → isTrail d ≡ true → isTrail e ≡ true → (i : ℕ) → 0 < i → i < 4
+    → isTrail (getD (b ∷ c ∷ d ∷ e ∷ []) i 0) ≡ true
+three-others b c d e t u v zero h l = absurd (omega arith)
+three-others b c d e t u v (suc zero) h l = t
+three-others b c d e t u v (suc (suc zero)) h l = u
+three-others b c d e t u v (suc (suc (suc zero))) h l = v
+three-others b c d e t u v (suc (suc (suc (suc i)))) h l = absurd (omega arith)
 
 -- one line for each row of the table
 right : (q : List ℕ) → FillsOne table q → Right q
-right q (inl f) = row-1 Right _ (λ b u. record { scalar = low _ (omega arith); long = known-1 b (omega arith); ascii = λ h. refl; high = λ h l. absurd (omega arith) }) q f
+right q (inl f) =
+    row-1 Right _ (λ b u. record { scalar = low _ (omega arith); long = known-1 b (omega arith); ascii = λ h. refl; high = λ h l. absurd (omega arith); first = low-lead b (omega arith); others = λ i h l. absurd (omega arith) }) q f
 right q (inr (inl f)) =
-    row-2 Right _ _ (λ b c u v. record { scalar = low _ (omega arith); long = known-2 b (omega arith) (omega arith); ascii = λ h. absurd (omega arith); high = λ h l. absurd (omega arith) }) q f
+    row-2 Right _ _ (λ b c u v. record { scalar = low _ (omega arith); long = known-2 b (omega arith) (omega arith); ascii = λ h. absurd (omega arith); high = λ h l. absurd (omega arith); first = high-lead b (omega arith); others = one-other b c (trail c (omega arith) (omega arith)) }) q f
 right q (inr (inr (inl f))) =
-    row-3 Right _ _ (λ b c d u v w. record { scalar = low _ (omega arith); long = known-3 b (omega arith) (omega arith); ascii = λ h. absurd (omega arith); high = λ h l. absurd (omega arith) }) q f
+    row-3 Right _ _ (λ b c d u v w. record { scalar = low _ (omega arith); long = known-3 b (omega arith) (omega arith); ascii = λ h. absurd (omega arith); high = λ h l. absurd (omega arith); first = high-lead b (omega arith); others = two-others b c d (trail c (omega arith) (omega arith)) (trail d (omega arith) (omega arith)) }) q f
 right q (inr (inr (inr (inl f)))) =
-    row-3 Right _ _ (λ b c d u v w. record { scalar = low _ (omega arith); long = known-3 b (omega arith) (omega arith); ascii = λ h. absurd (omega arith); high = λ h l. absurd (omega arith) }) q f
+    row-3 Right _ _ (λ b c d u v w. record { scalar = low _ (omega arith); long = known-3 b (omega arith) (omega arith); ascii = λ h. absurd (omega arith); high = λ h l. absurd (omega arith); first = high-lead b (omega arith); others = two-others b c d (trail c (omega arith) (omega arith)) (trail d (omega arith) (omega arith)) }) q f
 right q (inr (inr (inr (inr (inl f))))) =
-    row-3 Right _ _ (λ b c d u v w. record { scalar = low _ (omega arith); long = known-3 b (omega arith) (omega arith); ascii = λ h. absurd (omega arith); high = λ h l. absurd (omega arith) }) q f
+    row-3 Right _ _ (λ b c d u v w. record { scalar = low _ (omega arith); long = known-3 b (omega arith) (omega arith); ascii = λ h. absurd (omega arith); high = λ h l. absurd (omega arith); first = high-lead b (omega arith); others = two-others b c d (trail c (omega arith) (omega arith)) (trail d (omega arith) (omega arith)) }) q f
 right q (inr (inr (inr (inr (inr (inl f)))))) =
-    row-3 Right _ _ (λ b c d u v w. record { scalar = high _ (omega arith) (omega arith); long = known-3 b (omega arith) (omega arith); ascii = λ h. absurd (omega arith); high = λ h l. omega arith }) q f
+    row-3 Right _ _ (λ b c d u v w. record { scalar = high _ (omega arith) (omega arith); long = known-3 b (omega arith) (omega arith); ascii = λ h. absurd (omega arith); high = λ h l. omega arith; first = high-lead b (omega arith); others = two-others b c d (trail c (omega arith) (omega arith)) (trail d (omega arith) (omega arith)) }) q f
 right q (inr (inr (inr (inr (inr (inr (inl f))))))) =
-    row-4 Right _ _ (λ b c d e u v w x. record { scalar = high _ (omega arith) (omega arith); long = known-4 b (omega arith); ascii = λ h. absurd (omega arith); high = λ h l. absurd (omega arith) }) q f
+    row-4 Right _ _ (λ b c d e u v w x. record { scalar = high _ (omega arith) (omega arith); long = known-4 b (omega arith); ascii = λ h. absurd (omega arith); high = λ h l. absurd (omega arith); first = high-lead b (omega arith); others = three-others b c d e (trail c (omega arith) (omega arith)) (trail d (omega arith) (omega arith)) (trail e (omega arith) (omega arith)) }) q f
 right q (inr (inr (inr (inr (inr (inr (inr (inl f)))))))) =
-    row-4 Right _ _ (λ b c d e u v w x. record { scalar = high _ (omega arith) (omega arith); long = known-4 b (omega arith); ascii = λ h. absurd (omega arith); high = λ h l. absurd (omega arith) }) q f
+    row-4 Right _ _ (λ b c d e u v w x. record { scalar = high _ (omega arith) (omega arith); long = known-4 b (omega arith); ascii = λ h. absurd (omega arith); high = λ h l. absurd (omega arith); first = high-lead b (omega arith); others = three-others b c d e (trail c (omega arith) (omega arith)) (trail d (omega arith) (omega arith)) (trail e (omega arith) (omega arith)) }) q f
 right q (inr (inr (inr (inr (inr (inr (inr (inr (inl f))))))))) =
-    row-4 Right _ _ (λ b c d e u v w x. record { scalar = high _ (omega arith) (omega arith); long = known-4 b (omega arith); ascii = λ h. absurd (omega arith); high = λ h l. absurd (omega arith) }) q f
+    row-4 Right _ _ (λ b c d e u v w x. record { scalar = high _ (omega arith) (omega arith); long = known-4 b (omega arith); ascii = λ h. absurd (omega arith); high = λ h l. absurd (omega arith); first = high-lead b (omega arith); others = three-others b c d e (trail c (omega arith) (omega arith)) (trail d (omega arith) (omega arith)) (trail e (omega arith) (omega arith)) }) q f
 
 pub sequence-right : (q : List ℕ) → Sequence q → Right q
 unfolding Sequence

@@ -2,7 +2,7 @@
 -- Assumes nothing.
 use Prim.Native.Nat.{ℕ, zero, suc, _+_, _*_, _/_, _%_, _≤_, _<_}
 use mathlib.Core.Path.{_≡_, refl, sym, ap, subst, _∙_}
-use mathlib.Core.Bool.{true}
+use mathlib.Core.Bool.{true, false}
 use mathlib.Core.List.{List, [], _∷_}
 use native.Mathlib.Nat.{add-assoc}
 use native.Mathlib.Omega.{arith}
@@ -17,7 +17,7 @@ use Rattle.utf8.specs.Scalar.{isScalar}
 use Rattle.utf8.specs.Table.{codePoint}
 use Rattle.utf8.specs.Subpart.{subpartOf, MaximalSubpart}
 use Rattle.utf8.specs.Head.{stepOf, IllHead, NoSequence, StepMeans, sequence, no-sequence, empty}
-use Rattle.utf8.specs.Lead.{packed, lengthOf, knownLength}
+use Rattle.utf8.specs.Lead.{packed, lengthOf, knownLength, isTrail}
 use Rattle.utf8.specs.Text.{
   Character,
   Decoded,
@@ -73,11 +73,13 @@ step-bounds s x n e =
     let c = simp length-take at m in
     record { some-bytes = omega arith; short = omega arith; within = omega arith; scalar = ap isScalar (f .code) ∙ sequence-scalar (take n s) (f .sequence) }
 
--- what the first byte of a sequence tells
+-- what the bytes of a sequence tell
 pub record FirstByte (s : List ℕ) (x n : ℕ) : Type 0 where
   pub long : n ≡ knownLength (getD s 0 0)
   pub ascii : x < 0x80 → getD s 0 0 ≡ x
   pub high : 0xF000 ≤ x → x ≤ 0xFFFF → getD s 0 0 ≡ 0xEF
+  pub first : isTrail (getD s 0 0) ≡ false
+  pub others : (i : ℕ) → 0 < i → i < n → isTrail (getD s i 0) ≡ true
 
 pub first-byte : (s : List ℕ) (x n : ℕ) → stepOf s ≡ Scalar x n → FirstByte s x n
 first-byte s x n e =
@@ -89,6 +91,8 @@ first-byte s x n e =
       long = f .long ∙ r .long ∙ ap knownLength b;
       ascii = λ h. sym b ∙ r .ascii (omega arith) ∙ sym c;
       high = λ h l. sym b ∙ r .high (omega arith) (omega arith);
+      first = ap isTrail (sym b) ∙ r .first;
+      others = λ i h l. ap isTrail (sym (getD-take n s i 0 l)) ∙ r .others i h (let m = f .long in omega arith);
     }
 
 -- what a packed sequence tells: the length is its last octal digit, the code point the others
@@ -117,6 +121,9 @@ unpacked-length s d e = ap (λ (k : ℕ). k % 8) e ∙ go (stepOf s) refl
     go (Scalar x n) e = omega (arith, step-bounds s x n e .short)
     go (IllFormed n) e = refl
     go End e = refl
+
+pub packed-length : (s : List ℕ) (x n : ℕ) → n < 8 → x * 8 + n ≡ packed (stepOf s) → n ≡ lengthOf (stepOf s)
+packed-length s x n h e = let z : n ≡ (x * 8 + n) % 8 = omega arith in z ∙ unpacked-length s (x * 8 + n) e
 
 pub unpacked : (s : List ℕ) (d : ℕ) → d ≡ packed (stepOf s) → 0 < length s → Unpacked s d
 unpacked s d e h = subst (λ (k : ℕ). Unpacked s k) (sym e) (unpacked-by s (stepOf s) refl h)

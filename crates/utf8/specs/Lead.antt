@@ -2,7 +2,7 @@
 use Prim.Native.Nat.{ℕ, zero, suc, _+_, _*_}
 use mathlib.Core.Bool.{Bool, false, _&&_, cond}
 use mathlib.Core.List.{List, [], _∷_}
-use lib.Dec.{ltb}
+use lib.Dec.{leb, ltb}
 use lib.ListN.{length, take, drop, getD, replicate}
 use Rattle.utf8.specs.declared.Lead.{Lead}
 use Rattle.utf8.specs.declared.Step.{Step}
@@ -58,6 +58,10 @@ abbrev pub lengthOf : Step → ℕ
 lengthOf (Scalar x n) = n
 lengthOf (IllFormed n) = 0
 lengthOf End = 0
+
+-- a byte that only follows others in a sequence, 80 to BF
+abbrev pub isTrail : ℕ → Bool
+isTrail b = leb 0x80 b && ltb b 0xC0
 
 -- the length that the first byte of a well-formed sequence tells
 unfoldable pub knownLength : ℕ → ℕ

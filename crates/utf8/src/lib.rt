@@ -1,13 +1,13 @@
 // UTF-8 of the Unicode Standard, Table 3-7: the sequence at the head of a text, and the first ill-formed place.
 ghost use mathlib.Core.Path.{_≡_};
 ghost use mathlib.Core.Bool.{not};
-ghost use Prim.Native.Nat.{_+_, _*_, _≤_};
+ghost use Prim.Native.Nat.{_+_, _*_, _≤_, _<_};
 ghost use lib.ListN.{length, drop};
 ghost use Rattle.utf8.specs.Scalar.{isScalar};
 ghost use Rattle.utf8.specs.Table.{_to_, codePoint};
 ghost use Rattle.utf8.specs.Subpart.{subpartOf};
 ghost use Rattle.utf8.specs.Head.{stepOf, IllHead};
-ghost use Rattle.utf8.specs.Lead.{leadOf, byteFits, packed, knownLength};
+ghost use Rattle.utf8.specs.Lead.{leadOf, byteFits, packed, lengthOf, knownLength};
 ghost use Rattle.utf8.specs.Text.{textOf};
 ghost use mathlib.Core.List.{[], _∷_};
 
@@ -182,6 +182,55 @@ pub fn decode_packed(s: &[u8], at: usize) -> usize
     ensures { λ r. ⌜ r ≡ packed (stepOf (drop at (now (s .entry)))) ⌝ }
 {
     pack(&s[at..])
+}
+
+// The length of the sequence at the head of `s`, which isn't empty; 0 where none begins. Sequences of one and two bytes are told first.
+fn measure_head(s: &[u8]) -> usize
+    requires { ⌜ 0 < length (now s) ⌝ }
+    ensures { λ r. ⌜ r ≡ lengthOf (stepOf (now (s .entry))) ⌝ }
+{
+    let b = s[0];
+    if b < 0x80 {
+        return 1;
+    }
+    if b < 0xC2 {
+        return 0;
+    }
+    if b < 0xE0 {
+        if misses(s, 1, 0x80, 0xBF) {
+            return 0;
+        }
+        return 2;
+    }
+    let lead = read_lead(b);
+    let len = lead.len;
+    if len <= 1 {
+        return len as usize;
+    }
+    if misses(s, 1, lead.low, lead.high) {
+        return 0;
+    }
+    if len == 2 {
+        return 2;
+    }
+    if misses(s, 2, 0x80, 0xBF) {
+        return 0;
+    }
+    if len == 3 {
+        return 3;
+    }
+    if misses(s, 3, 0x80, 0xBF) {
+        return 0;
+    }
+    4
+}
+
+// The length of the sequence at a place of `s` before its end; 0 where none begins.
+pub fn measure(s: &[u8], at: usize) -> usize
+    requires { ⌜ at < length (now s) ⌝ }
+    ensures { λ r. ⌜ r ≡ lengthOf (stepOf (drop at (now (s .entry)))) ⌝ }
+{
+    measure_head(&s[at..])
 }
 
 // The length of a well-formed sequence, by its first byte alone.

@@ -4,8 +4,8 @@ use mathlib.Core.Path.{sym, _∙_}
 use native.Mathlib.Omega.{arith}
 use borrow.Author.Needs.{needs}
 use lib.ListN.{length}
+use borrow.Author.Tests.{not-true, not-false}
 use Rattle.character.specs.Read.{MemoOf}
-use Rattle.hashtag.proofs.SignLaws.{not-true, not-false}
 use Rattle.hashtag.proofs.SeekLaws.{Here, read-continues, Running, running-begins, run-ill, run-end, run-stops, run-goes}
 use Rattle.hashtag.proofs.find_end.Statement.{statement}
 use Rattle.hashtag.proofs.find_end.Tie as tie

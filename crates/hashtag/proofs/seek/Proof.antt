@@ -1,21 +1,22 @@
 -- `hashtag::seek` meets its contract. The loop's invariant: no hashtag begins in what was passed over. Assumes nothing.
 use Prim.Native.Nat.{_+_, _-_}
+use mathlib.Core.Bool.{false}
 use mathlib.Core.Path.{sym, _∙_}
 use mathlib.Core.Logic.{inl, inr}
 use native.Mathlib.Omega.{arith}
 use lib.ListN.{length}
-use Rattle.hashtag.proofs.SeekLaws.{Seeking, seeking-begins, seeking-known, seeking-plain, seeking-over, sought-ill, sought-end, sought-some, measured-none, Stands, stands}
+use Rattle.hashtag.proofs.SeekLaws.{Seeking, seeking-begins, seeking-plain, seeking-over, sought-ill, sought-end, sought-some, measured-none, Stands, stands}
 use Rattle.hashtag.proofs.seek.Statement.{statement}
 use Rattle.hashtag.proofs.seek.Tie as tie
 
 abbrev Inv-loop : tie.InvT-loop
-Inv-loop image table text from known before₀ at₀ before at = Seeking image text from before at
+Inv-loop image table stops text from before₀ at₀ before at = Seeking image text from before at
 
 abbrev μ-loop : tie.MeasureT-loop
-μ-loop image table text from known before₀ at₀ before at = length text - at
+μ-loop image table stops text from before₀ at₀ before at = length text - at
 
 loop-holds : tie.Need-loop-holds Inv-loop μ-loop
-loop-holds c = seeking-begins _ _ _ (c .before .before .pre .1 .1 .0)
+loop-holds c = seeking-begins _ _ _ (c .before .before .pre .1 .1 .1)
 
 skip-requires : tie.Need-skip-requires Inv-loop μ-loop
 skip-requires c κs = c .before .loop .inv .within
@@ -24,15 +25,13 @@ sub-before : tie.Need-sub-before Inv-loop μ-loop
 sub-before c = omega (arith, c .if1 .taken)
 
 loop-less : tie.Need-loop-less Inv-loop μ-loop
-loop-less c = omega (arith, c .if1 .taken, c .before .skip .ensures .within)
+loop-less c = omega (arith, c .if1 .taken, c .before .skip .ensures false (c .before .before .before .before .before .before .pre .1 .1 .0) .within)
 
 loop-again : tie.Need-loop-again Inv-loop μ-loop
-loop-again c = seeking-plain _ _ (c .before .before .before .loop .inv) (c .before .skip .ensures) (c .if1 .taken)
+loop-again c = seeking-plain _ _ (c .before .before .before .loop .inv) (c .before .skip .ensures false (c .before .before .before .before .before .before .pre .1 .1 .0)) (c .if1 .taken)
 
 measure-requires : tie.Need-measure-requires Inv-loop μ-loop
-measure-requires c κs =
-    let i = c .before .before .before .loop .inv in
-    (c .before .before .loop-test .taken, λ k. seeking-known _ _ i (c .before .before .before .before .before .before .pre .1 .1 .1 k))
+measure-requires c κs = c .before .before .loop-test .taken
 
 returns : tie.Need-returns Inv-loop μ-loop
 returns c =

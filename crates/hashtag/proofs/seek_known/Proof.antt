@@ -1,0 +1,118 @@
+-- `hashtag::seek_known` meets its contract. The loop's invariant: no hashtag begins in what was passed over, and the place is where a
+-- character begins. Assumes nothing.
+use Prim.Native.Nat.{_+_, _-_}
+use mathlib.Core.Bool.{true}
+use mathlib.Core.Path.{sym, _∙_}
+use native.Mathlib.Omega.{arith}
+use lib.ListN.{length}
+use Rattle.hashtag.proofs.SeekLaws.{Stands}
+use Rattle.hashtag.proofs.KnownLaws.{Walked, walked-begins, walked-bytes, stands-here, known-end, known-some, known-over, known-passes}
+use Rattle.hashtag.proofs.seek_known.Statement.{statement}
+use Rattle.hashtag.proofs.seek_known.Tie as tie
+
+abbrev Inv-loop : tie.InvT-loop
+Inv-loop image table stops text from at₀ at = Walked image text from at
+
+abbrev μ-loop : tie.MeasureT-loop
+μ-loop image table stops text from at₀ at = length text - at
+
+loop-holds : tie.Need-loop-holds Inv-loop μ-loop
+loop-holds c = walked-begins _ _ _ (c .before .before .pre .1 .1 .1 .0)
+
+skip-requires : tie.Need-skip-requires Inv-loop μ-loop
+skip-requires c κs = c .before .loop .inv .seeking .within
+
+-- what was passed over
+walked :
+    (c : tie.After-skip Inv-loop μ-loop)
+    → let a = c .before .before .before .before .before .args in
+    Walked (a .image .now) (a .text .now) (a .from) (c .skip .result)
+walked c =
+    let p = c .before .before .before .before .before .pre in
+    walked-bytes _ _ _ (p .1 .1 .1 .1) (c .before .before .loop .inv) (c .skip .ensures true (p .1 .1 .0))
+
+returns : tie.Need-returns Inv-loop μ-loop
+returns c = known-end _ _ (walked (c .before)) (c .if1 .taken)
+
+read-byte : tie.Need-shared-slice-read-measure-known Inv-loop μ-loop
+read-byte c = c .before .if1 .left
+
+-- a character stands where the search stops
+standing :
+    (c : tie.After-measure-known Inv-loop μ-loop)
+    → let a = c .before .before .before .before .before .before .before .before .args in
+    Stands (a .image .now) (a .text .now) (c .before .before .before .skip .result) (c .measure-known .result)
+standing c =
+    let b = c .before .before .before in
+    stands-here _ _ _ (b .before .before .before .before .before .pre .1 .1 .1 .1) _ (walked b) (c .before .before .if1 .left) (c .measure-known .ensures)
+
+add-next : tie.Need-add-next Inv-loop μ-loop
+add-next c = omega (arith, standing c .here .within, c .before .before .before .before .before .before .before)
+
+is-sign-at-requires : tie.Need-is-sign-at-requires Inv-loop μ-loop
+is-sign-at-requires c κs = c .before .before .if1 .left
+
+step-back-requires : tie.Need-step-back-requires Inv-loop μ-loop
+step-back-requires c κs =
+    let i = walked (c .before .before .before .before .before) .seeking in
+    (i .above, i .within)
+
+begins-requires : tie.Need-begins-requires Inv-loop μ-loop
+begins-requires c κs =
+    let p = c .before .before .before .before .before .before .before .before .before .before .before .pre in
+    (p .0, p .1 .0)
+
+returns-2 : tie.Need-returns-2 Inv-loop μ-loop
+returns-2 c =
+    let d = c .before .before .before .before .before in
+    let s = standing d in
+    known-some _ _ (walked (d .before .before .before)) s (c .before .before .step-back .ensures)
+    (sym (s .sign) ∙ sym (c .before .before .before .before .is-sign-at .ensures) ∙ c .before .before .before .if2 .taken) (sym (c .before .begins .ensures) ∙ c .if3 .taken)
+
+loop-less : tie.Need-loop-less Inv-loop μ-loop
+loop-less c =
+    let d = c .before .before .before .before .before in
+    let h = standing d .here in
+    omega (arith, h .some-bytes, h .within, d .before .before .before .skip .ensures true (d .before .before .before .before .before .before .before .before .pre .1 .1 .0) .above)
+
+loop-again : tie.Need-loop-again Inv-loop μ-loop
+loop-again c =
+    let d = c .before .before .before .before .before in
+    known-over _ _ (walked (d .before .before .before)) (standing d) (c .before .before .step-back .ensures) (sym (c .before .begins .ensures) ∙ c .if3 .left)
+
+loop-less-2 : tie.Need-loop-less-2 Inv-loop μ-loop
+loop-less-2 c =
+    let d = c .before .before in
+    let h = standing d .here in
+    omega (arith, h .some-bytes, h .within, d .before .before .before .skip .ensures true (d .before .before .before .before .before .before .before .before .pre .1 .1 .0) .above)
+
+loop-again-2 : tie.Need-loop-again-2 Inv-loop μ-loop
+loop-again-2 c =
+    let d = c .before .before in
+    let s = standing d in
+    known-passes _ _ (walked (d .before .before .before)) s (sym (s .sign) ∙ sym (c .before .is-sign-at .ensures) ∙ c .if2 .left)
+
+returns-3 : tie.Need-returns-3 Inv-loop μ-loop
+returns-3 c = known-end _ _ (c .before .loop .inv) (c .loop-test .left)
+
+pub seek-known-spec : {M : Type 1} → statement M
+seek-known-spec =
+    tie.close
+    (tie.spec
+    Inv-loop
+    μ-loop
+    loop-holds
+    skip-requires
+    returns
+    read-byte
+    (λ c κs. tt)
+    add-next
+    is-sign-at-requires
+    step-back-requires
+    begins-requires
+    returns-2
+    loop-less
+    loop-again
+    loop-less-2
+    loop-again-2
+    returns-3)
