@@ -5,3 +5,4 @@ pub mod AllLaws
 pub mod SeekLaws
 pub mod ListLaws
 pub mod AnswerLaws
+pub mod MeansLaws
