@@ -9,12 +9,20 @@ use Rattle.utf8.specs.Text.{decodeIn, decode, textOf}
 use Rattle.image.specs.Word.{wordAt}
 use Rattle.image.specs.Header.{lengthRight, headerRight}
 use Rattle.image.specs.Ranges.{rangeAt, goodAlone, follows, goodRange, firstBadRange, classIn}
-use Rattle.image.specs.Profile.{pointAt, roleAt, goodEntryAlone, goodEntry, firstBadEntry, roleBy, afterRole, isMedial}
-use Rattle.image.specs.Check.{recordsRefusal, refusalOf, rangeClass, entryRole, classOf, medialOf}
+use Rattle.image.specs.Profile.{pointAt, roleAt, goodEntryAlone, goodEntry, firstBadEntry, roleBy, afterRole, isMedial, isHashtag}
+use Rattle.image.specs.Check.{recordsRefusal, refusalOf, rangeClass, entryRole, classOf, medialOf, hashtagOf}
 use Rattle.grammar.specs.Scan.{walk}
 use Rattle.grammar.specs.Reading.{meaningOf, readingOf, lengthRefusal, outcomeOf}
-use Rattle.demands.specs.Cases.{Case, M, M2, cases, numbersOf}
+use Rattle.hashtag.specs.Sign.{isSign, isHashtagContinue}
+use Rattle.hashtag.specs.Find.{runOf, hashtagsFrom, hashtagsOf}
+use Rattle.hashtag.specs.Listed.{hashtagsThrough, hashtagsFound}
+use Rattle.demands.specs.Cases.{Case, M, M2, P, N, cases, hashtagCases, numbersOf, hashtagNumbersOf}
 
 pub cases-hold : map (λ (c : Case). numbersOf (outcomeOf (c .image) (c .text))) cases ≡ map (λ (c : Case). c .answer) cases
-unfolding firstFrom firstWhere isScalar subpartOf stepOf decodeIn decode textOf wordAt lengthRight headerRight rangeAt goodAlone follows goodRange firstBadRange classIn pointAt roleAt goodEntryAlone goodEntry firstBadEntry roleBy afterRole isMedial recordsRefusal refusalOf rangeClass entryRole classOf medialOf walk meaningOf readingOf lengthRefusal outcomeOf M M2 cases
+unfolding firstFrom firstWhere isScalar subpartOf stepOf decodeIn decode textOf wordAt lengthRight headerRight rangeAt goodAlone follows goodRange firstBadRange classIn pointAt roleAt goodEntryAlone goodEntry firstBadEntry roleBy afterRole isMedial recordsRefusal refusalOf rangeClass entryRole classOf medialOf walk meaningOf readingOf lengthRefusal outcomeOf M M2 P cases
 cases-hold = refl
+
+pub hashtag-cases-hold :
+    map (λ (c : Case). hashtagNumbersOf (hashtagsFound (c .image) (c .text))) hashtagCases ≡ map (λ (c : Case). c .answer) hashtagCases
+unfolding firstFrom firstWhere isScalar subpartOf stepOf decodeIn decode textOf wordAt lengthRight headerRight rangeAt goodAlone follows goodRange firstBadRange classIn pointAt roleAt goodEntryAlone goodEntry firstBadEntry roleBy afterRole isHashtag recordsRefusal refusalOf rangeClass entryRole classOf hashtagOf lengthRefusal isSign isHashtagContinue runOf hashtagsFrom hashtagsOf hashtagsThrough hashtagsFound P N hashtagCases
+hashtag-cases-hold = refl

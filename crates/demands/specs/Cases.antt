@@ -1,4 +1,4 @@
--- The small images M and M2 and the marked cases of docs/RULES.md, "Small image M and its readings".
+-- The small images M, M2 and P, and the marked cases of docs/RULES.md, "Small image M and its readings".
 use Prim.Native.Nat.{ℕ}
 use mathlib.Core.List.{List, [], _∷_}
 use Rattle.refusal.specs.Refusal.{numberOf, carriedBy}
@@ -7,6 +7,8 @@ use Rattle.grammar.specs.Scan.{Tok}
 use Rattle.grammar.specs.Grammar.{Kind}
 use Rattle.refusal.specs.Outcome.{Outcome, given, refused}
 use Rattle.grammar.specs.Record.{listedWords}
+use Rattle.hashtag.specs.Find.{Span}
+use Rattle.hashtag.specs.Listed.{spansWords}
 
 -- an answer in docs/RULES.md's numbers: the words of the list, or a refusal's number and what it carries
 pub data Numbers : Type 0 where
@@ -16,6 +18,10 @@ pub data Numbers : Type 0 where
 abbrev pub numbersOf : Outcome (List (Tok Character Kind)) → Numbers
 numbersOf (given ts) = words (listedWords ts)
 numbersOf (refused r) = refusal (numberOf r) (carriedBy r)
+
+abbrev pub hashtagNumbersOf : Outcome (List Span) → Numbers
+hashtagNumbersOf (given ts) = words (spansWords ts)
+hashtagNumbersOf (refused r) = refusal (numberOf r) (carriedBy r)
 
 -- version 1,048,576; ranges 20-20 White, 2E-2E Syntax, 30-39 Nonstart, 41-5A Start, 61-7A Start; profile 2E role 3: 100 bytes
 unfoldable pub M : List ℕ
@@ -44,6 +50,28 @@ M2 =
     ∷ 0x2E ∷ 0x00 ∷ 0x00 ∷ 0x00 ∷ 0x03 ∷ 0x00 ∷ 0x00 ∷ 0x00
     ∷ []
 
+-- M with two profile entries, x role q and y role r: 108 bytes
+abbrev withEntries : ℕ → ℕ → ℕ → ℕ → List ℕ
+withEntries x q y r =
+    0x01 ∷ 0x00 ∷ 0x00 ∷ 0x00 ∷ 0x00 ∷ 0x00 ∷ 0x10 ∷ 0x00 ∷ 0x6C ∷ 0x00 ∷ 0x00 ∷ 0x00 ∷ 0x05 ∷ 0x00 ∷ 0x00 ∷ 0x00
+    ∷ 0x20 ∷ 0x00 ∷ 0x00 ∷ 0x00 ∷ 0x02 ∷ 0x00 ∷ 0x00 ∷ 0x00 ∷ 0x5C ∷ 0x00 ∷ 0x00 ∷ 0x00 ∷ 0x00 ∷ 0x00 ∷ 0x00 ∷ 0x00
+    ∷ 0x20 ∷ 0x00 ∷ 0x00 ∷ 0x00 ∷ 0x20 ∷ 0x00 ∷ 0x00 ∷ 0x00 ∷ 0x04 ∷ 0x00 ∷ 0x00 ∷ 0x00
+    ∷ 0x2E ∷ 0x00 ∷ 0x00 ∷ 0x00 ∷ 0x2E ∷ 0x00 ∷ 0x00 ∷ 0x00 ∷ 0x03 ∷ 0x00 ∷ 0x00 ∷ 0x00
+    ∷ 0x30 ∷ 0x00 ∷ 0x00 ∷ 0x00 ∷ 0x39 ∷ 0x00 ∷ 0x00 ∷ 0x00 ∷ 0x02 ∷ 0x00 ∷ 0x00 ∷ 0x00
+    ∷ 0x41 ∷ 0x00 ∷ 0x00 ∷ 0x00 ∷ 0x5A ∷ 0x00 ∷ 0x00 ∷ 0x00 ∷ 0x01 ∷ 0x00 ∷ 0x00 ∷ 0x00
+    ∷ 0x61 ∷ 0x00 ∷ 0x00 ∷ 0x00 ∷ 0x7A ∷ 0x00 ∷ 0x00 ∷ 0x00 ∷ 0x01 ∷ 0x00 ∷ 0x00 ∷ 0x00
+    ∷ x ∷ 0x00 ∷ 0x00 ∷ 0x00 ∷ q ∷ 0x00 ∷ 0x00 ∷ 0x00
+    ∷ y ∷ 0x00 ∷ 0x00 ∷ 0x00 ∷ r ∷ 0x00 ∷ 0x00 ∷ 0x00
+    ∷ []
+
+-- M with 5F role 5 added
+unfoldable pub P : List ℕ
+P = withEntries 0x2E 3 0x5F 5
+
+-- M with 23 role 2 added
+unfoldable pub N : List ℕ
+N = withEntries 0x23 2 0x2E 3
+
 pub record Case : Type 0 where
   pub image : List ℕ
   pub text : List ℕ
@@ -67,4 +95,22 @@ cases =
     ∷ on M (0xF4 ∷ 0x90 ∷ 0x80 ∷ 0x80 ∷ []) (refusal 6 (0 ∷ 1 ∷ []))
     ∷ on M (0x61 ∷ 0xC3 ∷ 0xA9 ∷ []) (refusal 7 (1 ∷ []))
     ∷ on M2 (0x61 ∷ 0xC3 ∷ 0xA9 ∷ []) (words (1 ∷ 0 ∷ 3 ∷ []))
+    ∷ on P (0x5F ∷ []) (refusal 7 (0 ∷ []))
+    ∷ []
+
+-- of hashtags
+unfoldable pub hashtagCases : List Case
+hashtagCases =
+    on P [] (words [])
+    ∷ on P (0x23 ∷ []) (words [])
+    ∷ on P (0x61 ∷ 0x23 ∷ 0x62 ∷ []) (words [])
+    ∷ on P (0x23 ∷ 0x23 ∷ 0x61 ∷ []) (words (6 ∷ 1 ∷ 3 ∷ []))
+    ∷ on P (0x23 ∷ 0x31 ∷ 0x2E ∷ 0x78 ∷ []) (words (6 ∷ 0 ∷ 2 ∷ []))
+    ∷ on P (0x23 ∷ 0x5F ∷ 0x20 ∷ 0x5F ∷ 0x23 ∷ 0x61 ∷ []) (words (6 ∷ 0 ∷ 2 ∷ []))
+    ∷ on P (0x23 ∷ 0x61 ∷ 0x23 ∷ 0x62 ∷ []) (words (6 ∷ 0 ∷ 2 ∷ []))
+    ∷ on P (0x61 ∷ 0x2E ∷ 0x23 ∷ 0x62 ∷ 0x20 ∷ 0x23 ∷ []) (words (6 ∷ 2 ∷ 4 ∷ []))
+    ∷ on P (0x25 ∷ 0x23 ∷ 0x61 ∷ 0x25 ∷ []) (words (6 ∷ 1 ∷ 3 ∷ []))
+    ∷ on P (0xEF ∷ 0xBC ∷ 0x83 ∷ 0x61 ∷ 0x20 ∷ 0xEF ∷ 0xB9 ∷ 0x9F ∷ 0x31 ∷ []) (words (6 ∷ 0 ∷ 4 ∷ 6 ∷ 5 ∷ 9 ∷ []))
+    ∷ on N (0x23 ∷ 0x23 ∷ 0x61 ∷ []) (words (6 ∷ 1 ∷ 3 ∷ []))
+    ∷ on P (0x23 ∷ 0x61 ∷ 0xE2 ∷ 0x82 ∷ []) (refusal 6 (2 ∷ 2 ∷ []))
     ∷ []

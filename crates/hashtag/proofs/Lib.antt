@@ -6,3 +6,4 @@ pub mod SeekLaws
 pub mod KnownLaws
 pub mod ListLaws
 pub mod AnswerLaws
+pub mod MeansLaws

@@ -1,4 +1,4 @@
--- The replies of the calls on tokens (docs/RULES.md, "Tokens").
+-- The replies of the calls on tokens and hashtags (docs/RULES.md, "Tokens" and "Hashtags").
 use Prim.Native.Nat.{ℕ}
 use mathlib.Core.List.{List, [], _∷_}
 use lib.ListN.{length, getD, take, drop}
@@ -7,6 +7,8 @@ use Rattle.scan.specs.declared.Counted.{Counted}
 use Rattle.scan.specs.declared.Counted.the-variants as counted
 use Rattle.token.specs.declared.Taken.{Taken}
 use Rattle.token.specs.declared.Taken.the-variants as taken
+use Rattle.hashtag.specs.declared.Listed.{Listed}
+use Rattle.hashtag.specs.declared.Listed.the-variants as listed
 use Rattle.luffinarc.specs.Reply.{Reply, gives, refuses}
 
 -- counting and writing the list: the number of tokens
@@ -23,6 +25,11 @@ abbrev pub takenReply : Taken → Reply
 takenReply (taken.Refused r) = refuses r
 takenReply taken.Done = record { number = done; values = 0 ∷ 0 ∷ 0 ∷ 0 ∷ [] }
 takenReply (taken.Token kind start end) = gives (kind ∷ start ∷ end ∷ [])
+
+-- writing the list of hashtags: their number
+abbrev pub listedReply : Listed → Reply
+listedReply (listed.Refused r) = refuses r
+listedReply (listed.Hashtags n) = gives (n ∷ [])
 
 -- handing back a part: its first byte and its number of bytes
 abbrev pub partReply : Outcome (List ℕ) → ℕ → Reply

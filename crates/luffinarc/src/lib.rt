@@ -15,11 +15,13 @@ ghost use Rattle.changes.specs.Answer.{answerOf, runsAfter, entriesAfter};
 ghost use Rattle.grammar.specs.Reading.{countOf, listOf, listWords};
 ghost use Rattle.scan.specs.Counted.{countedBy};
 ghost use Rattle.token.specs.Taken.{takenOf};
+ghost use Rattle.hashtag.specs.Listed.{hashtagListOf, hashtagListWords, listedBy};
 ghost use Rattle.part.specs.Part.{partOf, partBytes};
 ghost use Rattle.luffinarc.specs.Reply.{Tells, refusesOf};
 ghost use Rattle.luffinarc.specs.ImageReply.{TellsChecked, foundReply, writtenReply, pairReply, changesReply};
-ghost use Rattle.luffinarc.specs.TokenReply.{countedReply, takenReply, partReply, toldPart};
+ghost use Rattle.luffinarc.specs.TokenReply.{countedReply, takenReply, listedReply, partReply, toldPart};
 use changes::Changes;
+use hashtag::Listed;
 use image::Answer;
 use image::Checked;
 use image::MAX_ENTRIES;
@@ -354,6 +356,50 @@ pub extern "C" fn luffinarc_token_checked<'a>(
 {
     let taken = token::take_checked(image, text, place);
     tell_taken(taken, answer)
+}
+
+// Tells what writing the list of hashtags gave.
+fn tell_listed(listed: Listed, answer: &mut [u64; 4]) -> u32
+    ensures { λ n. ⌜ Tells (listedReply listed) n (now (answer .exit)) ⌝ }
+{
+    match listed {
+        Listed::Refused(r) => refuse(r, 0, answer),
+        Listed::Hashtags(count) => {
+            put(answer, count as u64, 0, 0, 0);
+            0
+        }
+    }
+}
+
+// Writes the list of a text's hashtags. Answer: their number.
+#[no_mangle]
+pub extern "C" fn luffinarc_hashtags<'a>(
+    image: &'a [u8],
+    text: &'a [u8],
+    words: &mut [u32],
+    answer: &mut [u64; 4],
+) -> u32
+    ensures { λ n. ⌜ Tells (listedReply (listedBy (hashtagListOf (now (image .entry)) (now (text .entry)) (length (now (words .entry)))))) n (now (answer .exit)) ⌝ }
+    ensures { λ _. ⌜ now (words .exit) ≡ hashtagListWords (now (image .entry)) (now (text .entry)) (now (words .entry)) ⌝ }
+{
+    let listed = hashtag::list(image, text, words);
+    tell_listed(listed, answer)
+}
+
+// As `luffinarc_hashtags`, under an image that was checked.
+#[no_mangle]
+pub extern "C" fn luffinarc_hashtags_checked<'a>(
+    image: &'a [u8],
+    text: &'a [u8],
+    words: &mut [u32],
+    answer: &mut [u64; 4],
+) -> u32
+    requires { ⌜ refusalOf (now image) ≡ none ⌝ }
+    ensures { λ k. ⌜ Tells (listedReply (listedBy (hashtagListOf (now (image .entry)) (now (text .entry)) (length (now (words .entry)))))) k (now (answer .exit)) ⌝ }
+    ensures { λ _. ⌜ now (words .exit) ≡ hashtagListWords (now (image .entry)) (now (text .entry)) (now (words .entry)) ⌝ }
+{
+    let listed = hashtag::list_checked(image, text, words);
+    tell_listed(listed, answer)
 }
 
 // Hands back the part of a text from `start` to `end`. Answer: its first byte and its number of bytes.
