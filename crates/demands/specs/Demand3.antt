@@ -1,4 +1,5 @@
 -- Demand 3 in the words of docs/RULES.md, "The words of demand 3". Images and texts are lists of bytes.
+-- It speaks of counting and listing tokens; hashtags are not covered (docs/RULES.md, "Hashtags").
 use Prim.Native.Nat.{ℕ, _+_, _*_}
 use mathlib.Core.Path.{_≡_}
 use mathlib.Core.Bool.{true}
