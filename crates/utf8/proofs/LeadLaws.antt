@@ -8,15 +8,15 @@ use native.Mathlib.Omega.{arith}
 use native.Mathlib.Decide.{decLt}
 use lib.Dec.{leb, eqb}
 use lib.ListN.{length, take, drop, getD}
-use borrow.Author.Tests.{leb-true, eqb-true}
+use borrow.Author.Tests.{leb-true, eqb-true, ne-eqb, lt-ltb, le-ltb}
 use Rattle.lists.proofs.BoolLaws.{and-left, and-right, impossible}
 use Rattle.utf8.specs.declared.Lead.{Lead}
 use Rattle.utf8.specs.declared.Step.the-variants.{Scalar, IllFormed, End}
 use Rattle.utf8.specs.Table.{Bytes, _to_, Row, table, inside, fits, codePoint}
 use Rattle.utf8.specs.Subpart.{begun, subpartIn, subpartOf}
 use Rattle.utf8.specs.Head.{stepIn, stepOf, IllHead}
-use Rattle.utf8.specs.Lead.{leadOfRow, leads, leadIn, leadOf, trailOf, stepAs, stepBy, byteFits, packed}
-use Rattle.utf8.proofs.TableLaws.{inside-out, inside-below, byte-there, fits-in, fits-out, begun-in, begun-out, bytesAt, bytes-at}
+use Rattle.utf8.specs.Lead.{leadOfRow, leads, leadIn, leadOf, trailOf, stepAs, stepBy, byteFits, packed, knownLength, lowSecond, highSecond}
+use Rattle.utf8.proofs.TableLaws.{inside-out, inside-above, inside-below, byte-there, fits-in, fits-out, begun-in, begun-out, bytesAt, bytes-at}
 use Rattle.utf8.proofs.SubpartLaws.{larger-left, larger-right}
 
 -- n numbers from i on have the lead l, by a computed test
@@ -45,6 +45,67 @@ lead-there l i (suc n) b t h k = go (decLt i b) (lead-there l (suc i) n b (and-r
     go (no m) f =
         let e : b ≡ i = omega arith in
         ap leadOf e ∙ same-lead (leadIn table i) l (and-left (sameLead (leadIn table i) l) (allLead l (suc i) n) t)
+
+-- the lead of a byte of E0 to F4, by tests on it
+abbrev pub highLead : ℕ → Lead
+highLead b = record { len = knownLength b; low = lowSecond b; high = highSecond b }
+
+module _ (b : ℕ) where
+  lead-one : (x : ℕ) → b ≡ x → leadOf x ≡ highLead x → leadOf b ≡ highLead b
+  lead-one x e f = ap leadOf e ∙ f ∙ ap highLead (sym e)
+
+  lead-plain : (n : ℕ) → n ≡ knownLength b → (b ≡ 0xE0 → ⊥) → (b ≡ 0xED → ⊥) → (b ≡ 0xF0 → ⊥) → (b ≡ 0xF4 → ⊥) → record { len = n; low = 0x80; high = 0xBF } ≡ highLead b
+  lead-plain n e p q r s = rw (ne-eqb b 0xE0 p, ne-eqb b 0xED q, ne-eqb b 0xF0 r, ne-eqb b 0xF4 s) (λ i. record { len = e i; low = 0x80; high = 0xBF })
+
+  lead-three : 0xE0 ≤ b → b < 0xF0 → leadOf b ≡ highLead b
+  unfolding leadOf knownLength
+  lead-three h l = go (decLt b 0xE1) (decLt b 0xED) (decLt b 0xEE)
+    where
+      n : 3 ≡ knownLength b
+      n = rw (le-ltb b 0x80 (omega arith), le-ltb b 0xE0 h, lt-ltb b 0xF0 l)
+
+      go : Dec (b < 0xE1) → Dec (b < 0xED) → Dec (b < 0xEE) → leadOf b ≡ highLead b
+      go (yes x) y z = lead-one 0xE0 (omega arith) refl
+      go (no x) (yes y) z =
+          lead-there _ 0xE1 12 b refl (omega arith) (omega arith)
+          ∙ lead-plain 3 n (λ e. absurd (omega arith)) (λ e. absurd (omega arith)) (λ e. absurd (omega arith)) (λ e. absurd (omega arith))
+      go (no x) (no y) (yes z) = lead-one 0xED (omega arith) refl
+      go (no x) (no y) (no z) =
+          lead-there _ 0xEE 2 b refl (omega arith) (omega arith)
+          ∙ lead-plain 3 n (λ e. absurd (omega arith)) (λ e. absurd (omega arith)) (λ e. absurd (omega arith)) (λ e. absurd (omega arith))
+
+  lead-four : 0xF0 ≤ b → b ≤ 0xF4 → leadOf b ≡ highLead b
+  unfolding leadOf knownLength
+  lead-four h l = go (decLt b 0xF1) (decLt b 0xF4)
+    where
+      n : 4 ≡ knownLength b
+      n = rw (le-ltb b 0x80 (omega arith), le-ltb b 0xE0 (omega arith), le-ltb b 0xF0 h)
+
+      go : Dec (b < 0xF1) → Dec (b < 0xF4) → leadOf b ≡ highLead b
+      go (yes x) y = lead-one 0xF0 (omega arith) refl
+      go (no x) (yes y) =
+          lead-there _ 0xF1 3 b refl (omega arith) (omega arith)
+          ∙ lead-plain 4 n (λ e. absurd (omega arith)) (λ e. absurd (omega arith)) (λ e. absurd (omega arith)) (λ e. absurd (omega arith))
+      go (no x) (no y) = lead-one 0xF4 (omega arith) refl
+
+  -- no row has a byte above F4
+  pub lead-above : 0xF4 < b → leadOfRow [] ≡ leadOf b
+  unfolding leadOf
+  lead-above h =
+      rw (
+        inside-above (0x00 to 0x7F) b (omega arith) (omega arith),
+        inside-above (0xC2 to 0xDF) b (omega arith) (omega arith),
+        inside-above (0xE0 to 0xE0) b (omega arith) (omega arith),
+        inside-above (0xE1 to 0xEC) b (omega arith) (omega arith),
+        inside-above (0xED to 0xED) b (omega arith) (omega arith),
+        inside-above (0xEE to 0xEF) b (omega arith) (omega arith),
+        inside-above (0xF0 to 0xF0) b (omega arith) (omega arith),
+        inside-above (0xF1 to 0xF3) b (omega arith) (omega arith),
+        inside-above (0xF4 to 0xF4) b (omega arith) (omega arith),
+      )
+
+  pub lead-high : 0xE0 ≤ b → b ≤ 0xF4 → highLead b ≡ leadOf b
+  lead-high h l = sym (elim (decLt b 0xF0) [ yes k ↦ lead-three h k | no k ↦ lead-four (omega arith) l ])
 
 -- the rows' first bytes rise from m on
 abbrev pub rising : ℕ → List Row → Bool

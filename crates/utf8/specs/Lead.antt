@@ -2,7 +2,7 @@
 use Prim.Native.Nat.{ℕ, zero, suc, _+_, _*_}
 use mathlib.Core.Bool.{Bool, false, _&&_, cond}
 use mathlib.Core.List.{List, [], _∷_}
-use lib.Dec.{leb, ltb}
+use lib.Dec.{leb, ltb, eqb}
 use lib.ListN.{length, take, drop, getD, replicate}
 use Rattle.utf8.specs.declared.Lead.{Lead}
 use Rattle.utf8.specs.declared.Step.{Step}
@@ -58,6 +58,13 @@ abbrev pub lengthOf : Step → ℕ
 lengthOf (Scalar x n) = n
 lengthOf (IllFormed n) = 0
 lengthOf End = 0
+
+-- the bounds of the second byte after a first byte of E0 to F4
+abbrev pub lowSecond : ℕ → ℕ
+lowSecond b = cond (eqb b 0xE0) 0xA0 (cond (eqb b 0xF0) 0x90 0x80)
+
+abbrev pub highSecond : ℕ → ℕ
+highSecond b = cond (eqb b 0xED) 0x9F (cond (eqb b 0xF4) 0x8F 0xBF)
 
 -- a byte that only follows others in a sequence, 80 to BF
 abbrev pub isTrail : ℕ → Bool

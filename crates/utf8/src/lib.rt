@@ -7,7 +7,7 @@ ghost use Rattle.utf8.specs.Scalar.{isScalar};
 ghost use Rattle.utf8.specs.Table.{_to_, codePoint};
 ghost use Rattle.utf8.specs.Subpart.{subpartOf};
 ghost use Rattle.utf8.specs.Head.{stepOf, IllHead};
-ghost use Rattle.utf8.specs.Lead.{leadOf, byteFits, packed, lengthOf, knownLength};
+ghost use Rattle.utf8.specs.Lead.{leadOf, byteFits, packed, lengthOf, knownLength, lowSecond, highSecond};
 ghost use Rattle.utf8.specs.Text.{textOf};
 ghost use mathlib.Core.List.{[], _∷_};
 
@@ -184,7 +184,32 @@ pub fn decode_packed(s: &[u8], at: usize) -> usize
     pack(&s[at..])
 }
 
-// The length of the sequence at the head of `s`, which isn't empty; 0 where none begins. Sequences of one and two bytes are told first.
+// The bounds of the second byte after a first byte of E0 to F4.
+fn low_second(b: u8) -> u8
+    ensures { λ r. ⌜ r ≡ lowSecond b ⌝ }
+{
+    if b == 0xE0 {
+        return 0xA0;
+    }
+    if b == 0xF0 {
+        return 0x90;
+    }
+    0x80
+}
+
+fn high_second(b: u8) -> u8
+    ensures { λ r. ⌜ r ≡ highSecond b ⌝ }
+{
+    if b == 0xED {
+        return 0x9F;
+    }
+    if b == 0xF4 {
+        return 0x8F;
+    }
+    0xBF
+}
+
+// The length of the sequence at the head of `s`, which isn't empty; 0 where none begins. Tests by order, for speed.
 fn measure_head(s: &[u8]) -> usize
     requires { ⌜ 0 < length (now s) ⌝ }
     ensures { λ r. ⌜ r ≡ lengthOf (stepOf (now (s .entry))) ⌝ }
@@ -202,21 +227,16 @@ fn measure_head(s: &[u8]) -> usize
         }
         return 2;
     }
-    let lead = read_lead(b);
-    let len = lead.len;
-    if len <= 1 {
-        return len as usize;
-    }
-    if misses(s, 1, lead.low, lead.high) {
+    if 0xF4 < b {
         return 0;
     }
-    if len == 2 {
-        return 2;
+    if misses(s, 1, low_second(b), high_second(b)) {
+        return 0;
     }
     if misses(s, 2, 0x80, 0xBF) {
         return 0;
     }
-    if len == 3 {
+    if b < 0xF0 {
         return 3;
     }
     if misses(s, 3, 0x80, 0xBF) {

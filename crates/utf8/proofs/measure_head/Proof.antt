@@ -1,8 +1,7 @@
 -- `utf8::measure_head` meets its contract: each return is what the lead asks for, as far as the bytes before it fit. Assumes nothing.
 use Prim.Native.Nat.{ℕ, suc, _-_, _≤_, _<_}
-use mathlib.Core.Bool.{true, false}
+use mathlib.Core.Bool.{true, false, not}
 use mathlib.Core.List.{List, [], _∷_}
-use mathlib.Core.Logic.{_≢_}
 use mathlib.Core.Path.{_≡_, refl, sym, ap, _∙_}
 use native.Mathlib.Omega.{arith}
 use native.Mathlib.Decide.{decLt}
@@ -12,22 +11,15 @@ use lib.ListN.{length, getD}
 use Rattle.utf8.specs.declared.Lead.{Lead}
 use Rattle.utf8.specs.Table.{Bytes, _to_, later}
 use Rattle.utf8.specs.Head.{stepOf}
-use Rattle.utf8.specs.Lead.{leadOfRow, byteFits, packed, lengthOf}
-use Rattle.utf8.proofs.LeadLaws.{lead-there, Begun, begins, no-lead, next-in, next-out, whole, ascii, lead-le}
+use Rattle.utf8.specs.Lead.{leadOfRow, byteFits, packed, lengthOf, lowSecond, highSecond}
+use Rattle.utf8.proofs.LeadLaws.{lead-there, highLead, lead-above, lead-high, Begun, begins, no-lead, next-in, next-out, whole, ascii}
+use Rattle.utf8.proofs.SequenceLaws.{known-3, known-4}
 use Rattle.utf8.proofs.TextLaws.{packed-length}
 use Rattle.utf8.proofs.measure_head.Statement.{statement}
 use Rattle.utf8.proofs.measure_head.Tie as tie
 
 none : (s : List ℕ) → 0 ≡ packed (stepOf s) → 0 ≡ lengthOf (stepOf s)
 none s e = packed-length s 0 0 (omega arith) e
-
--- no byte is asked for after the first
-alone : {s : List ℕ} {l : Lead} → Begun s l [] 0 → l .len ≤ 1 → l .len ≡ lengthOf (stepOf s)
-alone {s} {l} d h =
-    elim (decLt 0 (l .len)) [
-      | yes k ↦ (let e : l .len ≡ 1 = omega arith in e ∙ packed-length s _ 1 (omega arith) (whole d e refl))
-      | no k ↦ (let e : l .len ≡ 0 = omega arith in e ∙ none s (no-lead d e))
-    ]
 
 -- a first byte of C2 to DF asks for one more
 module _ (s : List ℕ) (h : 0 < length s) (l : 0xC2 ≤ getD s 0 0) (u : getD s 0 0 < 0xE0) where
@@ -40,39 +32,43 @@ module _ (s : List ℕ) (h : 0 < length s) (l : 0xC2 ≤ getD s 0 0) (u : getD s
   two-out : byteFits later s 1 ≡ false → 0 ≡ lengthOf (stepOf s)
   two-out f = none s (next-out two later [] 1 refl refl f)
 
-abbrev text : tie.After-read-lead → List ℕ
-text c = c .before .before .before .before .before .before .args .s .now
+-- a first byte of E0 to F4 asks for two or three more
+module _ (s : List ℕ) (h : 0 < length s) (l : 0xE0 ≤ getD s 0 0) (u : getD s 0 0 ≤ 0xF4) where
+  abbrev lead : Lead
+  lead = highLead (getD s 0 0)
 
-abbrev lead : tie.After-read-lead → Lead
-lead c = c .read-lead .result
+  abbrev range : Bytes
+  range = lead .low to lead .high
 
-abbrev range : tie.After-read-lead → Bytes
-range c = lead c .low to lead c .high
+  long : 3 ≤ lead .len
+  long = elim (decLt (getD s 0 0) 0xF0) [ yes k ↦ omega (arith, known-3 (getD s 0 0) l k) | no k ↦ omega (arith, known-4 (getD s 0 0) (let z : 0xF0 ≤ getD s 0 0 = omega arith in z)) ]
 
--- what is known after each byte; `led` is the place where the lead was read
-first : (c : tie.After-read-lead) → Begun (text c) (lead c) [] 0
-first c = begins _ _ (c .read-lead .ensures) (c .before .before .before .before .before .before .pre)
+  first : Begun s lead [] 0
+  first = begins s lead (lead-high (getD s 0 0) l u) h
 
-abbrev led-2 : tie.Else6 → tie.After-read-lead
-led-2 c = c .before .before .before
+  no-second : byteFits range s 1 ≡ false → 0 ≡ lengthOf (stepOf s)
+  no-second f = none s (next-out first range _ (suc (lead .len - 2)) (let g = long in omega arith) refl f)
 
-second : (c : tie.Else6) → Begun (text (led-2 c)) (lead (led-2 c)) (range (led-2 c) ∷ []) 1
-second c = next-in (first (led-2 c)) _ (not-false _ (sym (c .before .misses2 .ensures) ∙ c .if6 .left))
+  module _ (f : byteFits range s 1 ≡ true) where
+    second : Begun s lead (range ∷ []) 1
+    second = next-in first range f
 
-abbrev led-3 : tie.Else8 → tie.After-read-lead
-led-3 c = led-2 (c .before .before .before)
+    no-third : byteFits later s 2 ≡ false → 0 ≡ lengthOf (stepOf s)
+    no-third g = none s (next-out second later _ (suc (suc (lead .len - 3))) (let k = long in omega arith) refl g)
 
-third : (c : tie.Else8) → Begun (text (led-3 c)) (lead (led-3 c)) (range (led-3 c) ∷ later ∷ []) 2
-third c = next-in (second (c .before .before .before)) later (not-false _ (sym (c .before .misses3 .ensures) ∙ c .if8 .left))
+    module _ (g : byteFits later s 2 ≡ true) where
+      third : Begun s lead (range ∷ later ∷ []) 2
+      third = next-in second later g
 
--- no length but four is left after the tests
-four : (n : ℕ) → n ≤ 4 → 1 < n → n ≢ 2 → n ≢ 3 → n ≡ 4
-four n h a b c = omega arith
+      three : getD s 0 0 < 0xF0 → 3 ≡ lengthOf (stepOf s)
+      three k = packed-length s _ 3 (omega arith) (whole third (sym (known-3 (getD s 0 0) l k)) refl)
 
-longest : (c : tie.Else9) → lead (led-3 (c .before)) .len ≡ 4
-longest c =
-    let d = led-3 (c .before) in
-    four _ (lead-le _ (d .read-lead .ensures)) (c .before .before .before .before .before .before .if5 .left) (c .before .before .before .if7 .left) (c .if9 .left)
+      module _ (k : 0xF0 ≤ getD s 0 0) where
+        no-fourth : byteFits later s 3 ≡ false → 0 ≡ lengthOf (stepOf s)
+        no-fourth e = none s (next-out third later [] 3 (sym (known-4 (getD s 0 0) k)) refl e)
+
+        four : byteFits later s 3 ≡ true → 4 ≡ lengthOf (stepOf s)
+        four e = packed-length s _ 4 (omega arith) (whole (next-in third later e) (sym (known-4 (getD s 0 0) k)) refl)
 
 returns : tie.Need-returns
 returns c = ap lengthOf (ascii _ (c .before .before .before .pre) (c .if1 .taken))
@@ -92,37 +88,38 @@ returns-4 c =
     two-in _ (c .before .before .before .before .before .before .before .pre) (c .before .before .before .if2 .left) (c .before .before .if3 .taken)
     (not-false _ (sym (c .before .misses .ensures) ∙ c .if4 .left))
 
-cast-result : tie.Need-cast-result
-cast-result c = omega (arith, c .if5 .taken)
-
 returns-5 : tie.Need-returns-5
-returns-5 c = alone (first (c .before)) (c .if5 .taken)
+returns-5 c =
+    let s = c .before .before .before .before .before .before .args .s .now in
+    none s (no-lead (begins s _ (lead-above (getD s 0 0) (c .if5 .taken)) (c .before .before .before .before .before .before .pre)) refl)
+
+-- the second byte is judged by the bounds that its lead gives
+second-fits :
+    (c : tie.After-misses2) → c .misses2 .result ≡ not (byteFits (lowSecond (getD (c .before .before .before .before .before .before .before .before .before .args .s .now) 0 0) to highSecond (getD (c .before .before .before .before .before .before .before .before .before .args .s .now) 0 0)) (c .before .before .before .before .before .before .before .before .before .args .s .now) 1)
+second-fits c = c .misses2 .ensures ∙ (λ i. not (byteFits ((c .before .before .low-second .ensures i) to (c .before .high-second .ensures i)) (c .before .before .before .before .before .before .before .before .before .args .s .now) 1))
 
 returns-6 : tie.Need-returns-6
-returns-6 c =
-    let d = c .before .before .before in
-    none _ (next-out (first d) _ _ (suc (lead d .len - 2)) (omega (arith, c .before .before .if5 .left)) refl (not-true _ (sym (c .before .misses2 .ensures) ∙ c .if6 .taken)))
+returns-6 c = no-second _ (c .before .before .before .before .before .before .before .before .before .before .pre) (c .before .before .before .before .before .if3 .left) (c .before .before .before .before .if5 .left) (not-true _ (sym (second-fits (c .before)) ∙ c .if6 .taken))
 
 returns-7 : tie.Need-returns-7
-returns-7 c = packed-length _ _ 2 (omega arith) (whole (second (c .before)) (c .if7 .taken) refl)
+returns-7 c =
+    no-third _ (c .before .before .before .before .before .before .before .before .before .before .before .before .pre) (c .before .before .before .before .before .before .before .if3 .left) (c .before .before .before .before .before .before .if5 .left) (not-false _ (sym (second-fits (c .before .before .before)) ∙ c .before .before .if6 .left))
+    (not-true _ (sym (c .before .misses3 .ensures) ∙ c .if7 .taken))
 
 returns-8 : tie.Need-returns-8
 returns-8 c =
-    let d = c .before .before .before in
-    none _ (next-out (second d) later _ (suc (suc (lead (led-2 d) .len - 3))) (omega (arith, d .before .before .if5 .left, c .before .before .if7 .left)) refl (not-true _ (sym (c .before .misses3 .ensures) ∙ c .if8 .taken)))
+    three _ (c .before .before .before .before .before .before .before .before .before .before .before .before .before .pre) (c .before .before .before .before .before .before .before .before .if3 .left) (c .before .before .before .before .before .before .before .if5 .left) (not-false _ (sym (second-fits (c .before .before .before .before)) ∙ c .before .before .before .if6 .left))
+    (not-false _ (sym (c .before .before .misses3 .ensures) ∙ c .before .if7 .left)) (c .if8 .taken)
 
 returns-9 : tie.Need-returns-9
-returns-9 c = packed-length _ _ 3 (omega arith) (whole (third (c .before)) (c .if9 .taken) refl)
+returns-9 c =
+    no-fourth _ (c .before .before .before .before .before .before .before .before .before .before .before .before .before .before .before .pre) (c .before .before .before .before .before .before .before .before .before .before .if3 .left) (c .before .before .before .before .before .before .before .before .before .if5 .left) (not-false _ (sym (second-fits (c .before .before .before .before .before .before)) ∙ c .before .before .before .before .before .if6 .left))
+    (not-false _ (sym (c .before .before .before .before .misses3 .ensures) ∙ c .before .before .before .if7 .left)) (c .before .before .if8 .left) (not-true _ (sym (c .before .misses4 .ensures) ∙ c .if9 .taken))
 
 returns-10 : tie.Need-returns-10
 returns-10 c =
-    let d = c .before .before in
-    none _ (next-out (third (d .before)) later _ 3 (longest d) refl (not-true _ (sym (c .before .misses4 .ensures) ∙ c .if10 .taken)))
-
-returns-11 : tie.Need-returns-11
-returns-11 c =
-    let d = c .before .before in
-    packed-length _ _ 4 (omega arith) (whole (next-in (third (d .before)) later (not-false _ (sym (c .before .misses4 .ensures) ∙ c .if10 .left))) (longest d) refl)
+    four _ (c .before .before .before .before .before .before .before .before .before .before .before .before .before .before .before .pre) (c .before .before .before .before .before .before .before .before .before .before .if3 .left) (c .before .before .before .before .before .before .before .before .before .if5 .left) (not-false _ (sym (second-fits (c .before .before .before .before .before .before)) ∙ c .before .before .before .before .before .if6 .left))
+    (not-false _ (sym (c .before .before .before .before .misses3 .ensures) ∙ c .before .before .before .if7 .left)) (c .before .before .if8 .left) (not-false _ (sym (c .before .misses4 .ensures) ∙ c .if9 .left))
 
 pub measure-head-spec : {M : Type 1} → statement M
 measure-head-spec =
@@ -134,15 +131,14 @@ measure-head-spec =
     (λ c κs. search needs)
     returns-3
     returns-4
-    (λ c κs. search needs)
-    cast-result
     returns-5
     (λ c κs. search needs)
+    (λ c κs. search needs)
+    (λ c κs. search needs)
     returns-6
+    (λ c κs. search needs)
     returns-7
-    (λ c κs. search needs)
     returns-8
-    returns-9
     (λ c κs. search needs)
-    returns-10
-    returns-11)
+    returns-9
+    returns-10)

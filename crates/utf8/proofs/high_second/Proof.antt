@@ -1,0 +1,16 @@
+-- `utf8::high_second` meets its contract. Assumes nothing.
+use borrow.Author.Tests.{ne-eqb}
+use Rattle.utf8.proofs.high_second.Statement.{statement}
+use Rattle.utf8.proofs.high_second.Tie as tie
+
+returns : tie.Need-returns
+returns c = rw (c .if1 .taken)
+
+returns-2 : tie.Need-returns-2
+returns-2 c = rw (c .if2 .taken)
+
+returns-3 : tie.Need-returns-3
+returns-3 c = rw (ne-eqb _ _ (c .before .if1 .left), ne-eqb _ _ (c .if2 .left))
+
+pub high-second-spec : {M : Type 1} → statement M
+high-second-spec = tie.close (tie.spec returns returns-2 returns-3)
