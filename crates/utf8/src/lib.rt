@@ -4,7 +4,7 @@ ghost use mathlib.Core.Bool.{not};
 ghost use Prim.Native.Nat.{_+_, _*_, _≤_, _<_};
 ghost use lib.ListN.{length, drop};
 ghost use Rattle.utf8.specs.Scalar.{isScalar};
-ghost use Rattle.utf8.specs.Table.{_to_, codePoint};
+ghost use Rattle.utf8.specs.Table.{_to_, later, codePoint};
 ghost use Rattle.utf8.specs.Subpart.{subpartOf};
 ghost use Rattle.utf8.specs.Head.{stepOf, IllHead};
 ghost use Rattle.utf8.specs.Lead.{leadOf, byteFits, packed, lengthOf, knownLength, lowSecond, highSecond};
@@ -184,6 +184,13 @@ pub fn decode_packed(s: &[u8], at: usize) -> usize
     pack(&s[at..])
 }
 
+// Whether byte `i` of `s` is missing or none of 80 to BF.
+fn lacks_trail(s: &[u8], i: usize) -> bool
+    ensures { λ r. ⌜ r ≡ not (byteFits later (now (s .entry)) i) ⌝ }
+{
+    misses(s, i, 0x80, 0xBF)
+}
+
 // The bounds of the second byte after a first byte of E0 to F4.
 fn low_second(b: u8) -> u8
     ensures { λ r. ⌜ r ≡ lowSecond b ⌝ }
@@ -222,7 +229,7 @@ fn measure_head(s: &[u8]) -> usize
         return 0;
     }
     if b < 0xE0 {
-        if misses(s, 1, 0x80, 0xBF) {
+        if lacks_trail(s, 1) {
             return 0;
         }
         return 2;
@@ -233,13 +240,13 @@ fn measure_head(s: &[u8]) -> usize
     if misses(s, 1, low_second(b), high_second(b)) {
         return 0;
     }
-    if misses(s, 2, 0x80, 0xBF) {
+    if lacks_trail(s, 2) {
         return 0;
     }
     if b < 0xF0 {
         return 3;
     }
-    if misses(s, 3, 0x80, 0xBF) {
+    if lacks_trail(s, 3) {
         return 0;
     }
     4
@@ -264,7 +271,7 @@ pub fn measure_known(b: u8) -> usize
         return 2;
     }
     if b < 0xF0 {
-        return 3;
+        return 3; // E0 to EF
     }
     4
 }
@@ -282,7 +289,7 @@ fn measure_subpart(s: &[u8]) -> usize
         return 1;
     }
     if misses(s, 2, 0x80, 0xBF) {
-        return 2;
+        return 2; // the third doesn't fit
     }
     3
 }

@@ -81,12 +81,12 @@ returns-2 c =
 returns-3 : tie.Need-returns-3
 returns-3 c =
     two-out _ (c .before .before .before .before .before .before .before .pre) (c .before .before .before .if2 .left) (c .before .before .if3 .taken)
-    (not-true _ (sym (c .before .misses .ensures) ∙ c .if4 .taken))
+    (not-true _ (sym (c .before .lacks-trail .ensures) ∙ c .if4 .taken))
 
 returns-4 : tie.Need-returns-4
 returns-4 c =
     two-in _ (c .before .before .before .before .before .before .before .pre) (c .before .before .before .if2 .left) (c .before .before .if3 .taken)
-    (not-false _ (sym (c .before .misses .ensures) ∙ c .if4 .left))
+    (not-false _ (sym (c .before .lacks-trail .ensures) ∙ c .if4 .left))
 
 returns-5 : tie.Need-returns-5
 returns-5 c =
@@ -95,8 +95,8 @@ returns-5 c =
 
 -- the second byte is judged by the bounds that its lead gives
 second-fits :
-    (c : tie.After-misses2) → c .misses2 .result ≡ not (byteFits (lowSecond (getD (c .before .before .before .before .before .before .before .before .before .args .s .now) 0 0) to highSecond (getD (c .before .before .before .before .before .before .before .before .before .args .s .now) 0 0)) (c .before .before .before .before .before .before .before .before .before .args .s .now) 1)
-second-fits c = c .misses2 .ensures ∙ (λ i. not (byteFits ((c .before .before .low-second .ensures i) to (c .before .high-second .ensures i)) (c .before .before .before .before .before .before .before .before .before .args .s .now) 1))
+    (c : tie.After-misses) → c .misses .result ≡ not (byteFits (lowSecond (getD (c .before .before .before .before .before .before .before .before .before .args .s .now) 0 0) to highSecond (getD (c .before .before .before .before .before .before .before .before .before .args .s .now) 0 0)) (c .before .before .before .before .before .before .before .before .before .args .s .now) 1)
+second-fits c = c .misses .ensures ∙ (λ i. not (byteFits ((c .before .before .low-second .ensures i) to (c .before .high-second .ensures i)) (c .before .before .before .before .before .before .before .before .before .args .s .now) 1))
 
 returns-6 : tie.Need-returns-6
 returns-6 c = no-second _ (c .before .before .before .before .before .before .before .before .before .before .pre) (c .before .before .before .before .before .if3 .left) (c .before .before .before .before .if5 .left) (not-true _ (sym (second-fits (c .before)) ∙ c .if6 .taken))
@@ -104,22 +104,22 @@ returns-6 c = no-second _ (c .before .before .before .before .before .before .be
 returns-7 : tie.Need-returns-7
 returns-7 c =
     no-third _ (c .before .before .before .before .before .before .before .before .before .before .before .before .pre) (c .before .before .before .before .before .before .before .if3 .left) (c .before .before .before .before .before .before .if5 .left) (not-false _ (sym (second-fits (c .before .before .before)) ∙ c .before .before .if6 .left))
-    (not-true _ (sym (c .before .misses3 .ensures) ∙ c .if7 .taken))
+    (not-true _ (sym (c .before .lacks-trail2 .ensures) ∙ c .if7 .taken))
 
 returns-8 : tie.Need-returns-8
 returns-8 c =
     three _ (c .before .before .before .before .before .before .before .before .before .before .before .before .before .pre) (c .before .before .before .before .before .before .before .before .if3 .left) (c .before .before .before .before .before .before .before .if5 .left) (not-false _ (sym (second-fits (c .before .before .before .before)) ∙ c .before .before .before .if6 .left))
-    (not-false _ (sym (c .before .before .misses3 .ensures) ∙ c .before .if7 .left)) (c .if8 .taken)
+    (not-false _ (sym (c .before .before .lacks-trail2 .ensures) ∙ c .before .if7 .left)) (c .if8 .taken)
 
 returns-9 : tie.Need-returns-9
 returns-9 c =
     no-fourth _ (c .before .before .before .before .before .before .before .before .before .before .before .before .before .before .before .pre) (c .before .before .before .before .before .before .before .before .before .before .if3 .left) (c .before .before .before .before .before .before .before .before .before .if5 .left) (not-false _ (sym (second-fits (c .before .before .before .before .before .before)) ∙ c .before .before .before .before .before .if6 .left))
-    (not-false _ (sym (c .before .before .before .before .misses3 .ensures) ∙ c .before .before .before .if7 .left)) (c .before .before .if8 .left) (not-true _ (sym (c .before .misses4 .ensures) ∙ c .if9 .taken))
+    (not-false _ (sym (c .before .before .before .before .lacks-trail2 .ensures) ∙ c .before .before .before .if7 .left)) (c .before .before .if8 .left) (not-true _ (sym (c .before .lacks-trail3 .ensures) ∙ c .if9 .taken))
 
 returns-10 : tie.Need-returns-10
 returns-10 c =
     four _ (c .before .before .before .before .before .before .before .before .before .before .before .before .before .before .before .pre) (c .before .before .before .before .before .before .before .before .before .before .if3 .left) (c .before .before .before .before .before .before .before .before .before .if5 .left) (not-false _ (sym (second-fits (c .before .before .before .before .before .before)) ∙ c .before .before .before .before .before .if6 .left))
-    (not-false _ (sym (c .before .before .before .before .misses3 .ensures) ∙ c .before .before .before .if7 .left)) (c .before .before .if8 .left) (not-false _ (sym (c .before .misses4 .ensures) ∙ c .if9 .left))
+    (not-false _ (sym (c .before .before .before .before .lacks-trail2 .ensures) ∙ c .before .before .before .if7 .left)) (c .before .before .if8 .left) (not-false _ (sym (c .before .lacks-trail3 .ensures) ∙ c .if9 .left))
 
 pub measure-head-spec : {M : Type 1} → statement M
 measure-head-spec =
