@@ -69,7 +69,7 @@ fn continues(code: u32, traits: u32) -> bool
     ensures { λ r. ⌜ r ≡ (not (isSign code) && (isContinue (classNamed (traits % 8)) || leb 16 traits)) ⌝ }
 {
     if is_sign(code) {
-        return false;
+        return false; // whatever its class or role
     }
     if character::HASHTAG <= traits {
         return true;
