@@ -7,11 +7,12 @@ use mathlib.Core.Logic.{_⊎_, inl, inr}
 use native.Mathlib.Omega.{arith}
 use native.Mathlib.Decide.{decLt}
 use mathlib.Core.Option.{none}
-use lib.ListN.{length, getD, set, drop, length-set, length-drop, drop-of-length-le}
+use lib.ListN.{length, getD, set, take, drop, length-set, length-drop, drop-of-length-le}
 use lib.Seq.{drop-drop, getD-drop, getD-set-same, getD-set-other}
 use lib.Dec.{leb, ltb, eqb}
 use borrow.Author.Tests.{lt-ltb, le-ltb, leb-true, ltb-true, ne-eqb}
 use Rattle.lists.proofs.BoolLaws.{and-left, and-right, impossible}
+use Rattle.lists.proofs.LaidLaws.{rest as part-rest}
 use Rattle.utf8.specs.declared.Step.{Step}
 use Rattle.utf8.specs.declared.Step.the-variants.{Scalar, IllFormed, End}
 use Rattle.utf8.specs.Head.{stepOf, IllHead}
@@ -27,7 +28,7 @@ use Rattle.character.specs.declared.Character.{Character as Read}
 use Rattle.character.proofs.CharacterLaws.{ascii-at}
 use Rattle.hashtag.specs.Sign.{isSign, continues}
 use Rattle.hashtag.specs.Find.{Span, runOf, hashtagsFrom}
-use Rattle.hashtag.specs.Seek.{charactersAt, hashtagsAt, continuesFirst, freeAt, stopOf, Stops, Skipped, signOf, Sought}
+use Rattle.hashtag.specs.Seek.{charactersAt, hashtagsAt, continuesFirst, freeAt, stopOf, Stops, Passed, Skipped, signOf, Sought}
 use Rattle.hashtag.specs.declared.Sign.{Sign}
 use Rattle.hashtag.proofs.SignLaws.{continuesBy, by-traits, no-sign-here}
 use Rattle.hashtag.proofs.RunLaws.{Characters, run-yes, run-no, run-none}
@@ -76,16 +77,54 @@ pub stops-all : {known : Bool} {t : List ℕ} {k : ℕ} → Stops known t k → 
 stops-all f h = record { long = f .long; each = λ y l. f .each y (omega arith) }
 
 -- bytes that were passed over
-pub record Passed (known : Bool) (text : List ℕ) (from to : ℕ) : Type 0 where
-  pub above : from ≤ to
-  pub within : to ≤ length text
-  pub each : (i : ℕ) → from ≤ i → i < to → stopOf known (getD text i 0) ≡ 0
-
 pub passed : {known : Bool} {text : List ℕ} {from to : ℕ} → Skipped known text from to → Passed known text from to
 passed p = record { above = p .above; within = p .within; each = p .each }
 
 pub skipped : {known : Bool} {text : List ℕ} {from to : ℕ} → Passed known text from to → (to < length text → stopOf known (getD text to 0) ≡ 0 → ⊥) → Skipped known text from to
 skipped p h = record { above = p .above; within = p .within; each = p .each; stop = h }
+
+-- over bytes, and then on from there
+pub skipped-on : {known : Bool} {text : List ℕ} {from at to : ℕ} → Passed known text from at → Skipped known text at to → Skipped known text from to
+skipped-on {known} {text} {from} {at} {to} p q =
+    record { above = omega (arith, p .above, q .above); within = q .within; each = λ i l u. go i l u (decLt i at); stop = q .stop }
+  where
+    go : (i : ℕ) → from ≤ i → i < to → Dec (i < at) → stopOf known (getD text i 0) ≡ 0
+    go i l u (yes v) = p .each i l v
+    go i l u (no v) = q .each i (omega arith) u
+
+stop-small : (known : Bool) (b : ℕ) → stopOf known b ≤ 1
+stop-small known b = go (eqb b 0x23) (eqb b 0xEF) known (ltb b 0x80)
+  where
+    go : (x y z w : Bool) → cond x 1 (cond y 1 (cond z 0 (cond w 0 1))) ≤ 1
+    go true y z w = omega arith
+    go false true z w = omega arith
+    go false false true w = omega arith
+    go false false false true = omega arith
+    go false false false false = omega arith
+
+pub bit : (b : ℕ) {n : ℕ} → n ≡ stopOf true b → n ≤ 1
+bit b e = omega (arith, stop-small true b)
+
+-- four bytes at a time
+pub four-pass : (known : Bool) (s : List ℕ) (k l m n : ℕ) → k ≡ stopOf known (getD s 0 0) → l ≡ stopOf known (getD s 1 0) → m ≡ stopOf known (getD s 2 0)
+    → n ≡ stopOf known (getD s 3 0) → k + l + m + n ≡ 0 → (i : ℕ) → i < 4 → stopOf known (getD s i 0) ≡ 0
+four-pass known s k l m n a b c d e zero h = omega arith
+four-pass known s k l m n a b c d e (suc zero) h = omega arith
+four-pass known s k l m n a b c d e (suc (suc zero)) h = omega arith
+four-pass known s k l m n a b c d e (suc (suc (suc zero))) h = omega arith
+four-pass known s k l m n a b c d e (suc (suc (suc (suc i)))) h = absurd (omega arith)
+
+pub passed-four : {known : Bool} {text : List ℕ} {from at : ℕ} → Passed known text from at → at + 4 ≤ length text
+    → ((i : ℕ) → i < 4 → stopOf known (getD (take (length text - at) (drop at text)) i 0) ≡ 0) → Passed known text from (at + 4)
+passed-four {known} {text} {from} {at} p h f =
+    record { above = omega (arith, p .above); within = h; each = λ i l u. go i l u (decLt i at) }
+  where
+    go : (i : ℕ) → from ≤ i → i < at + 4 → Dec (i < at) → stopOf known (getD text i 0) ≡ 0
+    go i l u (yes v) = p .each i l v
+    go i l u (no v) =
+        let q : at + (i - at) ≡ i = omega arith in
+        let e = ap (λ (s : List ℕ). getD s (i - at) 0) (part-rest text at) ∙ getD-drop at text (i - at) 0 ∙ ap (λ (k : ℕ). getD text k 0) q in
+        ap (stopOf known) (sym e) ∙ f (i - at) (omega arith)
 
 pub passed-begins : (known : Bool) (text : List ℕ) (from : ℕ) → from ≤ length text → Passed known text from from
 passed-begins known text from h = record { above = omega arith; within = h; each = λ i l u. absurd (omega arith) }

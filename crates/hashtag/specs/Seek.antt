@@ -44,6 +44,12 @@ pub record Stops (known : Bool) (t : List ℕ) (k : ℕ) : Type 0 where
 abbrev pub StopsOf : Bool → List ℕ → Type 0
 StopsOf known t = Stops known t 256
 
+-- it stops nowhere from one place to before another
+pub record Passed (known : Bool) (text : List ℕ) (from to : ℕ) : Type 0 where
+  pub above : from ≤ to
+  pub within : to ≤ length text
+  pub each : (i : ℕ) → from ≤ i → i < to → stopOf known (getD text i 0) ≡ 0
+
 -- the first place from a place on where it stops, or the text's end
 pub record Skipped (known : Bool) (text : List ℕ) (from to : ℕ) : Type 0 where
   pub above : from ≤ to

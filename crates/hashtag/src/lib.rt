@@ -3,8 +3,8 @@
 ghost use mathlib.Core.Path.{_≡_};
 ghost use mathlib.Core.Bool.{Bool, true, false, not, _&&_, _||_};
 ghost use mathlib.Core.Option.{none};
-ghost use Prim.Native.Nat.{_+_, _*_, _%_, _≤_, _<_};
-ghost use lib.ListN.{length, drop};
+ghost use Prim.Native.Nat.{ℕ, _+_, _*_, _%_, _≤_, _<_};
+ghost use lib.ListN.{length, getD, drop};
 ghost use lib.Dec.{leb};
 ghost use Rattle.lists.specs.Laid.{laid};
 ghost use Rattle.utf8.specs.declared.Text.the-variants.{WellFormed};
@@ -20,7 +20,7 @@ ghost use Rattle.grammar.specs.Reading.{maxText};
 ghost use Rattle.hashtag.specs.Sign.{isSign};
 ghost use Rattle.hashtag.specs.Find.{runOf, hashtagsOf};
 ghost use Rattle.hashtag.specs.Listed.{spansWords, hashtagListOf, hashtagListWords, listedBy, countedThrough, closedBy};
-ghost use Rattle.hashtag.specs.Seek.{charactersAt, continuesFirst, freeAt, stopOf, StopsOf, Skipped, Backed, signOf, Sought};
+ghost use Rattle.hashtag.specs.Seek.{charactersAt, continuesFirst, freeAt, stopOf, StopsOf, Passed, Skipped, Backed, signOf, Sought};
 use image::Answer;
 use refusal::Refusal;
 use scan::MAX_TEXT;
@@ -176,6 +176,31 @@ fn skip<'a>(stops: &'a [u8; 256], text: &'a [u8], from: usize) -> usize
     at
 }
 
+// The sum of what the table has for four bytes.
+fn look_four<'a>(stops: &'a [u8; 256], s: &'a [u8]) -> u8
+    requires { ⌜ StopsOf true (now stops) ⌝ }
+    requires { ⌜ 4 ≤ length (now s) ⌝ }
+    ensures { λ r. ⌜ (r ≡ 0 → (i : ℕ) → i < 4 → stopOf true (getD (now (s .entry)) i 0) ≡ 0) ⌝ }
+{
+    look(stops, s[0]) + look(stops, s[1]) + look(stops, s[2]) + look(stops, s[3])
+}
+
+// A place up to which a search in a text that is known to be well-formed stops nowhere: four bytes at a time.
+fn skip_fours<'a>(stops: &'a [u8; 256], text: &'a [u8], from: usize) -> usize
+    requires { ⌜ StopsOf true (now stops) ⌝ }
+    requires { ⌜ from ≤ length (now text) ⌝ }
+    ensures { λ r. ⌜ Passed true (now (text .entry)) from r ⌝ }
+{
+    let mut at = from;
+    while 4 <= text.len() - at {
+        if look_four(stops, &text[at..]) != 0 {
+            return at;
+        }
+        at += 4;
+    }
+    at
+}
+
 // Whether the sequence at a place is that of a sign.
 fn is_sign_at(text: &[u8], at: usize) -> bool
     requires { ⌜ at < length (now text) ⌝ }
@@ -308,7 +333,8 @@ fn seek_known<'a>(
 {
     let mut at = from;
     while at < text.len() {
-        let past = skip(stops, text, at);
+        let near = skip_fours(stops, text, at);
+        let past = skip(stops, text, near);
         if text.len() <= past {
             return Sign {
                 at: past,

@@ -5,3 +5,4 @@ pub mod LeadLaws
 pub mod SequenceLaws
 pub mod EncodedLaws
 pub mod TextLaws
+pub mod MeasureLaws

@@ -2,7 +2,7 @@
 ghost use mathlib.Core.Path.{_≡_};
 ghost use mathlib.Core.Bool.{not};
 ghost use Prim.Native.Nat.{_+_, _*_, _≤_, _<_};
-ghost use lib.ListN.{length, drop};
+ghost use lib.ListN.{length, getD, drop};
 ghost use Rattle.utf8.specs.Scalar.{isScalar};
 ghost use Rattle.utf8.specs.Table.{_to_, later, codePoint};
 ghost use Rattle.utf8.specs.Subpart.{subpartOf};
@@ -216,6 +216,21 @@ fn high_second(b: u8) -> u8
     0xBF
 }
 
+// The length of the sequence at the head of `s`, whose first byte is one of E0 to EF; 0 where none begins.
+fn measure_three(s: &[u8], b: u8) -> usize
+    requires { ⌜ (0 < length (now s)) × (b ≡ getD (now s) 0 0) ⌝ }
+    requires { ⌜ (0xE0 ≤ b) × (b < 0xF0) ⌝ }
+    ensures { λ r. ⌜ r ≡ lengthOf (stepOf (now (s .entry))) ⌝ }
+{
+    if misses(s, 1, low_second(b), high_second(b)) {
+        return 0;
+    }
+    if lacks_trail(s, 2) {
+        return 0;
+    }
+    3
+}
+
 // The length of the sequence at the head of `s`, which isn't empty; 0 where none begins. Tests by order, for speed.
 fn measure_head(s: &[u8]) -> usize
     requires { ⌜ 0 < length (now s) ⌝ }
@@ -237,14 +252,14 @@ fn measure_head(s: &[u8]) -> usize
     if 0xF4 < b {
         return 0;
     }
+    if b < 0xF0 {
+        return measure_three(s, b);
+    }
     if misses(s, 1, low_second(b), high_second(b)) {
         return 0;
     }
     if lacks_trail(s, 2) {
         return 0;
-    }
-    if b < 0xF0 {
-        return 3;
     }
     if lacks_trail(s, 3) {
         return 0;

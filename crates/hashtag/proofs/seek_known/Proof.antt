@@ -5,7 +5,7 @@ use mathlib.Core.Bool.{true}
 use mathlib.Core.Path.{sym, _∙_}
 use native.Mathlib.Omega.{arith}
 use lib.ListN.{length}
-use Rattle.hashtag.proofs.SeekLaws.{Stands}
+use Rattle.hashtag.proofs.SeekLaws.{Stands, skipped-on}
 use Rattle.hashtag.proofs.KnownLaws.{Walked, walked-begins, walked-bytes, stands-here, known-end, known-some, known-over, known-passes}
 use Rattle.hashtag.proofs.seek_known.Statement.{statement}
 use Rattle.hashtag.proofs.seek_known.Tie as tie
@@ -19,17 +19,20 @@ abbrev μ-loop : tie.MeasureT-loop
 loop-holds : tie.Need-loop-holds Inv-loop μ-loop
 loop-holds c = walked-begins _ _ _ (c .before .before .pre .1 .1 .1 .0)
 
+skip-fours-requires : tie.Need-skip-fours-requires Inv-loop μ-loop
+skip-fours-requires c κs = (c .before .before .before .before .pre .1 .1 .0, c .before .loop .inv .seeking .within)
+
 skip-requires : tie.Need-skip-requires Inv-loop μ-loop
-skip-requires c κs = c .before .loop .inv .seeking .within
+skip-requires c κs = c .skip-fours .ensures .within
 
 -- what was passed over
 walked :
     (c : tie.After-skip Inv-loop μ-loop)
-    → let a = c .before .before .before .before .before .args in
+    → let a = c .before .before .before .before .before .before .args in
     Walked (a .image .now) (a .text .now) (a .from) (c .skip .result)
 walked c =
-    let p = c .before .before .before .before .before .pre in
-    walked-bytes _ _ _ (p .1 .1 .1 .1) (c .before .before .loop .inv) (c .skip .ensures true (p .1 .1 .0))
+    let p = c .before .before .before .before .before .before .pre in
+    walked-bytes _ _ _ (p .1 .1 .1 .1) (c .before .before .before .loop .inv) (skipped-on (c .before .skip-fours .ensures) (c .skip .ensures true (p .1 .1 .0)))
 
 returns : tie.Need-returns Inv-loop μ-loop
 returns c = known-end _ _ (walked (c .before)) (c .if1 .taken)
@@ -40,14 +43,14 @@ read-byte c = c .before .if1 .left
 -- a character stands where the search stops
 standing :
     (c : tie.After-measure-known Inv-loop μ-loop)
-    → let a = c .before .before .before .before .before .before .before .before .args in
+    → let a = c .before .before .before .before .before .before .before .before .before .args in
     Stands (a .image .now) (a .text .now) (c .before .before .before .skip .result) (c .measure-known .result)
 standing c =
     let b = c .before .before .before in
-    stands-here _ _ _ (b .before .before .before .before .before .pre .1 .1 .1 .1) _ (walked b) (c .before .before .if1 .left) (c .measure-known .ensures)
+    stands-here _ _ _ (b .before .before .before .before .before .before .pre .1 .1 .1 .1) _ (walked b) (c .before .before .if1 .left) (c .measure-known .ensures)
 
 add-next : tie.Need-add-next Inv-loop μ-loop
-add-next c = omega (arith, standing c .here .within, c .before .before .before .before .before .before .before)
+add-next c = omega (arith, standing c .here .within, c .before .before .before .before .before .before .before .before)
 
 is-sign-at-requires : tie.Need-is-sign-at-requires Inv-loop μ-loop
 is-sign-at-requires c κs = c .before .before .if1 .left
@@ -59,7 +62,7 @@ step-back-requires c κs =
 
 begins-requires : tie.Need-begins-requires Inv-loop μ-loop
 begins-requires c κs =
-    let p = c .before .before .before .before .before .before .before .before .before .before .before .pre in
+    let p = c .before .before .before .before .before .before .before .before .before .before .before .before .pre in
     (p .0, p .1 .0)
 
 returns-2 : tie.Need-returns-2 Inv-loop μ-loop
@@ -73,7 +76,7 @@ loop-less : tie.Need-loop-less Inv-loop μ-loop
 loop-less c =
     let d = c .before .before .before .before .before in
     let h = standing d .here in
-    omega (arith, h .some-bytes, h .within, d .before .before .before .skip .ensures true (d .before .before .before .before .before .before .before .before .pre .1 .1 .0) .above)
+    omega (arith, h .some-bytes, h .within, d .before .before .before .skip .ensures true (d .before .before .before .before .before .before .before .before .before .pre .1 .1 .0) .above, d .before .before .before .before .skip-fours .ensures .above)
 
 loop-again : tie.Need-loop-again Inv-loop μ-loop
 loop-again c =
@@ -84,7 +87,7 @@ loop-less-2 : tie.Need-loop-less-2 Inv-loop μ-loop
 loop-less-2 c =
     let d = c .before .before in
     let h = standing d .here in
-    omega (arith, h .some-bytes, h .within, d .before .before .before .skip .ensures true (d .before .before .before .before .before .before .before .before .pre .1 .1 .0) .above)
+    omega (arith, h .some-bytes, h .within, d .before .before .before .skip .ensures true (d .before .before .before .before .before .before .before .before .before .pre .1 .1 .0) .above, d .before .before .before .before .skip-fours .ensures .above)
 
 loop-again-2 : tie.Need-loop-again-2 Inv-loop μ-loop
 loop-again-2 c =
@@ -102,6 +105,7 @@ seek-known-spec =
     Inv-loop
     μ-loop
     loop-holds
+    skip-fours-requires
     skip-requires
     returns
     read-byte

@@ -4,8 +4,8 @@ use mathlib.Core.Bool.{Bool}
 use mathlib.Core.Path.{sym, _∙_}
 use native.Mathlib.Omega.{arith}
 use lib.ListN.{length}
-use Rattle.hashtag.specs.Seek.{StopsOf}
-use Rattle.hashtag.proofs.SeekLaws.{Passed, passed-begins, passed-more, skipped}
+use Rattle.hashtag.specs.Seek.{StopsOf, Passed}
+use Rattle.hashtag.proofs.SeekLaws.{passed-begins, passed-more, skipped}
 use Rattle.hashtag.proofs.skip.Statement.{statement}
 use Rattle.hashtag.proofs.skip.Tie as tie
 
