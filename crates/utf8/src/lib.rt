@@ -216,6 +216,24 @@ fn high_second(b: u8) -> u8
     0xBF
 }
 
+// The length of the sequence at the head of `s`, whose first byte is below E0; 0 where none begins.
+fn measure_short(s: &[u8], b: u8) -> usize
+    requires { ⌜ (0 < length (now s)) × (b ≡ getD (now s) 0 0) ⌝ }
+    requires { ⌜ b < 0xE0 ⌝ }
+    ensures { λ r. ⌜ r ≡ lengthOf (stepOf (now (s .entry))) ⌝ }
+{
+    if b < 0x80 {
+        return 1;
+    }
+    if b < 0xC2 {
+        return 0;
+    }
+    if lacks_trail(s, 1) {
+        return 0;
+    }
+    2
+}
+
 // The length of the sequence at the head of `s`, whose first byte is one of E0 to EF; 0 where none begins.
 fn measure_three(s: &[u8], b: u8) -> usize
     requires { ⌜ (0 < length (now s)) × (b ≡ getD (now s) 0 0) ⌝ }
@@ -237,23 +255,14 @@ fn measure_head(s: &[u8]) -> usize
     ensures { λ r. ⌜ r ≡ lengthOf (stepOf (now (s .entry))) ⌝ }
 {
     let b = s[0];
-    if b < 0x80 {
-        return 1;
-    }
-    if b < 0xC2 {
-        return 0;
-    }
     if b < 0xE0 {
-        if lacks_trail(s, 1) {
-            return 0;
-        }
-        return 2;
-    }
-    if 0xF4 < b {
-        return 0;
+        return measure_short(s, b);
     }
     if b < 0xF0 {
         return measure_three(s, b);
+    }
+    if 0xF4 < b {
+        return 0;
     }
     if misses(s, 1, low_second(b), high_second(b)) {
         return 0;
