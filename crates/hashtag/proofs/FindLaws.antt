@@ -1,7 +1,7 @@
 -- The hashtags that are found place by place are all hashtags of the text, and the only such list. Assumes nothing.
 use Prim.Native.Nat.{ℕ, suc, _+_, _≤_, _<_}
 use mathlib.Core.Path.{_≡_, refl, sym, ap, subst, _∙_}
-use mathlib.Core.Bool.{Bool, true, false, not, _&&_, cond}
+use mathlib.Core.Bool.{Bool, true, false, not, _&&_}
 use mathlib.Core.List.{List, [], _∷_, _++_, append-assoc, append-nil}
 use mathlib.Core.Logic.{_⊎_, inl, inr}
 use native.Mathlib.Omega.{arith}
@@ -10,7 +10,7 @@ use borrow.Author.Tests.{not-true}
 use Rattle.lists.proofs.BoolLaws.{and-left, and-right, impossible}
 use Rattle.utf8.specs.Text.{Character, widthOf}
 use Rattle.grammar.specs.All.{All}
-use Rattle.hashtag.specs.Hashtag.{HashtagIdentifier, Hashtag}
+use Rattle.hashtag.specs.Hashtag.{Hashtag}
 use Rattle.hashtag.specs.Sign.{signs, continues, IsSign, IsContinue}
 use Rattle.hashtag.specs.Find.{Span, runOf, spanBy, hashtagsFrom, HashtagAt, Has, Rising}
 use Rattle.hashtag.proofs.SignLaws.{no-sign}

@@ -15,7 +15,7 @@ use Rattle.utf8.specs.Lead.{knownLength, isTrail}
 use Rattle.utf8.specs.Text.{textOf}
 use Rattle.utf8.proofs.TextLaws.{first-byte}
 use Rattle.hashtag.specs.Sign.{isSign}
-use Rattle.hashtag.specs.Seek.{charactersAt, continuesFirst, freeAt, stopOf, Skipped, Backed, Sought}
+use Rattle.hashtag.specs.Seek.{charactersAt, continuesFirst, freeAt, Skipped, Backed, Sought}
 use Rattle.hashtag.proofs.SignLaws.{no-sign-here}
 use Rattle.hashtag.proofs.SeekLaws.{no-stop, trail-passes, Stands, stands-known, Seeking, seeking-begins, seeking-known, seeking-over, sought-end, sought-some}
 

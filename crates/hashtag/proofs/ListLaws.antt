@@ -1,5 +1,5 @@
 -- Counting the hashtags of a text and writing their words, one hashtag after the other. Assumes nothing.
-use Prim.Native.Nat.{ℕ, suc, _+_, _-_, _*_, _≤_, _<_}
+use Prim.Native.Nat.{ℕ, _+_, _-_, _*_, _≤_, _<_}
 use mathlib.Core.Path.{_≡_, refl, sym, ap, _∙_}
 use mathlib.Core.Bool.{true}
 use mathlib.Core.List.{List, [], _∷_, _++_, append-assoc, append-nil}
@@ -8,15 +8,13 @@ use lib.ListN.{length, take, drop, length-append, length-take, length-drop}
 use borrow.Rule.Slice.PartMut.{putMid}
 use Rattle.lists.specs.Laid.{laid}
 use Rattle.lists.proofs.LaidLaws.{laid-none, laid-step, length-laid, lent}
-use Rattle.refusal.specs.Outcome.{given, unless, outcomeMap}
 use Rattle.utf8.specs.declared.Text.{Text}
 use Rattle.utf8.specs.declared.Text.the-variants.{WellFormed, IllFormed}
 use Rattle.utf8.specs.Text.{widthOf, textOf, shift}
 use Rattle.utf8.proofs.TextLaws.{shift-zero, end-here}
 use Rattle.grammar.specs.Record.{recordSize}
-use Rattle.grammar.specs.Reading.{formRefusalBy}
 use Rattle.hashtag.specs.Find.{Span, runOf, hashtagsFrom, hashtagsOf}
-use Rattle.hashtag.specs.Listed.{spanWords, spansWords, listedBy, hashtagsThrough, countedThrough, closedBy}
+use Rattle.hashtag.specs.Listed.{spanWords, spansWords, hashtagsThrough, countedThrough, closedBy}
 use Rattle.hashtag.specs.Seek.{charactersAt, hashtagsAt, Sought}
 use Rattle.hashtag.specs.declared.Listed.the-variants.{Hashtags}
 use Rattle.hashtag.specs.declared.Sign.{Sign}

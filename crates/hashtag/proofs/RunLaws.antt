@@ -1,15 +1,14 @@
 -- Runs of hashtag Continue, and the hashtags that begin at the first of some characters or after it. Assumes nothing.
-use Prim.Native.Nat.{ℕ, suc, _+_, _≤_, _<_}
+use Prim.Native.Nat.{ℕ, _+_, _≤_}
 use mathlib.Core.Path.{_≡_, refl, sym, ap, subst, _∙_}
-use mathlib.Core.Bool.{Bool, true, false, not, _&&_, cond}
+use mathlib.Core.Bool.{Bool, true, false, not, cond}
 use mathlib.Core.List.{List, [], _∷_, _++_}
 use native.Mathlib.Omega.{arith}
-use lib.ListN.{length, drop, length-append}
-use Rattle.lists.proofs.BoolLaws.{impossible}
-use Rattle.utf8.specs.Text.{Character, widthOf}
+use lib.ListN.{length, drop}
+use Rattle.utf8.specs.Text.{Character}
 use Rattle.grammar.specs.All.{All}
 use Rattle.hashtag.specs.Hashtag.{HashtagIdentifier}
-use Rattle.hashtag.specs.Sign.{signs, continues, IsSign, IsContinue}
+use Rattle.hashtag.specs.Sign.{continues, IsSign, IsContinue}
 use Rattle.hashtag.specs.Find.{runOf}
 
 abbrev pub Characters : Type 0

@@ -27,7 +27,7 @@ use Rattle.character.specs.Read.{ReadAs}
 use Rattle.character.specs.declared.Character.{Character as Read}
 use Rattle.character.proofs.CharacterLaws.{ascii-at}
 use Rattle.hashtag.specs.Sign.{isSign, continues}
-use Rattle.hashtag.specs.Find.{Span, runOf, hashtagsFrom}
+use Rattle.hashtag.specs.Find.{runOf, hashtagsFrom}
 use Rattle.hashtag.specs.Seek.{charactersAt, hashtagsAt, continuesFirst, freeAt, stopOf, Stops, Passed, Skipped, signOf, Sought}
 use Rattle.hashtag.specs.declared.Sign.{Sign}
 use Rattle.hashtag.proofs.SignLaws.{continuesBy, by-traits, no-sign-here}

@@ -1,5 +1,5 @@
 -- `hashtag::seek` meets its contract. The loop's invariant: no hashtag begins in what was passed over. Assumes nothing.
-use Prim.Native.Nat.{_+_, _-_}
+use Prim.Native.Nat.{_-_}
 use mathlib.Core.Bool.{false}
 use mathlib.Core.Path.{sym, _∙_}
 use mathlib.Core.Logic.{inl, inr}

@@ -1,6 +1,6 @@
 -- `hashtag::seek_known` meets its contract. The loop's invariant: no hashtag begins in what was passed over, and the place is where a
 -- character begins. Assumes nothing.
-use Prim.Native.Nat.{_+_, _-_}
+use Prim.Native.Nat.{_-_}
 use mathlib.Core.Bool.{true}
 use mathlib.Core.Path.{sym, _∙_}
 use native.Mathlib.Omega.{arith}
