@@ -113,13 +113,6 @@ cut-more s t k a h c =
       rest = λ y l u. getD-set-other t k y (getD t k 0 % 16) 0 (λ q. absurd (omega arith)) ∙ c .rest y (omega arith) u;
     }
 
--- a byte below 80 is its own code point
-pub ascii-at : (text : List ℕ) (at : ℕ) → at < length text → getD text at 0 < 0x80 → stepOf (drop at text) ≡ Scalar (getD text at 0) 1
-ascii-at text at h b =
-    let l = length-drop at text in
-    let z : getD (drop at text) 0 0 ≡ getD text at 0 = getD-drop at text 0 0 ∙ ap (λ (k : ℕ). getD text k 0) (let q : at + 0 ≡ at = omega arith in q) in
-    sym (ascii (drop at text) (omega arith) (omega arith)) ∙ ap (λ (x : ℕ). Scalar x 1) z
-
 -- so the table has what is known of the character there
 pub read-ascii :
     (g : ℕ → ℕ) (s text table : List ℕ) (at : ℕ) (m : Memo) (r : Character) → Filled g table 128 → MemoOf s m → at < length text → getD text at 0 < 0x80

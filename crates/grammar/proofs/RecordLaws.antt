@@ -6,13 +6,10 @@ use native.Mathlib.Nat.{add-assoc, add-zero, zero-add}
 use native.Mathlib.Omega.{arith}
 use lib.ListN.{length}
 use Rattle.utf8.specs.Text.{Character, widthOf}
+use Rattle.utf8.proofs.TextLaws.{width-append}
 use Rattle.grammar.specs.Scan.{Tok, unitsOf}
 use Rattle.grammar.specs.Grammar.{Kind}
 use Rattle.grammar.specs.Record.{Record, recordSize, tokenWidth, tokensWidth, recordsFrom, wordsOf, listedWords}
-
-pub width-append : (u v : List Character) → widthOf (u ++ v) ≡ widthOf u + widthOf v
-width-append [] v = sym (zero-add (widthOf v))
-width-append (c ∷ u) v = rw (width-append u v, add-assoc (c .width) (widthOf u) (widthOf v))
 
 -- the bytes of tokens are those of their characters
 pub tokens-width : (ts : List (Tok Character Kind)) → tokensWidth ts ≡ widthOf (unitsOf ts)

@@ -21,11 +21,10 @@ use Rattle.utf8.specs.declared.Text.the-variants.{WellFormed, IllFormed as Bad}
 use Rattle.utf8.specs.Lead.{lengthOf, knownLength, isTrail}
 use Rattle.utf8.specs.Text.{Character, widthOf, decode, textOf, shift}
 use Rattle.utf8.proofs.SequenceLaws.{known-bounds, ill-at, end-empty}
-use Rattle.utf8.proofs.TextLaws.{step-bounds, known-length, decode-scalar, decode-ill, decode-empty, turn}
+use Rattle.utf8.proofs.TextLaws.{step-bounds, known-length, decode-scalar, decode-ill, decode-empty, turn, ascii-at}
 use Rattle.image.specs.Check.{refusalOf}
 use Rattle.character.specs.Read.{ReadAs}
 use Rattle.character.specs.declared.Character.{Character as Read}
-use Rattle.character.proofs.CharacterLaws.{ascii-at}
 use Rattle.hashtag.specs.Sign.{isSign, continues}
 use Rattle.hashtag.specs.Find.{runOf, hashtagsFrom}
 use Rattle.hashtag.specs.Seek.{charactersAt, hashtagsAt, continuesFirst, freeAt, stopOf, Stops, Passed, Skipped, signOf, Sought}

@@ -16,12 +16,11 @@ use Rattle.utf8.specs.declared.Step.{Step}
 use Rattle.utf8.specs.declared.Step.the-variants.{Scalar, IllFormed, End}
 use Rattle.utf8.specs.Head.{stepOf}
 use Rattle.utf8.specs.Lead.{packed}
-use Rattle.utf8.proofs.TextLaws.{step-bounds, first-byte}
+use Rattle.utf8.proofs.TextLaws.{step-bounds, first-byte, ascii-at}
 use Rattle.image.specs.Class.{classNamed}
 use Rattle.image.specs.Check.{refusalOf, classOf, hashtagOf}
 use Rattle.character.specs.Traits.{traitsOf}
 use Rattle.character.proofs.TraitLaws.{traits-class, traits-hashtag}
-use Rattle.character.proofs.CharacterLaws.{ascii-at}
 use Rattle.grammar.specs.Kinds.{isContinue}
 use Rattle.hashtag.specs.Sign.{isSign, isHashtagContinue}
 use Rattle.hashtag.specs.Seek.{signOf}

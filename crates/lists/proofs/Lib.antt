@@ -5,3 +5,4 @@ pub mod LaidLaws
 pub mod EachLaws
 pub mod WritingLaws
 pub mod SetLaws
+pub mod FilledLaws

@@ -9,6 +9,7 @@ use lib.ListN.{length}
 use lib.Dec.{leb}
 use Rattle.lists.proofs.BoolLaws.{impossible}
 use Rattle.utf8.specs.Text.{Character, widthOf}
+use Rattle.utf8.proofs.TextLaws.{width-append}
 use Rattle.image.specs.Class.{Class, Unassigned, Start, Nonstart, Syntax, White, Other, classNamed}
 use Rattle.image.specs.Check.{refusalOf}
 use Rattle.character.specs.Traits.{tokenTraits}
@@ -21,7 +22,6 @@ use Rattle.grammar.specs.Kinds.{kindNumber, isContinue, isWhite, kindOfClass, k
 use Rattle.grammar.specs.Record.{tokensWidth}
 use Rattle.grammar.specs.Reading.{meaningOf}
 use Rattle.grammar.proofs.GrammarLaws.{white-means}
-use Rattle.grammar.proofs.RecordLaws.{width-append}
 use Rattle.grammar.proofs.StepLaws.{Settles}
 use Rattle.scan.specs.Turns.{numberBy, traitMeaning, waitingOf, Phase, nothing, within, waits, waiting, states, phaseNamed, begunBy, turnBy, turnOf, afterOf, pendingBy, pendingOf, startBy}
 

@@ -17,14 +17,14 @@ use Rattle.utf8.specs.Subpart.{subpartOf}
 use Rattle.utf8.specs.Head.{stepOf, IllHead}
 use Rattle.utf8.specs.Text.{Character, decode, widthOf, textOf}
 use Rattle.utf8.proofs.SequenceLaws.{end-empty, ill-at, ill-not-empty}
-use Rattle.utf8.proofs.TextLaws.{step-bounds, decode-scalar, text-ill, text-end, well-rest, ill-rest, decode-covers, decode-before-ill}
+use Rattle.utf8.proofs.TextLaws.{step-bounds, decode-scalar, text-ill, text-end, well-rest, ill-rest, decode-covers, decode-before-ill, width-append}
 use Rattle.image.specs.Check.{refusalOf}
 use Rattle.grammar.specs.Scan.{Tok, unitsOf, reading}
 use Rattle.grammar.specs.Grammar.{Kind}
 use Rattle.grammar.specs.Record.{tokenWidth, tokensWidth}
 use Rattle.grammar.specs.Reading.{maxText, rulesOf, readingOf, tokensOf, lengthRefusal}
 use Rattle.grammar.proofs.ScanLaws.{reading-covers}
-use Rattle.grammar.proofs.RecordLaws.{width-append, tokens-width}
+use Rattle.grammar.proofs.RecordLaws.{tokens-width}
 use Rattle.scan.specs.declared.First.{First}
 use Rattle.scan.specs.declared.First.the-variants as first
 use Rattle.scan.specs.Counted.{stopRefusal}

@@ -1,6 +1,6 @@
 -- The step at the head of a text and the sequences of Table 3-7: each finds the other, and nothing else.
 -- Assumes nothing.
-use Prim.Native.Nat.{ℕ, zero, suc, _+_, _≤_, _<_}
+use Prim.Native.Nat.{ℕ, zero, suc, _+_, _/_, _≤_, _<_}
 use mathlib.Core.Path.{_≡_, refl, sym, ap, subst, _∙_}
 use mathlib.Core.Bool.{Bool, true, false, false≢true, cond}
 use mathlib.Core.List.{List, [], _∷_, _++_, append-nil}
@@ -93,7 +93,8 @@ pub record Right (q : List ℕ) : Type 0 where
   pub scalar : isScalar (codePoint q) ≡ true
   pub long : length q ≡ knownLength (getD q 0 0)
   pub ascii : codePoint q < 0x80 → getD q 0 0 ≡ codePoint q
-  pub high : 0xF000 ≤ codePoint q → codePoint q ≤ 0xFFFF → getD q 0 0 ≡ 0xEF
+  pub two : 0x80 ≤ codePoint q → codePoint q < 0x800 → getD q 0 0 ≡ 0xC0 + codePoint q / 0x40
+  pub three : 0x800 ≤ codePoint q → codePoint q < 0x10000 → getD q 0 0 ≡ 0xE0 + codePoint q / 0x1000
   pub first : isTrail (getD q 0 0) ≡ false
   pub others : (i : ℕ) → 0 < i → i < length q → isTrail (getD q i 0) ≡ true
 
@@ -130,23 +131,23 @@ three-others b c d e t u v (suc (suc (suc (suc i)))) h l = absurd (omega arith)
 -- one line for each row of the table
 right : (q : List ℕ) → FillsOne table q → Right q
 right q (inl f) =
-    row-1 Right _ (λ b u. record { scalar = low _ (omega arith); long = known-1 b (omega arith); ascii = λ h. refl; high = λ h l. absurd (omega arith); first = low-lead b (omega arith); others = λ i h l. absurd (omega arith) }) q f
+    row-1 Right _ (λ b u. record { scalar = low _ (omega arith); long = known-1 b (omega arith); ascii = λ h. refl; two = λ h l. absurd (omega arith); three = λ h l. absurd (omega arith); first = low-lead b (omega arith); others = λ i h l. absurd (omega arith) }) q f
 right q (inr (inl f)) =
-    row-2 Right _ _ (λ b c u v. record { scalar = low _ (omega arith); long = known-2 b (omega arith) (omega arith); ascii = λ h. absurd (omega arith); high = λ h l. absurd (omega arith); first = high-lead b (omega arith); others = one-other b c (trail c (omega arith) (omega arith)) }) q f
+    row-2 Right _ _ (λ b c u v. record { scalar = low _ (omega arith); long = known-2 b (omega arith) (omega arith); ascii = λ h. absurd (omega arith); two = λ h l. omega arith; three = λ h l. absurd (omega arith); first = high-lead b (omega arith); others = one-other b c (trail c (omega arith) (omega arith)) }) q f
 right q (inr (inr (inl f))) =
-    row-3 Right _ _ (λ b c d u v w. record { scalar = low _ (omega arith); long = known-3 b (omega arith) (omega arith); ascii = λ h. absurd (omega arith); high = λ h l. absurd (omega arith); first = high-lead b (omega arith); others = two-others b c d (trail c (omega arith) (omega arith)) (trail d (omega arith) (omega arith)) }) q f
+    row-3 Right _ _ (λ b c d u v w. record { scalar = low _ (omega arith); long = known-3 b (omega arith) (omega arith); ascii = λ h. absurd (omega arith); two = λ h l. absurd (omega arith); three = λ h l. omega arith; first = high-lead b (omega arith); others = two-others b c d (trail c (omega arith) (omega arith)) (trail d (omega arith) (omega arith)) }) q f
 right q (inr (inr (inr (inl f)))) =
-    row-3 Right _ _ (λ b c d u v w. record { scalar = low _ (omega arith); long = known-3 b (omega arith) (omega arith); ascii = λ h. absurd (omega arith); high = λ h l. absurd (omega arith); first = high-lead b (omega arith); others = two-others b c d (trail c (omega arith) (omega arith)) (trail d (omega arith) (omega arith)) }) q f
+    row-3 Right _ _ (λ b c d u v w. record { scalar = low _ (omega arith); long = known-3 b (omega arith) (omega arith); ascii = λ h. absurd (omega arith); two = λ h l. absurd (omega arith); three = λ h l. omega arith; first = high-lead b (omega arith); others = two-others b c d (trail c (omega arith) (omega arith)) (trail d (omega arith) (omega arith)) }) q f
 right q (inr (inr (inr (inr (inl f))))) =
-    row-3 Right _ _ (λ b c d u v w. record { scalar = low _ (omega arith); long = known-3 b (omega arith) (omega arith); ascii = λ h. absurd (omega arith); high = λ h l. absurd (omega arith); first = high-lead b (omega arith); others = two-others b c d (trail c (omega arith) (omega arith)) (trail d (omega arith) (omega arith)) }) q f
+    row-3 Right _ _ (λ b c d u v w. record { scalar = low _ (omega arith); long = known-3 b (omega arith) (omega arith); ascii = λ h. absurd (omega arith); two = λ h l. absurd (omega arith); three = λ h l. omega arith; first = high-lead b (omega arith); others = two-others b c d (trail c (omega arith) (omega arith)) (trail d (omega arith) (omega arith)) }) q f
 right q (inr (inr (inr (inr (inr (inl f)))))) =
-    row-3 Right _ _ (λ b c d u v w. record { scalar = high _ (omega arith) (omega arith); long = known-3 b (omega arith) (omega arith); ascii = λ h. absurd (omega arith); high = λ h l. omega arith; first = high-lead b (omega arith); others = two-others b c d (trail c (omega arith) (omega arith)) (trail d (omega arith) (omega arith)) }) q f
+    row-3 Right _ _ (λ b c d u v w. record { scalar = high _ (omega arith) (omega arith); long = known-3 b (omega arith) (omega arith); ascii = λ h. absurd (omega arith); two = λ h l. absurd (omega arith); three = λ h l. omega arith; first = high-lead b (omega arith); others = two-others b c d (trail c (omega arith) (omega arith)) (trail d (omega arith) (omega arith)) }) q f
 right q (inr (inr (inr (inr (inr (inr (inl f))))))) =
-    row-4 Right _ _ (λ b c d e u v w x. record { scalar = high _ (omega arith) (omega arith); long = known-4 b (omega arith); ascii = λ h. absurd (omega arith); high = λ h l. absurd (omega arith); first = high-lead b (omega arith); others = three-others b c d e (trail c (omega arith) (omega arith)) (trail d (omega arith) (omega arith)) (trail e (omega arith) (omega arith)) }) q f
+    row-4 Right _ _ (λ b c d e u v w x. record { scalar = high _ (omega arith) (omega arith); long = known-4 b (omega arith); ascii = λ h. absurd (omega arith); two = λ h l. absurd (omega arith); three = λ h l. absurd (omega arith); first = high-lead b (omega arith); others = three-others b c d e (trail c (omega arith) (omega arith)) (trail d (omega arith) (omega arith)) (trail e (omega arith) (omega arith)) }) q f
 right q (inr (inr (inr (inr (inr (inr (inr (inl f)))))))) =
-    row-4 Right _ _ (λ b c d e u v w x. record { scalar = high _ (omega arith) (omega arith); long = known-4 b (omega arith); ascii = λ h. absurd (omega arith); high = λ h l. absurd (omega arith); first = high-lead b (omega arith); others = three-others b c d e (trail c (omega arith) (omega arith)) (trail d (omega arith) (omega arith)) (trail e (omega arith) (omega arith)) }) q f
+    row-4 Right _ _ (λ b c d e u v w x. record { scalar = high _ (omega arith) (omega arith); long = known-4 b (omega arith); ascii = λ h. absurd (omega arith); two = λ h l. absurd (omega arith); three = λ h l. absurd (omega arith); first = high-lead b (omega arith); others = three-others b c d e (trail c (omega arith) (omega arith)) (trail d (omega arith) (omega arith)) (trail e (omega arith) (omega arith)) }) q f
 right q (inr (inr (inr (inr (inr (inr (inr (inr (inl f))))))))) =
-    row-4 Right _ _ (λ b c d e u v w x. record { scalar = high _ (omega arith) (omega arith); long = known-4 b (omega arith); ascii = λ h. absurd (omega arith); high = λ h l. absurd (omega arith); first = high-lead b (omega arith); others = three-others b c d e (trail c (omega arith) (omega arith)) (trail d (omega arith) (omega arith)) (trail e (omega arith) (omega arith)) }) q f
+    row-4 Right _ _ (λ b c d e u v w x. record { scalar = high _ (omega arith) (omega arith); long = known-4 b (omega arith); ascii = λ h. absurd (omega arith); two = λ h l. absurd (omega arith); three = λ h l. absurd (omega arith); first = high-lead b (omega arith); others = three-others b c d e (trail c (omega arith) (omega arith)) (trail d (omega arith) (omega arith)) (trail e (omega arith) (omega arith)) }) q f
 
 pub sequence-right : (q : List ℕ) → Sequence q → Right q
 unfolding Sequence

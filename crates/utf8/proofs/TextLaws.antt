@@ -3,8 +3,8 @@
 use Prim.Native.Nat.{ℕ, zero, suc, _+_, _*_, _/_, _%_, _≤_, _<_}
 use mathlib.Core.Path.{_≡_, refl, sym, ap, subst, _∙_}
 use mathlib.Core.Bool.{true, false}
-use mathlib.Core.List.{List, [], _∷_}
-use native.Mathlib.Nat.{add-assoc}
+use mathlib.Core.List.{List, [], _∷_, _++_}
+use native.Mathlib.Nat.{add-assoc, zero-add}
 use native.Mathlib.Omega.{arith}
 use lib.ListN.{length, take, drop, getD, length-append, length-take, length-drop, take-append-drop, drop-of-length-le}
 use lib.Seq.{drop-drop, drop-append-seam, getD-drop, getD-take}
@@ -30,6 +30,7 @@ use Rattle.utf8.specs.Text.{
   textBy,
   textOf,
   shift,
+  charactersAt,
   characterOf,
   Encoded,
   ends,
@@ -77,7 +78,8 @@ step-bounds s x n e =
 pub record FirstByte (s : List ℕ) (x n : ℕ) : Type 0 where
   pub long : n ≡ knownLength (getD s 0 0)
   pub ascii : x < 0x80 → getD s 0 0 ≡ x
-  pub high : 0xF000 ≤ x → x ≤ 0xFFFF → getD s 0 0 ≡ 0xEF
+  pub two : 0x80 ≤ x → x < 0x800 → getD s 0 0 ≡ 0xC0 + x / 0x40
+  pub three : 0x800 ≤ x → x < 0x10000 → getD s 0 0 ≡ 0xE0 + x / 0x1000
   pub first : isTrail (getD s 0 0) ≡ false
   pub others : (i : ℕ) → 0 < i → i < n → isTrail (getD s i 0) ≡ true
 
@@ -90,7 +92,8 @@ first-byte s x n e =
     record {
       long = f .long ∙ r .long ∙ ap knownLength b;
       ascii = λ h. sym b ∙ r .ascii (omega arith) ∙ sym c;
-      high = λ h l. sym b ∙ r .high (omega arith) (omega arith);
+      two = λ h l. sym b ∙ r .two (omega arith) (omega arith) ∙ ap (λ (k : ℕ). 0xC0 + k / 0x40) (sym c);
+      three = λ h l. sym b ∙ r .three (omega arith) (omega arith) ∙ ap (λ (k : ℕ). 0xE0 + k / 0x1000) (sym c);
       first = ap isTrail (sym b) ∙ r .first;
       others = λ i h l. ap isTrail (sym (getD-take n s i 0 l)) ∙ r .others i h (let m = f .long in omega arith);
     }
@@ -316,12 +319,15 @@ turn s at x n h e =
           ∙ shift-shift at n (textOf (drop (at + n) s));
     }
 
-pub ascii-turn : (s : List ℕ) (at : ℕ) → at < length s → getD s at 0 < 0x80 → Turn s at 1
-ascii-turn s at h b =
+-- a byte below 80 is its own code point
+pub ascii-at : (s : List ℕ) (at : ℕ) → at < length s → getD s at 0 < 0x80 → stepOf (drop at s) ≡ Scalar (getD s at 0) 1
+ascii-at s at h b =
     let l = length-drop at s in
-    let g = getD-drop at s 0 0 in
-    let z : getD s (at + 0) 0 ≡ getD s at 0 = ap (λ (k : ℕ). getD s k 0) (let q : at + 0 ≡ at = omega arith in q) in
-    turn s at (codePoint (getD (drop at s) 0 0 ∷ [])) 1 (omega arith) (sym (ascii (drop at s) (omega arith) (omega arith)))
+    let z : getD (drop at s) 0 0 ≡ getD s at 0 = getD-drop at s 0 0 ∙ ap (λ (k : ℕ). getD s k 0) (let q : at + 0 ≡ at = omega arith in q) in
+    sym (ascii (drop at s) (omega arith) (omega arith)) ∙ ap (λ (x : ℕ). Scalar x 1) z
+
+pub ascii-turn : (s : List ℕ) (at : ℕ) → at < length s → getD s at 0 < 0x80 → Turn s at 1
+ascii-turn s at h b = turn s at (getD s at 0) 1 (omega arith) (ascii-at s at h b)
 
 pub ill-here : (s : List ℕ) (at : ℕ) → IllHead (drop at s) → shift at (textOf (drop at s)) ≡ text.IllFormed at (subpartOf (drop at s))
 ill-here s at e =
@@ -330,3 +336,22 @@ ill-here s at e =
 
 pub end-here : (s : List ℕ) (at : ℕ) → length s ≤ at → shift at (textOf (drop at s)) ≡ text.WellFormed
 end-here s at h = ap (shift at) (text-end (drop at s) (drop-of-length-le s h))
+
+-- the characters from a place on: past the sequence there, or none
+pub characters-step :
+    (s : List ℕ) (at x n : ℕ) → stepOf (drop at s) ≡ Scalar x n
+    → charactersAt s at ≡ record { code = x; width = n } ∷ charactersAt s (at + n)
+characters-step s at x n e =
+    ap (λ (d : Decoded). d .characters) (decode-scalar (drop at s) x n e)
+    ∙ ap (λ (u : List ℕ). record { code = x; width = n } ∷ decode u .characters) (drop-drop n at s)
+
+pub characters-ill : (s : List ℕ) (at : ℕ) → IllHead (drop at s) → charactersAt s at ≡ []
+characters-ill s at e = ap (λ (d : Decoded). d .characters) (decode-ill (drop at s) e)
+
+pub characters-end : (s : List ℕ) (at : ℕ) → length s ≤ at → charactersAt s at ≡ []
+characters-end s at h = ap (λ (u : List ℕ). decode u .characters) (drop-of-length-le s h) ∙ ap (λ (d : Decoded). d .characters) decode-empty
+
+-- the bytes of characters, and of more
+pub width-append : (u v : List Character) → widthOf (u ++ v) ≡ widthOf u + widthOf v
+width-append [] v = sym (zero-add (widthOf v))
+width-append (c ∷ u) v = rw (width-append u v, add-assoc (c .width) (widthOf u) (widthOf v))

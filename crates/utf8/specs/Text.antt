@@ -42,6 +42,10 @@ decodeIn (suc k) s = decodeBy (decodeIn k) s (stepOf s)
 unfoldable pub decode : List ℕ → Decoded
 decode s = decodeIn (length s) s
 
+-- the characters from a place on
+abbrev pub charactersAt : List ℕ → ℕ → List Character
+charactersAt s at = decode (drop at s) .characters
+
 -- the bytes of characters
 abbrev pub widthOf : List Character → ℕ
 widthOf [] = 0

@@ -1,0 +1,29 @@
+-- What the first byte of a character tells of line ends (docs/RULES.md, "Lines").
+use Prim.Native.Nat.{ℕ, _+_}
+use mathlib.Core.Bool.{cond}
+use mathlib.Core.List.{List}
+use lib.Dec.{ltb, eqb}
+use lib.ListN.{drop}
+use Rattle.lists.specs.Filled.{Filled}
+use Rattle.utf8.specs.declared.Step.{Step}
+use Rattle.utf8.specs.declared.Step.the-variants.{Scalar, IllFormed, End}
+use Rattle.utf8.specs.Head.{stepOf}
+use Rattle.utf8.specs.Text.{charactersAt}
+use Rattle.line.specs.Line.{one, endsLine}
+
+-- no line ends with the character, 0; one does, 1; its code point is to be looked at, 2
+abbrev pub endOf : ℕ → ℕ
+endOf b = cond (ltb b 0x0A) 0 (cond (ltb b 0x0D) 1 (cond (eqb b 0x0D) 2 (cond (eqb b 0xC2) 2 (cond (eqb b 0xE2) 2 0))))
+
+-- the table of all bytes
+abbrev pub EndsOf : List ℕ → Type 0
+EndsOf t = Filled 256 endOf t 256
+
+-- 1 where a line ends with the character at a place, else 0
+abbrev pub endBy : List ℕ → ℕ → Step → ℕ
+endBy text at (Scalar x n) = one (endsLine x (charactersAt text (at + n)))
+endBy text at (IllFormed n) = 0
+endBy text at End = 0
+
+unfoldable pub endAt : List ℕ → ℕ → ℕ
+endAt text at = endBy text at (stepOf (drop at text))

@@ -1,0 +1,42 @@
+-- The lines of a text (docs/RULES.md, "Lines"). They are a matter of its code points alone, whatever class or role these have.
+use Prim.Native.Nat.{ℕ, _+_, _-_}
+use mathlib.Core.Path.{_≡_}
+use mathlib.Core.Bool.{Bool, true, false, not, _&&_, _||_, cond}
+use mathlib.Core.List.{List, [], _∷_, _++_}
+use lib.Dec.{leb, eqb}
+use Rattle.utf8.specs.Text.{Character, decode, charactersAt, widthOf}
+
+-- the code points that end a line: LINE FEED, LINE TABULATION, FORM FEED, CARRIAGE RETURN, NEXT LINE, LINE SEPARATOR, PARAGRAPH SEPARATOR
+unfoldable pub isLineEnd : ℕ → Bool
+isLineEnd x = eqb x 0x0A || (eqb x 0x0B || (eqb x 0x0C || (eqb x 0x0D || (eqb x 0x85 || (eqb x 0x2028 || eqb x 0x2029)))))
+
+-- whether LINE FEED is the first of characters
+abbrev pub feeds : List Character → Bool
+feeds [] = false
+feeds (c ∷ r) = eqb (c .code) 0x0A
+
+-- whether a line ends with the code point x, where the characters r follow it: with CARRIAGE RETURN it doesn't if LINE FEED is right
+-- after it, since the line ends with that
+unfoldable pub endsLine : ℕ → List Character → Bool
+endsLine x r = isLineEnd x && not (eqb x 0x0D && feeds r)
+
+abbrev pub one : Bool → ℕ
+one true = 1
+one false = 0
+
+-- how many line ends of the characters have their last byte among the first n bytes
+unfoldable pub lineEnds : ℕ → List Character → ℕ
+lineEnds n [] = 0
+lineEnds n (c ∷ r) = cond (leb (c .width) n) (one (endsLine (c .code) r) + lineEnds (n - c .width) r) 0
+
+-- the line of byte p of a text: one more than the number of line ends whose last byte stands before it. Where the text is ill-formed,
+-- the characters up to the first such place count
+unfoldable pub lineOf : List ℕ → ℕ → ℕ
+lineOf text p = 1 + lineEnds p (decode text .characters)
+
+-- a place between the characters of a text, and its line
+pub record LineAt (text : List ℕ) (at line : ℕ) : Type 0 where
+  pub before : List Character
+  pub parted : decode text .characters ≡ before ++ charactersAt text at
+  pub wide : widthOf before ≡ at
+  pub same : line ≡ lineOf text at
