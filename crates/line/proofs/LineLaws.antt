@@ -5,7 +5,7 @@ use mathlib.Core.Bool.{Bool, true, false, _&&_, _||_, cond}
 use mathlib.Core.List.{List, [], _∷_, _++_, append-assoc}
 use mathlib.Core.Logic.{_⊎_, inl, inr}
 use native.Mathlib.Omega.{arith}
-use native.Mathlib.Decide.{decLt, decEq}
+use native.Mathlib.Decide.{decLt}
 use lib.ListN.{length, getD, drop, length-append}
 use lib.Seq.{getD-drop}
 use lib.Dec.{leb, ltb, eqb}
@@ -13,7 +13,7 @@ use borrow.Author.Tests.{eq-eqb, ne-eqb, eqb-true, lt-ltb, le-ltb, le-leb, lt-le
 use Rattle.lists.proofs.BoolLaws.{impossible, or-cases}
 use Rattle.utf8.specs.declared.Step.{Step}
 use Rattle.utf8.specs.declared.Step.the-variants.{Scalar, IllFormed, End}
-use Rattle.utf8.specs.Head.{stepOf}
+use Rattle.utf8.specs.Head.{stepOf, IllHead}
 use Rattle.utf8.specs.Text.{Character, decode, charactersAt, widthOf}
 use Rattle.utf8.proofs.SequenceLaws.{ill-at, end-empty}
 use Rattle.utf8.proofs.TextLaws.{step-bounds, first-byte, decode-scalar, decode-ill, decode-end, characters-few, ascii-at, characters-step, characters-end, width-append}
@@ -89,7 +89,7 @@ module _ (text : List ℕ) where
   feeds-end at h = ap feeds (characters-end text at h)
 
   pub feeds-byte : (at : ℕ) → at < length text → feeds (charactersAt text at) ≡ eqb (getD text at 0) 0x0A
-  feeds-byte at h = go (decEq (getD text at 0) 0x0A)
+  feeds-byte at h = go (eqb (getD text at 0) 0x0A) refl
     where
       by : (getD text at 0 ≡ 0x0A → ⊥) → (t : Step) → stepOf (drop at text) ≡ t → feeds (charactersAt text at) ≡ false
       by n (Scalar x k) e =
@@ -98,10 +98,11 @@ module _ (text : List ℕ) where
       by n (IllFormed k) e = ap (λ d. feeds (d .characters)) (decode-ill (drop at text) (ill-at (drop at text) k e))
       by n End e = ap (λ d. feeds (d .characters)) (decode-end (drop at text) e)
 
-      go : Dec (getD text at 0 ≡ 0x0A) → feeds (charactersAt text at) ≡ eqb (getD text at 0) 0x0A
-      go (yes e) =
+      go : (b : Bool) → eqb (getD text at 0) 0x0A ≡ b → feeds (charactersAt text at) ≡ eqb (getD text at 0) 0x0A
+      go true e =
+          let b = eqb-true (getD text at 0) 0x0A e in
           ap feeds (characters-step text at (getD text at 0) 1 (ascii-at text at h (omega arith)))
-      go (no n) = by n (stepOf (drop at text)) refl ∙ sym (ne-eqb (getD text at 0) 0x0A n)
+      go false e = by (λ q. impossible (cc (eq-eqb (getD text at 0) 0x0A q))) (stepOf (drop at text)) refl ∙ sym e
 
   -- what the first byte of a character tells
   module _ (at x n : ℕ) (e : stepOf (drop at text) ≡ Scalar x n) where
@@ -132,7 +133,7 @@ module _ (text : List ℕ) where
     one-range : endOf b ≡ 1 → (0x0A ≤ b) × (b < 0x0D)
     one-range z = go (decLt b 0x0A) (decLt b 0x0D)
       where
-        others : (c d f : Bool) → cond c 2 (cond d 2 (cond f 2 0)) ≡ 1 → ⊥
+        others : (c d f : Bool) → _≡_ {A = ℕ} (cond c 2 (cond d 2 (cond f 2 0))) 1 → ⊥
         others true d f q = absurd (omega arith)
         others false true f q = absurd (omega arith)
         others false false true q = absurd (omega arith)
@@ -157,6 +158,10 @@ module _ (text : List ℕ) where
     pub end-at : endAt text at ≡ one (endsLine x (charactersAt text (at + n)))
     unfolding endAt
     end-at = rw e
+
+  pub end-none : (at : ℕ) → IllHead (drop at text) → endAt text at ≡ 0
+  unfolding endAt
+  end-none at e = rw e
 
 -- line ends among the first bytes of characters
 ends-none : (text : List ℕ) (at : ℕ) → lineEnds 0 (charactersAt text at) ≡ 0

@@ -72,7 +72,7 @@ fn look(text: &[u8], code: u32, next: usize) -> u32
 }
 
 // What the first byte of a character tells: no line ends with it, 0; one does, 1; else LOOK.
-fn tell_end(b: usize) -> u8
+pub fn tell_end(b: usize) -> u8
     ensures { λ r. ⌜ r ≡ endOf b ⌝ }
 {
     if b < LINE_FEED as usize {
@@ -106,19 +106,21 @@ pub fn fill_ends() -> [u8; 256]
     ends
 }
 
+// What the table has for a byte.
+fn read_end(ends: &[u8; 256], b: u8) -> u8
+    requires { ⌜ EndsOf (now ends) ⌝ }
+    ensures { λ r. ⌜ r ≡ endOf b ⌝ }
+{
+    ends[b as usize]
+}
+
 // 1 where a line ends with the character at a place, of this code point and length, else 0. The table tells it of most.
-pub fn count_end<'a>(
-    ends: &'a [u8; 256],
-    text: &'a [u8],
-    at: usize,
-    code: u32,
-    len: usize,
-) -> u32
+pub fn count_end<'a>(ends: &'a [u8; 256], text: &'a [u8], at: usize, code: u32, len: usize) -> u32
     requires { ⌜ EndsOf (now ends) ⌝ }
     requires { ⌜ (at < length (now text)) × (stepOf (drop at (now text)) ≡ Scalar code len) ⌝ }
     ensures { λ r. ⌜ r ≡ one (endsLine code (charactersAt (now (text .entry)) (at + len))) ⌝ }
 {
-    let end = ends[text[at] as usize];
+    let end = read_end(ends, text[at]);
     if end < LOOK {
         return end as u32;
     }

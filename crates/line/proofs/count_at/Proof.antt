@@ -1,35 +1,27 @@
+-- `line::count_at` meets its contract. Assumes nothing.
+use mathlib.Core.Path.{sym, _∙_}
+use native.Mathlib.Omega.{arith}
 use borrow.Author.Needs.{needs}
+use lib.ListN.{drop, length-drop}
+use Rattle.utf8.proofs.TextLaws.{Unpacked, unpacked}
+use Rattle.line.proofs.LineLaws.{end-at, end-none}
 use Rattle.line.proofs.count_at.Statement.{statement}
 use Rattle.line.proofs.count_at.Tie as tie
-use Rattle.line.proofs.count_at.Reads as reads
-use Rattle.line.proofs.count_at.Lts as lts
-use Rattle.line.proofs.look.Reads as look-reads
-use Rattle.utf8.proofs.decode_packed.Reads as decode-packed-reads
 
--- src/lib.rt:133:9
-decode-packed-requires : tie.Need-decode-packed-requires
-decode-packed-requires c κs = search needs
+-- what the packed sequence tells
+told : (c : tie.After-decode-packed) → Unpacked (drop (c .before .before .args .at) (c .before .before .args .text .now)) (c .decode-packed .result)
+told c =
+    let a = c .before .before .args in
+    unpacked (drop (a .at) (a .text .now)) _ (c .decode-packed .ensures) (omega (arith, c .before .before .pre, length-drop (a .at) (a .text .now)))
 
--- src/lib.rt:136:9
 returns : tie.Need-returns
-returns c = ?
+returns c = sym (end-none _ _ (told (c .before) .none (c .if1 .taken)))
 
--- src/lib.rt:138:16
 cast-look : tie.Need-cast-look
-cast-look c = ?
+cast-look c = omega (arith, told (c .before) .small)
 
--- src/lib.rt:138:37
-add-look : tie.Need-add-look
-add-look c = search needs
-
--- src/lib.rt:138:5
-look-requires : tie.Need-look-requires
-look-requires c κs = search needs
-
--- src/lib.rt:129:1
 returns-2 : tie.Need-returns-2
-returns-2 c = ?
+returns-2 c = c .look .ensures ∙ sym (end-at _ _ _ _ (told (c .before .before) .some (omega (arith, c .before .if1 .left))))
 
 pub count-at-spec : {M : Type 1} → statement M
-count-at-spec =
-    tie.close (tie.spec decode-packed-requires returns cast-look add-look look-requires returns-2)
+count-at-spec = tie.close (tie.spec (λ c κs. search needs) returns cast-look (λ c. search needs) (λ c κs. search needs) returns-2)

@@ -1,24 +1,15 @@
+-- `line::feeds_at` meets its contract. Assumes nothing.
+use mathlib.Core.Path.{sym}
 use borrow.Author.Needs.{needs}
+use Rattle.line.proofs.LineLaws.{feeds-end, feeds-byte}
 use Rattle.line.proofs.feeds_at.Statement.{statement}
 use Rattle.line.proofs.feeds_at.Tie as tie
-use Rattle.line.proofs.feeds_at.Reads as reads
-use Rattle.line.proofs.feeds_at.Lts as lts
 
--- src/lib.rt:53:9
 returns : tie.Need-returns
-returns c = ?
+returns c = sym (feeds-end _ _ (c .if1 .taken))
 
--- src/lib.rt:55:5
-shared-slice-read-result : tie.Need-shared-slice-read-result
-shared-slice-read-result c = search needs
-
--- src/lib.rt:55:17
-cast-result : tie.Need-cast-result
-cast-result c = search needs
-
--- src/lib.rt:49:1
 returns-2 : tie.Need-returns-2
-returns-2 c = ?
+returns-2 c = sym (feeds-byte _ _ (c .before .if1 .left))
 
 pub feeds-at-spec : {M : Type 1} → statement M
-feeds-at-spec = tie.close (tie.spec returns shared-slice-read-result cast-result returns-2)
+feeds-at-spec = tie.close (tie.spec returns (λ c. search needs) (λ c. search needs) returns-2)

@@ -1,53 +1,36 @@
+-- `line::fill_ends` meets its contract. Assumes nothing.
+use Prim.Native.Nat.{_-_, _≤_}
+use mathlib.Core.Path.{refl}
+use native.Mathlib.Omega.{arith}
+use Rattle.lists.specs.Filled.{Filled}
+use Rattle.lists.proofs.FilledLaws.{filled-none, filled-more, filled-all}
+use Rattle.line.specs.Ends.{endOf}
 use Rattle.line.proofs.fill_ends.Statement.{statement}
 use Rattle.line.proofs.fill_ends.Tie as tie
-use Rattle.line.proofs.fill_ends.Reads as reads
-use Rattle.line.proofs.fill_ends.Lts as lts
-use Rattle.line.proofs.tell_end.Reads as tell-end-reads
 
 abbrev Inv-loop : tie.InvT-loop
-Inv-loop ends₀ i₀ ends i = ?
+Inv-loop ends₀ i₀ ends i = (i ≤ 256) × Filled 256 endOf ends i
 
 abbrev μ-loop : tie.MeasureT-loop
-μ-loop ends₀ i₀ ends i = ?
+μ-loop ends₀ i₀ ends i = 256 - i
 
--- src/lib.rt:102:5
 loop-holds : tie.Need-loop-holds Inv-loop μ-loop
-loop-holds c = ?
+loop-holds c = (omega arith, filled-none refl)
 
--- src/lib.rt:103:19
-tell-end-requires : tie.Need-tell-end-requires Inv-loop μ-loop
-tell-end-requires c κs = ?
-
--- src/lib.rt:103:9
 array-write-ends : tie.Need-array-write-ends Inv-loop μ-loop
-array-write-ends c = ?
+array-write-ends c = c .before .loop-test .taken
 
--- src/lib.rt:104:9
 add-i : tie.Need-add-i Inv-loop μ-loop
-add-i c = ?
+add-i c = omega (arith, c .before .loop-test .taken)
 
--- src/lib.rt:102:5
 loop-less : tie.Need-loop-less Inv-loop μ-loop
-loop-less c = ?
+loop-less c = omega (arith, c .before .loop-test .taken)
 
--- src/lib.rt:102:5
 loop-again : tie.Need-loop-again Inv-loop μ-loop
-loop-again c = ?
+loop-again c = (omega (arith, c .before .loop-test .taken), filled-more _ (c .before .loop-test .taken) (c .before .before .loop .inv .1) (c .tell-end .ensures))
 
--- src/lib.rt:97:1
 returns : tie.Need-returns Inv-loop μ-loop
-returns c = ?
+returns c = filled-all (c .before .loop .inv .1) (c .loop-test .left)
 
 pub fill-ends-spec : {M : Type 1} → statement M
-fill-ends-spec =
-    tie.close
-    (tie.spec
-    Inv-loop
-    μ-loop
-    loop-holds
-    tell-end-requires
-    array-write-ends
-    add-i
-    loop-less
-    loop-again
-    returns)
+fill-ends-spec = tie.close (tie.spec Inv-loop μ-loop loop-holds (λ c κs. tt) array-write-ends add-i loop-less loop-again returns)
