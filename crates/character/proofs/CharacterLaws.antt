@@ -9,6 +9,8 @@ use native.Mathlib.Omega.{arith}
 use native.Mathlib.Decide.{decLt}
 use lib.ListN.{length, getD, set, drop, length-set, length-drop}
 use lib.Seq.{getD-set-same, getD-set-other, getD-drop}
+use Rattle.lists.specs.Filled.{Filled}
+use Rattle.lists.proofs.FilledLaws.{filled-more}
 use Rattle.image.specs.Profile.{afterRole, isMedial, isHashtag}
 use Rattle.image.specs.Check.{refusalOf, hashtagOf}
 use Rattle.image.specs.declared.Range.{Range}
@@ -21,9 +23,9 @@ use Rattle.utf8.specs.declared.Step.the-variants.{Scalar}
 use Rattle.utf8.specs.Head.{stepOf}
 use Rattle.utf8.proofs.LeadLaws.{ascii}
 use Rattle.character.specs.Traits.{medialPart, hashtagPart, tokenTraits, traitsOf}
-use Rattle.utf8.proofs.TextLaws.{Unpacked}
+use Rattle.utf8.proofs.TextLaws.{Unpacked, ascii-at}
 use Rattle.character.specs.Stretch.{StretchOf}
-use Rattle.character.specs.Read.{MemoOf, MemoAt, Filled, Settled, asciiCharacter, ReadBy, ReadAs}
+use Rattle.character.specs.Read.{MemoOf, MemoAt, Settled, asciiCharacter, ReadBy, ReadAs}
 use Rattle.character.specs.declared.Character.{Character}
 use Rattle.character.specs.declared.Memo.{Memo}
 use Rattle.character.specs.declared.Stretch.{Stretch}
@@ -79,43 +81,24 @@ memo-of s x c r m f g h l e =
           traits-by s y ∙ (λ i. joined (q i) (p i)) ∙ sym e;
     }
 
--- one more place of the table
-pub filled-more : (g : ℕ → ℕ) (t : List ℕ) (k v : ℕ) → k < 128 → Filled g t k → v ≡ g k → Filled g (set t k v) (k + 1)
-filled-more g t k v h f e =
-    record {
-      long = length-set t k v ∙ f .long;
-      each = λ y l. go y l (decLt y k);
-    }
-  where
-    go : (y : ℕ) → y < k + 1 → Dec (y < k) → getD (set t k v) y 0 ≡ g y
-    go y l (yes p) = getD-set-other t k y v 0 (λ q. absurd (omega arith)) ∙ f .each y p
-    go y l (no p) =
-        let q : y ≡ k = omega arith in
-        let b = f .long in
-        ap (λ (j : ℕ). getD (set t k v) j 0) q ∙ getD-set-same t k v 0 (omega arith) ∙ e ∙ ap g (sym q)
-
--- .. and the last one
-pub filled-all : {g : ℕ → ℕ} {t : List ℕ} {k : ℕ} → Filled g t k → 128 ≤ k → Filled g t 128
-filled-all f h = record { long = f .long; each = λ y l. f .each y (omega arith) }
-
 -- the table while what the token rules know takes the place of the traits: before k it has
 pub record Cut (s t : List ℕ) (k : ℕ) : Type 0 where
-  pub cut : Filled (tokenTraits s) t k
+  pub cut : Filled 128 (tokenTraits s) t k
   pub rest : (y : ℕ) → k ≤ y → y < 128 → getD t y 0 ≡ traitsOf s y
 
-pub cut-begins : (s t : List ℕ) → Filled (traitsOf s) t 128 → Cut s t 0
+pub cut-begins : (s t : List ℕ) → Filled 128 (traitsOf s) t 128 → Cut s t 0
 cut-begins s t f = record { cut = record { long = f .long; each = λ y l. absurd (omega arith) }; rest = λ y _ l. f .each y l }
 
 pub cut-more : (s t : List ℕ) (k : ℕ) → refusalOf s ≡ none → k < 128 → Cut s t k → Cut s (set t k (getD t k 0 % 16)) (k + 1)
 cut-more s t k a h c =
     record {
-      cut = filled-more (tokenTraits s) t k (getD t k 0 % 16) h (c .cut) (ap (λ (v : ℕ). v % 16) (c .rest k (omega arith) h) ∙ token-traits s k a);
+      cut = filled-more (getD t k 0 % 16) h (c .cut) (ap (λ (v : ℕ). v % 16) (c .rest k (omega arith) h) ∙ token-traits s k a);
       rest = λ y l u. getD-set-other t k y (getD t k 0 % 16) 0 (λ q. absurd (omega arith)) ∙ c .rest y (omega arith) u;
     }
 
 -- so the table has what is known of the character there
 pub read-ascii :
-    (g : ℕ → ℕ) (s text table : List ℕ) (at : ℕ) (m : Memo) (r : Character) → Filled g table 128 → MemoOf s m → at < length text → getD text at 0 < 0x80
+    (g : ℕ → ℕ) (s text table : List ℕ) (at : ℕ) (m : Memo) (r : Character) → Filled 128 g table 128 → MemoOf s m → at < length text → getD text at 0 < 0x80
     → r ≡ asciiCharacter (getD text at 0) (getD table (getD text at 0) 0) m → ReadBy g s text at r
 read-ascii g s text table at m r f a h b e =
     rw e (record { memo = a; none = λ z. absurd (omega arith); some = λ _. (ascii-at text at h b, f .each _ b) })

@@ -2,7 +2,8 @@
 use Prim.Native.Nat.{ℕ, _/_, _%_, _≤_, _<_}
 use mathlib.Core.Path.{_≡_}
 use mathlib.Core.List.{List}
-use lib.ListN.{length, getD, drop}
+use lib.ListN.{length, drop}
+use Rattle.lists.specs.Filled.{Filled}
 use Rattle.utf8.specs.declared.Step.the-variants.{Scalar}
 use Rattle.utf8.specs.Head.{stepOf, IllHead}
 use Rattle.character.specs.Traits.{tokenTraits, traitsOf}
@@ -19,17 +20,12 @@ pub record MemoAt (s : List ℕ) (x : ℕ) (m : Memo) : Type 0 where
   pub to : x ≤ m .last
   pub all : MemoOf s m
 
--- the first k places of the table hold what f gives the code points below k
-pub record Filled (f : ℕ → ℕ) (t : List ℕ) (k : ℕ) : Type 0 where
-  pub long : length t ≡ 128
-  pub each : (y : ℕ) → y < k → getD t y 0 ≡ f y
-
 -- the table holds the traits of ASCII, or what the token rules know
 abbrev pub TableOf : List ℕ → List ℕ → Type 0
-TableOf s t = Filled (traitsOf s) t 128
+TableOf s t = Filled 128 (traitsOf s) t 128
 
 abbrev pub TokenTableOf : List ℕ → List ℕ → Type 0
-TokenTableOf s t = Filled (tokenTraits s) t 128
+TokenTableOf s t = Filled 128 (tokenTraits s) t 128
 
 -- the character of a packed sequence, 8 times its code point and its length: the length, the code point and its traits
 pub record Settled (s : List ℕ) (packed : ℕ) (r : Character) : Type 0 where

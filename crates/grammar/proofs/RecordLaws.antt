@@ -16,31 +16,31 @@ pub tokens-width : (ts : List (Tok Character Kind)) → tokensWidth ts ≡ width
 tokens-width [] = refl
 tokens-width (t ∷ ts) = rw (width-append (t .units) (unitsOf ts), tokens-width ts)
 
-pub length-records : (p : ℕ) (ts : List (Tok Character Kind)) → length (recordsFrom p ts) ≡ length ts
-length-records p [] = refl
-length-records p (t ∷ ts) = let h = length-records (p + tokenWidth t) ts in omega arith
+pub length-records : (text : List ℕ) (p : ℕ) (ts : List (Tok Character Kind)) → length (recordsFrom text p ts) ≡ length ts
+length-records text p [] = refl
+length-records text p (t ∷ ts) = let h = length-records text (p + tokenWidth t) ts in omega arith
 
 pub length-words : (rs : List Record) → length (wordsOf rs) ≡ recordSize * length rs
 length-words [] = refl
 length-words (r ∷ rs) = let h = length-words rs in omega arith
 
-pub length-listed : (ts : List (Tok Character Kind)) → length (listedWords ts) ≡ recordSize * length ts
-length-listed ts = length-words (recordsFrom 0 ts) ∙ ap (λ (n : ℕ). recordSize * n) (length-records 0 ts)
+pub length-listed : (text : List ℕ) (ts : List (Tok Character Kind)) → length (listedWords text ts) ≡ recordSize * length ts
+length-listed text ts = length-words (recordsFrom text 0 ts) ∙ ap (λ (n : ℕ). recordSize * n) (length-records text 0 ts)
 
 pub tokens-append : (ts us : List (Tok Character Kind)) → tokensWidth (ts ++ us) ≡ tokensWidth ts + tokensWidth us
 tokens-append [] us = sym (zero-add (tokensWidth us))
 tokens-append (t ∷ ts) us = rw (tokens-append ts us, add-assoc)
 
-pub records-append : (p : ℕ) (ts us : List (Tok Character Kind)) → recordsFrom p (ts ++ us) ≡ recordsFrom p ts ++ recordsFrom (p + tokensWidth ts) us
-records-append p [] us = rw add-zero
-records-append p (t ∷ ts) us = rw (records-append (p + tokenWidth t) ts us, add-assoc p (tokenWidth t) (tokensWidth ts))
+pub records-append : (text : List ℕ) (p : ℕ) (ts us : List (Tok Character Kind)) → recordsFrom text p (ts ++ us) ≡ recordsFrom text p ts ++ recordsFrom text (p + tokensWidth ts) us
+records-append text p [] us = rw add-zero
+records-append text p (t ∷ ts) us = rw (records-append text (p + tokenWidth t) ts us, add-assoc p (tokenWidth t) (tokensWidth ts))
 
 words-append : (rs qs : List Record) → wordsOf (rs ++ qs) ≡ wordsOf rs ++ wordsOf qs
 words-append [] qs = refl
 words-append (r ∷ rs) qs = rw (words-append rs qs)
 
 -- the list of tokens, then of more
-pub listed-append : (ts us : List (Tok Character Kind)) → listedWords (ts ++ us) ≡ listedWords ts ++ wordsOf (recordsFrom (tokensWidth ts) us)
-listed-append ts us =
-    ap wordsOf (records-append 0 ts us ∙ ap (λ (n : ℕ). recordsFrom 0 ts ++ recordsFrom n us) (zero-add (tokensWidth ts)))
-    ∙ words-append (recordsFrom 0 ts) (recordsFrom (tokensWidth ts) us)
+pub listed-append : (text : List ℕ) (ts us : List (Tok Character Kind)) → listedWords text (ts ++ us) ≡ listedWords text ts ++ wordsOf (recordsFrom text (tokensWidth ts) us)
+listed-append text ts us =
+    ap wordsOf (records-append text 0 ts us ∙ ap (λ (n : ℕ). recordsFrom text 0 ts ++ recordsFrom text n us) (zero-add (tokensWidth ts)))
+    ∙ words-append (recordsFrom text 0 ts) (recordsFrom text (tokensWidth ts) us)

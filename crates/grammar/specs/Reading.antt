@@ -92,4 +92,4 @@ listOf s text words = outcomeMap length (writtenOf s text words)
 
 -- what the buffer then holds
 unfoldable pub listWords : List ℕ → List ℕ → List ℕ → List ℕ
-listWords s text out = laidBy listedWords out (writtenOf s text (length out))
+listWords s text out = laidBy (listedWords text) out (writtenOf s text (length out))

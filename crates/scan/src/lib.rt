@@ -20,7 +20,7 @@ use utf8::Text;
 pub const MAX_TEXT: usize = 1048576;
 
 // The words of a token's record, and of a hashtag's.
-pub const RECORD_WORDS: usize = 3;
+pub const RECORD_WORDS: usize = 4;
 
 // The state of a reader: nothing yet; a token of this kind, 1 to 3; an identifier with a medial after it that waits for the next character:
 // WAITING, and the kind of token that the medial itself begins.
@@ -309,14 +309,15 @@ pub fn count_tokens<'a>(image: &'a [u8], table: &'a [u8; 128], text: &'a [u8]) -
 }
 
 // The words of a record at the front of a part of the buffer.
-pub fn put_record(out: &mut [u32], kind: u32, start: usize, end: usize)
+pub fn put_record(out: &mut [u32], kind: u32, start: usize, end: usize, line: u32)
     requires { ⌜ (start ≤ maxText) × (end ≤ maxText) ⌝ }
     requires { ⌜ recordSize ≤ length (now out) ⌝ }
-    ensures { λ _. ⌜ now (out .exit) ≡ laid (now (out .entry)) 0 (tokenWords kind start end) ⌝ }
+    ensures { λ _. ⌜ now (out .exit) ≡ laid (now (out .entry)) 0 (tokenWords kind start end line) ⌝ }
 {
     out[0] = kind;
     out[1] = start as u32;
     out[2] = end as u32;
+    out[3] = line;
 }
 
 // Where the token began that is under way after a turn at a place: there, or where it began before.

@@ -4,13 +4,15 @@ use mathlib.Core.Path.{refl, sym}
 use native.Mathlib.Omega.{arith}
 use borrow.Author.Needs.{needs}
 use Rattle.character.specs.Traits.{traitsOf}
-use Rattle.character.specs.Read.{MemoOf, Filled}
-use Rattle.character.proofs.CharacterLaws.{traits-small, filled-more, filled-all}
+use Rattle.lists.specs.Filled.{Filled}
+use Rattle.lists.proofs.FilledLaws.{filled-more, filled-all}
+use Rattle.character.specs.Read.{MemoOf}
+use Rattle.character.proofs.CharacterLaws.{traits-small}
 use Rattle.character.proofs.fill_table.Statement.{statement}
 use Rattle.character.proofs.fill_table.Tie as tie
 
 abbrev Inv-loop : tie.InvT-loop
-Inv-loop image table₀ memo₀ i₀ table memo i = (i ≤ 128) × Filled (traitsOf image) table i × MemoOf image memo
+Inv-loop image table₀ memo₀ i₀ table memo i = (i ≤ 128) × Filled 128 (traitsOf image) table i × MemoOf image memo
 
 abbrev μ-loop : tie.MeasureT-loop
 μ-loop image table₀ memo₀ i₀ table memo i = 128 - i
@@ -45,7 +47,7 @@ loop-less c = omega arith
 loop-again : tie.Need-loop-again Inv-loop μ-loop
 loop-again c =
     let m = c .before .recall .ensures in
-    (omega arith, filled-more _ _ _ _ (c .before .before .loop-test .taken) (c .before .before .before .loop .inv .1) (sym (m .all _ (m .from) (m .to))), m .all)
+    (omega arith, filled-more _ (c .before .before .loop-test .taken) (c .before .before .before .loop .inv .1) (sym (m .all _ (m .from) (m .to))), m .all)
 
 returns : tie.Need-returns Inv-loop μ-loop
 returns c = filled-all (c .before .loop .inv .1) (c .loop-test .left)

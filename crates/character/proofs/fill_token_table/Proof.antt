@@ -2,7 +2,8 @@
 use Prim.Native.Nat.{_-_}
 use native.Mathlib.Omega.{arith}
 use borrow.Author.Needs.{needs}
-use Rattle.character.proofs.CharacterLaws.{traits-small, Cut, cut-begins, cut-more, filled-all}
+use Rattle.lists.proofs.FilledLaws.{filled-all}
+use Rattle.character.proofs.CharacterLaws.{traits-small, Cut, cut-begins, cut-more}
 use Rattle.character.proofs.fill_token_table.Statement.{statement}
 use Rattle.character.proofs.fill_token_table.Tie as tie
 
