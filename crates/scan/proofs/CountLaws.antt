@@ -9,7 +9,7 @@ use Rattle.refusal.specs.Outcome.{Outcome, refused, unless, outcomeMap}
 use Rattle.utf8.specs.declared.Text.{Text}
 use Rattle.utf8.specs.declared.Text.the-variants as form
 use Rattle.utf8.specs.Head.{IllHead}
-use Rattle.utf8.specs.Text.{Character, textOf, shift}
+use Rattle.utf8.specs.Text.{Character, textOf, shift, charactersAt}
 use Rattle.utf8.proofs.TextLaws.{text-ill, end-here}
 use Rattle.grammar.specs.Step.{idle, under, held, underWay, preceded, tokensLeft, settle, finish}
 use Rattle.grammar.specs.Grammar.{Kind}
@@ -23,7 +23,7 @@ use Rattle.scan.specs.declared.Counted.the-variants.{Refused, Tokens as 
 use Rattle.scan.specs.Turns.{numberBy, waiting, states, waitingOf, afterOf, pendingOf}
 use Rattle.scan.specs.Counted.{countedBy, readThrough, countThrough, stopRefusal}
 use Rattle.scan.proofs.TurnLaws.{Tokens, Under, L, Stands, pending-by, phase-of, stands-less, doneBy, left}
-use Rattle.scan.proofs.ReachLaws.{charactersAt, Place, Look, at-end, Reached, reached-begins, After, complete-few, after-settling, left-settled, settles-none, read-end, after-turn, after-waiting, settles-here, left-here}
+use Rattle.scan.proofs.ReachLaws.{Place, Look, at-end, Reached, reached-begins, After, complete-few, after-settling, left-settled, settles-none, read-end, after-turn, after-waiting, settles-here, left-here}
 
 -- `count` tokens are complete before what is under way at the place `at`
 pub record Counting (s text : List ℕ) (state count mid at : ℕ) : Type 0 where

@@ -9,7 +9,7 @@ use Rattle.lists.proofs.BoolLaws.{impossible}
 use Rattle.utf8.specs.declared.Step.{Step}
 use Rattle.utf8.specs.declared.Step.the-variants as utf8-step
 use Rattle.utf8.specs.Head.{stepOf, IllHead}
-use Rattle.utf8.specs.Text.{Character, decode, widthOf}
+use Rattle.utf8.specs.Text.{Character, decode, widthOf, charactersAt}
 use Rattle.utf8.proofs.SequenceLaws.{step-empty, ill-at}
 use Rattle.utf8.proofs.TextLaws.{decode-ill, decode-end}
 use Rattle.grammar.specs.Scan.{Tok, walk}
@@ -23,7 +23,7 @@ use Rattle.scan.specs.declared.First.the-variants.{Nothing, IllFormed, T
 use Rattle.scan.specs.Turns.{Phase, phaseNamed, waiting, states, waitingOf, afterOf}
 use Rattle.scan.specs.First.{firstIn, firstBy, firstOf, pendingBy, pendingFirst}
 use Rattle.scan.proofs.TurnLaws.{Tokens, Under, L, Stands, kind-less, phase-of, stands-less}
-use Rattle.scan.proofs.ReachLaws.{charactersAt, Look, NoCharacter, Reached, reached-begins, tokens-come, read-end, after-turn, after-waiting, settles-here, left-here}
+use Rattle.scan.proofs.ReachLaws.{Look, NoCharacter, Reached, reached-begins, tokens-come, read-end, after-turn, after-waiting, settles-here, left-here}
 
 pub first-by : (n mid at : ℕ) (p : Phase) → phaseNamed n ≡ p → pendingBy p mid at ≡ pendingFirst n mid at
 unfolding pendingFirst

@@ -5,12 +5,11 @@ use mathlib.Core.Path.{_≡_, refl, sym, ap, subst, _∙_}
 use mathlib.Core.List.{List, [], _∷_, _++_}
 use mathlib.Core.Option.{none}
 use native.Mathlib.Omega.{arith}
-use lib.ListN.{length, drop, length-append, drop-of-length-le}
-use lib.Seq.{drop-drop}
+use lib.ListN.{length, drop, length-append}
 use Rattle.utf8.specs.declared.Step.the-variants as utf8-step
 use Rattle.utf8.specs.Head.{stepOf, IllHead}
-use Rattle.utf8.specs.Text.{Character, decode, textOf, shift}
-use Rattle.utf8.proofs.TextLaws.{decode-scalar, decode-ill, decode-empty, shift-zero, turn}
+use Rattle.utf8.specs.Text.{Character, charactersAt, textOf, shift}
+use Rattle.utf8.proofs.TextLaws.{characters-step, characters-ill, characters-end, shift-zero, turn}
 use Rattle.image.specs.Check.{refusalOf}
 use Rattle.character.specs.Traits.{tokenTraits}
 use Rattle.character.specs.Read.{ReadTokenAs}
@@ -24,10 +23,6 @@ use Rattle.grammar.proofs.FewLaws.{few-tokens}
 use Rattle.grammar.proofs.StepLaws.{preceded-append, readFrom, meant, read-step, Settles, read-settles, read-finish}
 use Rattle.scan.specs.Turns.{waiting, waitingOf, turnOf, afterOf, startBy}
 use Rattle.scan.proofs.TurnLaws.{Tokens, Under, L, Stands, doneBy, Going, Moved, Turned, turned, settled, Left, left}
-
--- the characters from a place on
-abbrev pub charactersAt : List ℕ → ℕ → List Character
-charactersAt text at = decode (drop at text) .characters
 
 -- a place of the text up to which it is well-formed
 pub record Place (text : List ℕ) (p : ℕ) : Type 0 where
@@ -53,8 +48,7 @@ here s text at r h a p =
       stands = e;
       some-bytes = p;
       within = t .within;
-      decoded = ap (λ d. d .characters) (decode-scalar (drop at text) (r .code) (r .len) e)
-          ∙ ap (λ (u : List ℕ). record { code = r .code; width = r .len } ∷ decode u .characters) (drop-drop (r .len) at text);
+      decoded = characters-step text at (r .code) (r .len) e;
       known = a .some p .1;
       same = t .same;
     }
@@ -73,10 +67,10 @@ pub record NoCharacter (text : List ℕ) (at : ℕ) : Type 0 where
   pub none : charactersAt text at ≡ []
 
 pub at-ill : (text : List ℕ) (at : ℕ) → IllHead (drop at text) → NoCharacter text at
-at-ill text at e = record { none = ap (λ d. d .characters) (decode-ill (drop at text) e) }
+at-ill text at e = record { none = characters-ill text at e }
 
 pub at-end : (text : List ℕ) (at : ℕ) → length text ≤ at → NoCharacter text at
-at-end text at h = record { none = ap (λ (u : List ℕ). decode u .characters) (drop-of-length-le text h) ∙ ap (λ d. d .characters) decode-empty }
+at-end text at h = record { none = characters-end text at h }
 
 -- the tokens ts are complete before what is under way at the place `at`, and q is what the code's numbers stand for
 pub record Reached (s text : List ℕ) (state mid at : ℕ) (ts : Tokens) (q : Under) : Type 0 where

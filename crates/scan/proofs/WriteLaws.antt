@@ -9,8 +9,10 @@ use lib.Seq.{take-at, drop-at, drop-drop}
 use borrow.Rule.Slice.PartMut.{putMid}
 use Rattle.lists.specs.Laid.{laid}
 use Rattle.lists.proofs.LaidLaws.{laid-none, laid-step, length-laid, lent}
-use Rattle.lists.proofs.SetLaws.{set-three}
-use Rattle.utf8.specs.Text.{widthOf}
+use Rattle.lists.proofs.SetLaws.{set-four}
+use Rattle.utf8.specs.Text.{widthOf, charactersAt}
+use Rattle.line.specs.Line.{lineOf, LineAt}
+use Rattle.line.proofs.LineLaws.{line-begins}
 use Rattle.grammar.specs.Step.{idle, under, held, tok, underWay, settle, finish}
 use Rattle.grammar.specs.Grammar.{Kind}
 use Rattle.grammar.specs.Kinds.{kindOf}
@@ -20,11 +22,11 @@ use Rattle.grammar.proofs.RecordLaws.{length-records, length-words, length-list
 use Rattle.grammar.proofs.StepLaws.{Settles, readFrom, first-comes}
 use Rattle.scan.specs.Turns.{numberBy, waiting, states, waitingOf, afterOf, startBy}
 use Rattle.scan.proofs.TurnLaws.{Tokens, Under, L, Stands, kind-less, stands-less, doneBy, Going}
-use Rattle.scan.proofs.ReachLaws.{charactersAt, Look, NoCharacter, Reached, reached-begins, After, tokens-come, after-settling, all-settled, settles-none, read-end, after-turn, after-waiting, settles-here, left-here}
+use Rattle.scan.proofs.ReachLaws.{Look, NoCharacter, Reached, reached-begins, After, tokens-come, after-settling, all-settled, settles-none, read-end, after-turn, after-waiting, settles-here, left-here}
 
 -- a record's words at a buffer's front
-pub three-words : (out : List ℕ) (k a b : ℕ) → recordSize ≤ length out → set (set (set out 0 k) 1 a) 2 b ≡ laid out 0 (tokenWords k a b)
-three-words = set-three
+pub record-put : (out : List ℕ) (k a b l : ℕ) → recordSize ≤ length out → set (set (set (set out 0 k) 1 a) 2 b) 3 l ≡ laid out 0 (tokenWords k a b l)
+record-put = set-four
 
 -- values laid where no more others were laid before
 laid-again : (out xs ys : List ℕ) (at : ℕ) → at + length ys ≤ length out → length xs ≤ length ys → laid (laid out at xs) at ys ≡ laid out at ys
@@ -52,8 +54,8 @@ laid-over out xs ys zs fits few =
     ∙ laid-again o ys zs (length xs) (omega arith) few
     ∙ ap (λ (n : ℕ). laid o n zs) (sym z) ∙ sym (laid-step out xs 0 (omega arith) zs)
 
-length-from : (p : ℕ) (ts : Tokens) → length (wordsOf (recordsFrom p ts)) ≡ recordSize * length ts
-length-from p ts = length-words (recordsFrom p ts) ∙ ap (λ (n : ℕ). recordSize * n) (length-records p ts)
+length-from : (text : List ℕ) (p : ℕ) (ts : Tokens) → length (wordsOf (recordsFrom text p ts)) ≡ recordSize * length ts
+length-from text p ts = length-words (recordsFrom text p ts) ∙ ap (λ (n : ℕ). recordSize * n) (length-records text p ts)
 
 one-under : (q : Under) → length (underWay q) ≤ 1
 one-under idle = omega arith
@@ -70,10 +72,11 @@ part-long out v h = simp (length-take, length-drop) (omega arith)
 
 module _ (s : List ℕ) (state start mid at : ℕ) where
   -- the words of the token under way
-  pub going-words : (q : Under) → Going q → Stands s q state start mid at → wordsOf (recordsFrom start (underWay q)) ≡ tokenWords state start at
-  going-words (under k u) g i = let w : start + (widthOf u) ≡ at = omega (arith, i .1) in (λ j. tokenWords (sym (i .0) j) start (w j))
-  going-words idle g i = absurd g
-  going-words (held k u d) g i = absurd g
+  pub going-words : (text : List ℕ) (q : Under) → Going q → Stands s q state start mid at →
+      wordsOf (recordsFrom text start (underWay q)) ≡ tokenWords state start at (lineOf text start)
+  going-words text (under k u) g i = let w : start + (widthOf u) ≡ at = omega (arith, i .1) in (λ j. tokenWords (sym (i .0) j) start (w j) (lineOf text start))
+  going-words text idle g i = absurd g
+  going-words text (held k u d) g i = absurd g
 
   pub began-before : (q : Under) → Stands s q state start mid at → start ≤ at
   began-before idle i = omega (arith, i .1)
@@ -100,7 +103,7 @@ module _ (s text out₀ : List ℕ) where
     pub began : start ≡ tokensWidth tokens
     pub placed : w ≡ recordSize * length tokens
     pub long : length out ≡ length out₀
-    pub same : out ≡ laid out₀ 0 (listedWords (tokens ++ underWay under-way))
+    pub same : out ≡ laid out₀ 0 (listedWords text (tokens ++ underWay under-way))
 
   -- the words of the one under way are yet to be written from word w on
   pub record Due (out : List ℕ) (state start mid at w : ℕ) : Type 0 where
@@ -113,7 +116,22 @@ module _ (s text out₀ : List ℕ) where
     pub old : List ℕ
     pub few : length old ≤ recordSize
     pub long : length out ≡ length out₀
-    pub same : out ≡ laid out₀ 0 (listedWords tokens ++ old)
+    pub same : out ≡ laid out₀ 0 (listedWords text tokens ++ old)
+
+-- the lines of the places where the token under way began, where the medial stands that waits, and that is reached
+pub record Lined (text : List ℕ) (start first mid midLine at line : ℕ) : Type 0 where
+  pub began : first ≡ lineOf text start
+  pub medial : midLine ≡ lineOf text mid
+  pub here : LineAt text at line
+
+pub lined-begins : (text : List ℕ) → Lined text 0 1 0 1 0 1
+lined-begins text = let l = line-begins text in record { began = l .same; medial = l .same; here = l }
+
+-- .. and of the token under way after a turn
+pub lined-turn : {text : List ℕ} {start first at line : ℕ} (turn : ℕ) → first ≡ lineOf text start → line ≡ lineOf text at →
+    (p l : ℕ) → p ≡ startBy turn start at → l ≡ startBy turn first line → l ≡ lineOf text p
+lined-turn {text} zero e f p l g h = h ∙ e ∙ ap (lineOf text) (sym g)
+lined-turn {text} (suc r) e f p l g h = h ∙ f ∙ ap (lineOf text) (sym g)
 
 pub writing-begins : (s text out : List ℕ) → Writing s text out out 0 0 0 0 0
 writing-begins s text out = record { tokens = []; under-way = idle; reached = reached-begins s text; began = refl; placed = refl; long = refl; same = sym (laid-none out 0) }
@@ -142,21 +160,21 @@ module _ {s text out₀ out : List ℕ} {state start mid at w : ℕ} (i : Due s 
   due-part = part-long out w due-room
 
   -- a call that was lent the buffer from there on wrote them
-  pub due-put : (ys : List ℕ) → ys ≡ laid (take (length out - w) (drop w out)) 0 (tokenWords state start at) →
+  pub due-put : (line : ℕ) → line ≡ lineOf text start → (ys : List ℕ) → ys ≡ laid (take (length out - w) (drop w out)) 0 (tokenWords state start at line) →
       Writing s text out₀ (putMid w (length out - w) out ys) state start mid at w
-  due-put ys e =
-      let xs = listedWords (i .tokens) in
-      let zs = tokenWords state start at in
-      let l = length-listed (i .tokens) in
+  due-put line f ys e =
+      let xs = listedWords text (i .tokens) in
+      let zs = tokenWords state start at line in
+      let l = length-listed text (i .tokens) in
       let n : w ≡ length xs = i .placed ∙ sym l in
-      let g = going-words s state (tokensWidth (i .tokens)) mid at (i .under-way) (i .going) (i .reached .stands)
-      ∙ ap (λ (p : ℕ). tokenWords state p at) (sym (i .began)) in
-      let ws = listedWords (i .tokens ++ underWay (i .under-way)) in
+      let g = going-words s state (tokensWidth (i .tokens)) mid at text (i .under-way) (i .going) (i .reached .stands)
+      ∙ ap (λ (p : ℕ). tokenWords state p at (lineOf text p)) (sym (i .began)) ∙ ap (tokenWords state start at) (sym f) in
+      let ws = listedWords text (i .tokens ++ underWay (i .under-way)) in
       let m : putMid w (length out - w) out ys ≡ laid out₀ 0 ws =
       lent out zs w due-room ys e ∙ (λ j. laid (i .same j) (n j) zs) ∙ laid-over out₀ xs (i .old) zs (omega (arith, due-fits, n)) (i .few)
-      ∙ ap (laid out₀ 0) (sym (listed-append (i .tokens) (underWay (i .under-way)) ∙ ap (λ (ws : List ℕ). xs ++ ws) g)) in
+      ∙ ap (laid out₀ 0) (sym (listed-append text (i .tokens) (underWay (i .under-way)) ∙ ap (λ (ws : List ℕ). xs ++ ws) g)) in
       let o = going-one (i .under-way) (i .going) in
-      let f : 0 + length ws ≤ length out₀ = omega (arith, length-listed (i .tokens ++ underWay (i .under-way)), length-append (i .tokens) (underWay (i .under-way)), o, i .placed, due-fits) in
+      let f : 0 + length ws ≤ length out₀ = omega (arith, length-listed text (i .tokens ++ underWay (i .under-way)), length-append (i .tokens) (underWay (i .under-way)), o, i .placed, due-fits) in
       record { tokens = i .tokens; under-way = i .under-way; reached = i .reached; began = i .began; placed = i .placed; long = ap length m ∙ length-laid out₀ ws 0 f; same = m }
 
 module _ {s text out₀ out : List ℕ} {state start mid at w : ℕ} (i : Writing s text out₀ out state start mid at w) where
@@ -165,19 +183,19 @@ module _ {s text out₀ out : List ℕ} {state start mid at w : ℕ} (i : Writin
 
   -- what is shown of the token under way
   shown : List ℕ
-  shown = wordsOf (recordsFrom (tokensWidth (i .tokens)) (underWay (i .under-way)))
+  shown = wordsOf (recordsFrom text (tokensWidth (i .tokens)) (underWay (i .under-way)))
 
   shown-few : length shown ≤ recordSize
   unfolding shown
-  shown-few = omega (arith, length-from (tokensWidth (i .tokens)) (underWay (i .under-way)), one-under (i .under-way))
+  shown-few = omega (arith, length-from text (tokensWidth (i .tokens)) (underWay (i .under-way)), one-under (i .under-way))
 
   abbrev Old : ℕ → Type 0
-  Old r = (ys : List ℕ) × (length ys ≤ recordSize) × (listedWords (i .tokens ++ underWay (i .under-way)) ≡ listedWords (i .tokens ++ doneBy r (i .under-way)) ++ ys)
+  Old r = (ys : List ℕ) × (length ys ≤ recordSize) × (listedWords text (i .tokens ++ underWay (i .under-way)) ≡ listedWords text (i .tokens ++ doneBy r (i .under-way)) ++ ys)
 
   old-words : (r : ℕ) → Old r
   unfolding shown
-  old-words zero = (shown, shown-few, listed-append (i .tokens) (underWay (i .under-way)) ∙ ap (λ (ts : Tokens). listedWords ts ++ shown) (sym (append-nil (i .tokens))))
-  old-words (suc r) = ([], omega arith, sym (append-nil (listedWords (i .tokens ++ underWay (i .under-way)))))
+  old-words zero = (shown, shown-few, listed-append text (i .tokens) (underWay (i .under-way)) ∙ ap (λ (ts : Tokens). listedWords text ts ++ shown) (sym (append-nil (i .tokens))))
+  old-words (suc r) = ([], omega arith, sym (append-nil (listedWords text (i .tokens ++ underWay (i .under-way)))))
 
   pub due-after : {r state′ start′ mid′ at′ : ℕ} → After s text (i .tokens) (i .under-way) r state′ start′ mid′ at′ → (w′ : ℕ) → w′ ≡ w + recordSize * r →
       Due s text out₀ out state′ start′ mid′ at′ w′
@@ -197,14 +215,14 @@ module _ {s text out₀ out : List ℕ} {state start mid at w : ℕ} (i : Writin
       }
 
   -- the tokens in the buffer are all
-  all-shown : tokensOf s text ≡ i .tokens ++ underWay (i .under-way) → out ≡ laid out₀ 0 (listedWords (tokensOf s text))
-  all-shown e = i .same ∙ ap (λ (ts : Tokens). laid out₀ 0 (listedWords ts)) (sym e)
+  all-shown : tokensOf s text ≡ i .tokens ++ underWay (i .under-way) → out ≡ laid out₀ 0 (listedWords text (tokensOf s text))
+  all-shown e = i .same ∙ ap (λ (ts : Tokens). laid out₀ 0 (listedWords text ts)) (sym e)
 
   module _ (h : Settles (L s) (i .under-way) (charactersAt text at)) where
     pub due-settles : waiting ≤ state → (state ≡ waiting → ⊥) → (w′ : ℕ) → w′ ≡ w + recordSize → Due s text out₀ out (state - waiting) mid mid at w′
     due-settles g n w′ e = due-after (after-settling (i .reached) h g n) w′ (omega arith)
 
-    pub writes-left : state ≡ waiting → out ≡ laid out₀ 0 (listedWords (tokensOf s text))
+    pub writes-left : state ≡ waiting → out ≡ laid out₀ 0 (listedWords text (tokensOf s text))
     writes-left n = all-shown (all-settled (i .reached) h n)
 
   -- nothing follows
@@ -212,7 +230,7 @@ module _ {s text out₀ out : List ℕ} {state start mid at w : ℕ} (i : Writin
     pub settles-end : Settles (L s) (i .under-way) (charactersAt text at)
     settles-end = settles-none (i .reached) e
 
-    pub writes-end : state ≤ waiting → out ≡ laid out₀ 0 (listedWords (tokensOf s text))
+    pub writes-end : state ≤ waiting → out ≡ laid out₀ 0 (listedWords text (tokensOf s text))
     writes-end h =
         let l = last-under s state (tokensWidth (i .tokens)) mid at (i .under-way) (i .reached .stands) h in
         all-shown (sym (ap (λ x. x .tokens) (read-end (i .reached) e)) ∙ ap (λ (us : Tokens). i .tokens ++ us) l)
@@ -237,11 +255,11 @@ module _ {s text out₀ out : List ℕ} {state start mid at w : ℕ} (i : Writin
           began = i .began;
           placed = i .placed;
           long = i .long;
-          same = i .same ∙ ap (λ (us : Tokens). laid out₀ 0 (listedWords (i .tokens ++ us))) (sym (x .1));
+          same = i .same ∙ ap (λ (us : Tokens). laid out₀ 0 (listedWords text (i .tokens ++ us))) (sym (x .1));
         })
 
     pub waits-here : turn ≡ 3 → (waiting ≤ state) × Settles (L s) (i .under-way) (charactersAt text at)
     waits-here h = settles-here (i .reached) k h
 
-    pub writes-stop : 4 ≤ turn → out ≡ laid out₀ 0 (listedWords (tokensOf s text))
+    pub writes-stop : 4 ≤ turn → out ≡ laid out₀ 0 (listedWords text (tokensOf s text))
     writes-stop h = all-shown (sym (ap (λ x. x .tokens) (left-here (i .reached) k h .1)))

@@ -10,7 +10,7 @@ ghost use Rattle.image.specs.Check.{refusalOf};
 ghost use Rattle.character.specs.Read.{TokenTableOf};
 ghost use Rattle.grammar.specs.Record.{recordSize, listedWords, tokenWords};
 ghost use Rattle.grammar.specs.Reading.{maxText, readingOf};
-ghost use Rattle.scan.specs.Turns.{states, waitingOf, turnOf, afterOf, pendingOf, turnTable, afterTable, startBy};
+ghost use Rattle.scan.specs.Turns.{states, waitingOf, turnOf, afterOf, pendingOf, turnTable, afterTable, waitingTable, startBy};
 ghost use Rattle.scan.specs.Counted.{stopRefusal, countThrough};
 ghost use Rattle.scan.specs.First.{firstOf, pendingFirst};
 use refusal::Refusal;
@@ -221,12 +221,12 @@ fn state_after(after: &[u32; 16], traits: u32) -> u32
 }
 
 // The state after a medial that waits.
-fn waiting_after(traits: u32) -> u32
+fn waiting_after(waiting: &[u32; 16], traits: u32) -> u32
+    requires { ⌜ now waiting ≡ waitingTable ⌝ }
     requires { ⌜ traits < 16 ⌝ }
     ensures { λ r. ⌜ r ≡ waitingOf traits ⌝ }
 {
-    let after = WAITING_AFTER;
-    after[traits as usize]
+    waiting[traits as usize]
 }
 
 // How many tokens are pending in a state, where nothing follows.
@@ -265,6 +265,7 @@ pub fn count_tokens<'a>(image: &'a [u8], table: &'a [u8; 128], text: &'a [u8]) -
 {
     let turns = TURNS;
     let after = AFTER;
+    let waiting = WAITING_AFTER;
     let mut memo = character::no_memo();
     let mut state = NOTHING;
     let mut count: usize = 0;
@@ -286,7 +287,7 @@ pub fn count_tokens<'a>(image: &'a [u8], table: &'a [u8; 128], text: &'a [u8]) -
             continue;
         }
         if turn == WAITS {
-            state = waiting_after(c.traits);
+            state = waiting_after(&waiting, c.traits);
             mid = at;
             at = next;
             continue;
@@ -330,23 +331,38 @@ fn pick_start(turn: usize, start: usize, at: usize) -> usize
     at
 }
 
+// The line on which that token began.
+fn pick_line(turn: usize, first: u32, line: u32) -> u32
+    ensures { λ r. ⌜ r ≡ startBy turn first line ⌝ }
+{
+    if turn == GOES_ON {
+        return first;
+    }
+    line
+}
+
 // The words of all tokens up to where no token begins or the text is ill-formed. `w` is the first word after the tokens that are complete.
 // After each character the record of the token that it is in is written there, up to that character: the loop has no test for where
-// tokens end.
+// tokens end. `first` is the line of `start`, `mid_line` that of `mid`, `line` that of `at`.
 pub fn write_tokens<'a>(image: &'a [u8], table: &'a [u8; 128], text: &'a [u8], out: &mut [u32])
     requires { ⌜ refusalOf (now image) ≡ none ⌝ }
     requires { ⌜ TokenTableOf (now image) (now table) ⌝ }
     requires { ⌜ length (now text) ≤ maxText ⌝ }
     requires { ⌜ recordSize * length (readingOf (now image) (now text) .tokens) ≤ length (now out) ⌝ }
-    ensures { λ _. ⌜ now (out .exit) ≡ laid (now (out .entry)) 0 (listedWords (readingOf (now (image .entry)) (now (text .entry)) .tokens)) ⌝ }
+    ensures { λ _. ⌜ now (out .exit) ≡ laid (now (out .entry)) 0 (listedWords (now (text .entry)) (readingOf (now (image .entry)) (now (text .entry)) .tokens)) ⌝ }
 {
     let turns = TURNS;
     let after = AFTER;
+    let waiting = WAITING_AFTER;
+    let ends = line::fill_ends();
     let mut memo = character::no_memo();
     let mut state = NOTHING;
     let mut start = 0;
+    let mut first = 1;
     let mut mid = 0;
+    let mut mid_line = 1;
     let mut at = 0;
+    let mut line = 1;
     let mut w = 0;
     while at < text.len() {
         let c = character::read_for_tokens(image, table, memo, text, at);
@@ -355,37 +371,41 @@ pub fn write_tokens<'a>(image: &'a [u8], table: &'a [u8; 128], text: &'a [u8], o
             break;
         }
         memo = c.memo;
-        let next = at + len;
-        let turn = find_turn(&turns, state, c.traits);
-        if turn <= BEGINS {
-            state = state_after(&after, c.traits);
-            start = pick_start(turn, start, at);
-            w += RECORD_WORDS * turn;
-            put_record(&mut out[w..], state, start, next);
-            at = next;
-            continue;
-        }
-        if turn == WAITS {
-            state = waiting_after(c.traits);
-            mid = at;
-            at = next;
-            continue;
-        }
+        let mut turn = find_turn(&turns, state, c.traits);
         if turn == SETTLES {
             if state == WAITING {
                 return;
             }
             state -= WAITING;
             start = mid;
+            first = mid_line;
             w += RECORD_WORDS;
-            put_record(&mut out[w..], state, start, at);
+            put_record(&mut out[w..], state, start, at, first);
+            turn = find_turn(&turns, state, c.traits);
+        }
+        let next = at + len;
+        if turn <= BEGINS {
+            state = state_after(&after, c.traits);
+            start = pick_start(turn, start, at);
+            first = pick_line(turn, first, line);
+            w += RECORD_WORDS * turn;
+            put_record(&mut out[w..], state, start, next, first);
+            line += line::count_end(&ends, text, at, c.code, len);
+            at = next;
             continue;
         }
-        return;
+        if turn != WAITS {
+            return;
+        }
+        state = waiting_after(&waiting, c.traits);
+        mid = at;
+        mid_line = line;
+        line += line::count_end(&ends, text, at, c.code, len);
+        at = next;
     }
     if WAITING < state {
         w += RECORD_WORDS;
-        put_record(&mut out[w..], state - WAITING, mid, at);
+        put_record(&mut out[w..], state - WAITING, mid, at, mid_line);
     }
 }
 
@@ -416,6 +436,7 @@ pub fn first_token<'a>(image: &'a [u8], table: &'a [u8; 128], text: &'a [u8]) ->
 {
     let turns = TURNS;
     let after = AFTER;
+    let waiting = WAITING_AFTER;
     let mut memo = character::no_memo();
     let mut state = NOTHING;
     let mut mid = 0;
@@ -438,7 +459,7 @@ pub fn first_token<'a>(image: &'a [u8], table: &'a [u8; 128], text: &'a [u8]) ->
             continue;
         }
         if turn == WAITS {
-            state = waiting_after(c.traits);
+            state = waiting_after(&waiting, c.traits);
             mid = at;
             at = next;
             continue;

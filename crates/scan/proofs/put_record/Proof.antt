@@ -1,7 +1,7 @@
 -- `scan::put_record` meets its contract. Assumes nothing.
 use native.Mathlib.Omega.{arith}
 use lib.ListN.{length-set}
-use Rattle.scan.proofs.WriteLaws.{three-words}
+use Rattle.scan.proofs.WriteLaws.{record-put}
 use borrow.Author.Needs.{needs}
 use Rattle.scan.proofs.put_record.Statement.{statement}
 use Rattle.scan.proofs.put_record.Tie as tie
@@ -12,8 +12,11 @@ slice-write-out-2 c = simp length-set (omega arith)
 slice-write-out-3 : tie.Need-slice-write-out-3
 slice-write-out-3 c = simp length-set (omega arith)
 
+slice-write-out-4 : tie.Need-slice-write-out-4
+slice-write-out-4 c = simp length-set (omega arith)
+
 returns : tie.Need-returns
-returns c = three-words (c .args .out .now) _ _ _ (c .pre .1)
+returns c = record-put (c .args .out .now) _ _ _ _ (c .pre .1)
 
 pub put-record-spec : {M : Type 1} → statement M
 put-record-spec =
@@ -24,5 +27,6 @@ put-record-spec =
     slice-write-out-2
     (λ c. search needs)
     slice-write-out-3
+    slice-write-out-4
     (λ c. search needs)
     returns)

@@ -1,0 +1,11 @@
+-- `scan::pick_line` meets its contract. Assumes nothing.
+use borrow.Author.Needs.{needs}
+use Rattle.scan.proofs.TurnLaws.{started}
+use Rattle.scan.proofs.pick_line.Statement.{statement}
+use Rattle.scan.proofs.pick_line.Tie as tie
+
+returns-2 : tie.Need-returns-2
+returns-2 c = started _ _ _ (c .if1 .left)
+
+pub pick-line-spec : {M : Type 1} → statement M
+pick-line-spec = tie.close (tie.spec (λ c. search needs) returns-2)
