@@ -18,6 +18,9 @@ const TAG: u8 = 32;
 /// The signs that begin a hashtag.
 pub const SIGNS: [char; 3] = ['#', '\u{FE5F}', '\u{FF03}'];
 
+/// The characters that end a line.
+const LINE_ENDS: [char; 7] = ['\n', '\x0B', '\x0C', '\r', '\u{85}', '\u{2028}', '\u{2029}'];
+
 /// Why a text is refused.
 #[derive(Clone, Copy, Debug, PartialEq, Eq)]
 pub enum Refused {
@@ -33,11 +36,13 @@ pub enum Refused {
 }
 
 /// The flags of every code point: a block index and blocks of 256, and the
-/// first block again by byte, empty from 80 on.
+/// first block again by byte, empty from 80 on. Beside them the flags that
+/// any line end has.
 pub struct Tables {
     bytes: [u8; 256],
     index: Vec<u16>,
     blocks: Vec<[u8; 256]>,
+    of_line_ends: u8,
 }
 
 /// The flags of a class and of being medial.
@@ -90,6 +95,27 @@ fn check_text(text: &[u8]) -> Result<&str, Refused> {
     std::str::from_utf8(text).map_err(|error| ill_formed(text, error))
 }
 
+/// The number of line ends in these bytes of a well-formed text; CR LF is one, at its LF.
+#[inline(always)]
+fn line_ends(text: &[u8], bytes: std::ops::Range<usize>) -> u32 {
+    let mut ends = 0;
+    for at in bytes {
+        let byte = text[at];
+        if (b' '..0x80).contains(&byte) {
+            continue;
+        }
+        let ends_line = match byte {
+            b'\n' | 0x0B | 0x0C => true,
+            b'\r' => text.get(at + 1) != Some(&b'\n'),
+            0x85 => text[at - 1] == 0xC2,
+            0xA8 | 0xA9 => text[..at].ends_with(&[0xE2, 0x80]),
+            _ => false,
+        };
+        ends += u32::from(ends_line);
+    }
+    ends
+}
+
 /// A word of 32 bits, little-endian.
 pub fn word(bytes: &[u8], at: usize) -> u32 {
     u32::from_le_bytes(bytes[at..at + 4].try_into().unwrap())
@@ -135,7 +161,8 @@ impl Tables {
     pub fn new(ranges: &[Range], profile: &[(u32, Role)]) -> Tables {
         let mut blocks: Vec<[u8; 256]> = Vec::new();
         let mut index = Vec::new();
-        for block in flat(ranges, profile).chunks_exact(256) {
+        let flat = flat(ranges, profile);
+        for block in flat.chunks_exact(256) {
             let number = blocks.iter().position(|known| known == block).unwrap_or_else(|| {
                 blocks.push(block.try_into().unwrap());
                 blocks.len() - 1
@@ -144,7 +171,8 @@ impl Tables {
         }
         let mut bytes = [0; 256];
         bytes[..128].copy_from_slice(&blocks[index[0] as usize][..128]);
-        Tables { bytes, index, blocks }
+        let of_line_ends = LINE_ENDS.iter().fold(0, |flags, &end| flags | flat[end as usize]);
+        Tables { bytes, index, blocks, of_line_ends }
     }
 
     /// The flags of a scalar value.
@@ -238,37 +266,63 @@ impl Tables {
         Ok(count)
     }
 
-    /// Lists the text's tokens, three words each, in place of what the list
+    /// Whether a token of this kind may hold a line end.
+    #[inline(always)]
+    fn holds_line_ends(&self, kind: Kind) -> bool {
+        let flags = match kind {
+            Kind::Identifier => CONTINUE | MEDIAL,
+            Kind::Syntax => SYNTAX,
+            _ => WHITE,
+        };
+        self.of_line_ends & flags != 0
+    }
+
+    /// Lists the text's tokens, four words each, in place of what the list
     /// held; after a refusal it holds the tokens before the place.
     pub fn list(&self, text: &[u8], list: &mut Vec<u32>) -> Result<usize, Refused> {
         list.clear();
-        self.lex(text, |kind, start, end| list.extend_from_slice(&[kind.number(), start, end]))?;
+        let mut line = 1;
+        self.lex(text, |kind, start, end| {
+            list.extend_from_slice(&[kind.number(), start, end, line]);
+            if self.holds_line_ends(kind) {
+                line += line_ends(text, start as usize..end as usize);
+            }
+        })?;
         Ok(list.len() / RECORD_WORDS)
     }
+
     /// Whether a character is hashtag Continue.
     #[inline(always)]
     fn tags(&self, c: Option<char>) -> bool {
         c.map_or(false, |c| self.flags_of(c.into()) & TAG != 0)
     }
 
-    /// Lists the text's hashtags in the words, three each, and counts them. They are found first: only the characters
-    /// beside a sign are looked up, and those of a tag.
+    /// Lists the text's hashtags in the words, four each, and counts them. They are found first: only the characters
+    /// beside a sign are looked up, and those of a tag. Line ends are found in the same search.
     pub fn hashtags(&self, text: &[u8], words: &mut [u32]) -> Result<usize, Refused> {
         let text = check_text(text)?;
-        let mut found: Vec<(usize, usize)> = Vec::new();
-        for (start, sign) in text.match_indices(&SIGNS[..]) {
-            let from = start + sign.len();
-            if self.tags(text[from..].chars().next())
-                && !self.tags(text[..start].chars().next_back())
-            {
-                found.push((start, self.run(text.as_bytes(), from, TAG)));
+        let mut found: Vec<[usize; 3]> = Vec::new();
+        let mut line = 1;
+        for (start, c) in text.char_indices() {
+            match c {
+                '\n' | '\x0B' | '\x0C' | '\u{85}' | '\u{2028}' | '\u{2029}' => line += 1,
+                '\r' => line += usize::from(text.as_bytes().get(start + 1) != Some(&b'\n')),
+                '#' | '\u{FE5F}' | '\u{FF03}' => {
+                    let from = start + c.len_utf8();
+                    if self.tags(text[from..].chars().next())
+                        && !self.tags(text[..start].chars().next_back())
+                    {
+                        found.push([start, self.run(text.as_bytes(), from, TAG), line]);
+                    }
+                }
+                _ => {}
             }
         }
         if words.len() / RECORD_WORDS < found.len() {
             return Err(Refused::Room(found.len()));
         }
-        for (record, &(start, end)) in words.chunks_exact_mut(RECORD_WORDS).zip(&found) {
-            record.copy_from_slice(&[HASHTAG_KIND, start as u32, end as u32]);
+        for (record, &[start, end, line]) in words.chunks_exact_mut(RECORD_WORDS).zip(&found) {
+            record.copy_from_slice(&[HASHTAG_KIND, start as u32, end as u32, line as u32]);
         }
         Ok(found.len())
     }
