@@ -36,13 +36,13 @@ pub enum Refused {
 }
 
 /// The flags of every code point: a block index and blocks of 256, and the
-/// first block again by byte, empty from 80 on. Beside them the flags that
-/// any line end has.
+/// first block again by byte, empty from 80 on; and whether a line end may
+/// be in a token that is not white space.
 pub struct Tables {
     bytes: [u8; 256],
     index: Vec<u16>,
     blocks: Vec<[u8; 256]>,
-    of_line_ends: u8,
+    ends_in_others: bool,
 }
 
 /// The flags of a class and of being medial.
@@ -95,25 +95,20 @@ fn check_text(text: &[u8]) -> Result<&str, Refused> {
     std::str::from_utf8(text).map_err(|error| ill_formed(text, error))
 }
 
-/// The number of line ends in these bytes of a well-formed text; CR LF is one, at its LF.
+/// Whether the code point at the byte ends a line; of CR LF the LF does.
 #[inline(always)]
-fn line_ends(text: &[u8], bytes: std::ops::Range<usize>) -> u32 {
-    let mut ends = 0;
-    for at in bytes {
-        let byte = text[at];
-        if (b' '..0x80).contains(&byte) {
-            continue;
-        }
-        let ends_line = match byte {
-            b'\n' | 0x0B | 0x0C => true,
-            b'\r' => text.get(at + 1) != Some(&b'\n'),
-            0x85 => text[at - 1] == 0xC2,
-            0xA8 | 0xA9 => text[..at].ends_with(&[0xE2, 0x80]),
-            _ => false,
-        };
-        ends += u32::from(ends_line);
+fn ends_line(text: &[u8], at: usize) -> bool {
+    match text[at..] {
+        [b'\r', b'\n', ..] => false,
+        [b'\n'..=b'\r', ..] | [0xC2, 0x85, ..] | [0xE2, 0x80, 0xA8 | 0xA9, ..] => true,
+        _ => false,
     }
-    ends
+}
+
+/// The number of line ends from a byte to before another.
+#[cold]
+fn line_ends(text: &[u8], from: usize, to: usize) -> u32 {
+    (from..to).filter(|&at| ends_line(text, at)).count() as u32
 }
 
 /// A word of 32 bits, little-endian.
@@ -171,8 +166,9 @@ impl Tables {
         }
         let mut bytes = [0; 256];
         bytes[..128].copy_from_slice(&blocks[index[0] as usize][..128]);
-        let of_line_ends = LINE_ENDS.iter().fold(0, |flags, &end| flags | flat[end as usize]);
-        Tables { bytes, index, blocks, of_line_ends }
+        let in_others = |&end: &char| flat[end as usize] & (CONTINUE | MEDIAL | SYNTAX) != 0;
+        let ends_in_others = LINE_ENDS.iter().any(in_others);
+        Tables { bytes, index, blocks, ends_in_others }
     }
 
     /// The flags of a scalar value.
@@ -237,15 +233,44 @@ impl Tables {
         end
     }
 
-    /// Hands each token's kind, start and end to the taker.
+    /// The end of the white space from the byte on; its line ends are added.
     #[inline(always)]
-    fn lex(&self, text: &[u8], mut take: impl FnMut(Kind, u32, u32)) -> Result<(), Refused> {
+    fn white(&self, text: &[u8], mut at: usize, line: &mut u32) -> usize {
+        loop {
+            while at < text.len() && self.bytes[text[at] as usize] & WHITE != 0 {
+                if text[at] < b' ' {
+                    *line += u32::from(ends_line(text, at));
+                }
+                at += 1;
+            }
+            if at >= text.len() || text[at] < 0x80 {
+                return at;
+            }
+            let (found, length) = self.look(text, at);
+            if found & WHITE == 0 {
+                return at;
+            }
+            *line += u32::from(ends_line(text, at));
+            at += length;
+        }
+    }
+
+    /// Hands each token's kind, start, end and line, if lines are counted, to the taker.
+    #[inline(always)]
+    fn lex<const LINES: bool>(
+        &self,
+        text: &[u8],
+        mut take: impl FnMut(Kind, u32, u32, u32),
+    ) -> Result<(), Refused> {
         check_text(text)?;
-        let mut at = 0;
+        let (mut at, mut line) = (0, 1);
         while at < text.len() {
             let (found, length) = self.look(text, at);
+            let mut next = line;
             let (kind, end) = if found & START != 0 {
                 (Kind::Identifier, self.identifier(text, at + length))
+            } else if found & WHITE != 0 && LINES {
+                (Kind::Whitespace, self.white(text, at, &mut next))
             } else if found & WHITE != 0 {
                 (Kind::Whitespace, self.run(text, at + length, WHITE))
             } else if found & SYNTAX != 0 {
@@ -253,8 +278,11 @@ impl Tables {
             } else {
                 return Err(Refused::Characters(at));
             };
-            take(kind, at as u32, end as u32);
-            at = end;
+            if LINES && self.ends_in_others && kind != Kind::Whitespace {
+                next += line_ends(text, at, end);
+            }
+            take(kind, at as u32, end as u32, line);
+            (at, line) = (end, next);
         }
         Ok(())
     }
@@ -262,31 +290,16 @@ impl Tables {
     /// Counts the text's tokens.
     pub fn count(&self, text: &[u8]) -> Result<usize, Refused> {
         let mut count = 0;
-        self.lex(text, |_, _, _| count += 1)?;
+        self.lex::<false>(text, |_, _, _, _| count += 1)?;
         Ok(count)
-    }
-
-    /// Whether a token of this kind may hold a line end.
-    #[inline(always)]
-    fn holds_line_ends(&self, kind: Kind) -> bool {
-        let flags = match kind {
-            Kind::Identifier => CONTINUE | MEDIAL,
-            Kind::Syntax => SYNTAX,
-            _ => WHITE,
-        };
-        self.of_line_ends & flags != 0
     }
 
     /// Lists the text's tokens, four words each, in place of what the list
     /// held; after a refusal it holds the tokens before the place.
     pub fn list(&self, text: &[u8], list: &mut Vec<u32>) -> Result<usize, Refused> {
         list.clear();
-        let mut line = 1;
-        self.lex(text, |kind, start, end| {
-            list.extend_from_slice(&[kind.number(), start, end, line]);
-            if self.holds_line_ends(kind) {
-                line += line_ends(text, start as usize..end as usize);
-            }
+        self.lex::<true>(text, |kind, start, end, line| {
+            list.extend_from_slice(&[kind.number(), start, end, line])
         })?;
         Ok(list.len() / RECORD_WORDS)
     }
