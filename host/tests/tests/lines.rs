@@ -269,18 +269,23 @@ fn most_line_ends() {
     assert!(image.hashtags(&text).unwrap().iter().map(|tag| tag.line).eq(rising));
 }
 
-/// Every text of at most four pieces, with CR and LF of every two classes and roles.
+/// Every text of four characters from five, with LF and CR of every two classes and roles.
 #[test]
 fn every_short_text() {
-    let pieces: [&[u8]; 7] = [b"a", b".", b"#", b"\r", b"\n", b"\xC2\x85", b"\xE2\x80\xA8"];
     let (mut texts, mut accepted) = (0, 0);
-    for number in 0..6 * 36 {
-        let roles = [(0x0A, number / 6 % 6), (0x0D, number / 36), (0x2028, number / 36)];
+    for number in 0..36 * 36 {
+        let ranges = [
+            (0x0A, 0x0A, number % 6),
+            (0x0D, 0x0D, number / 36 % 6),
+            (0x23, 0x23, class::SYNTAX),
+            (0x2E, 0x2E, class::SYNTAX),
+            (0x61, 0x7A, class::START),
+        ];
+        let roles = [(0x0A, number / 6 % 6), (0x0D, number / 36 / 6)];
         let entries: Vec<(u32, u32)> = roles.into_iter().filter(|entry| entry.1 != 0).collect();
-        let image = with_ends(number % 6, &entries);
-        for number in 0..pieces.len().pow(4) {
-            let text: Vec<u8> =
-                (0..4).flat_map(|i| pieces[number / 7usize.pow(i) % 7]).copied().collect();
+        let image = made(&ranges, &entries);
+        for number in 0..5usize.pow(4) {
+            let text = [0, 1, 2, 3].map(|i| b"a.#\r\n"[number / 5usize.pow(i) % 5]);
             accepted += usize::from(tokens(&image, &text).is_ok());
             tags(&image, &text);
             texts += 1;
