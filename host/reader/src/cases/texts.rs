@@ -29,7 +29,7 @@ const ILL_FORMED: [&[u8]; 16] = [
     &[0xFF],
 ];
 
-/// Line ends as texts have them, one or more together.
+/// Line ends as texts have them, one or more together, CR LF more often.
 const LINE_ENDS: [&[u32]; 12] = [
     &[0x0A],
     &[0x0B],
