@@ -188,7 +188,8 @@ fn tokens(subjects: &[Subject]) {
 /// Prints the table of listing hashtags in flowing text.
 fn hashtags(subjects: &[Subject]) {
     println!("\nFlowing text with a tag to 200 to 300 bytes, and one that is dense in tags,");
-    println!("under a profile that makes the plus sign, the hyphen and a spanner part of them:\n");
+    println!("under a profile that makes the plus sign, the hyphen and a spanner part of them.");
+    println!("Short lines: the English text with line ends for some of its blanks.\n");
     head(subjects);
     row("hashtags / hand-written", subjects, |subject| format!("{:.2}", subject.hashtags()));
 }

@@ -105,6 +105,16 @@ pub fn mixed() -> String {
     }))
 }
 
+/// Shift notes in English whose blanks are often line ends, LF and some CR LF.
+pub fn short_lines() -> String {
+    let blanks = [" ", " ", " ", " ", " ", "\n", "\n", "\r\n"];
+    let note = |rng: &mut Rng| {
+        let words: Vec<&str> = rng.pick(&ENGLISH_NOTES).split(' ').collect();
+        words.into_iter().flat_map(|word| [word, *rng.pick(&blanks)]).collect()
+    };
+    filled(tagged(note, |rng| tag_of(rng, "#", &KEYS)))
+}
+
 /// Tags one after the other, with each sign.
 pub fn dense() -> String {
     let mut rng = Rng::new();
@@ -115,7 +125,7 @@ pub fn dense() -> String {
 }
 
 /// All texts.
-pub fn all() -> [Sample; 5] {
+pub fn all() -> [Sample; 6] {
     let sample = |name, text| Sample { name, text, profile: &ROLES };
     [
         sample("English", english()),
@@ -123,5 +133,6 @@ pub fn all() -> [Sample; 5] {
         sample("Adlam", adlam()),
         sample("mixed scripts", mixed()),
         sample("dense in tags", dense()),
+        sample("short lines", short_lines()),
     ]
 }

@@ -18,6 +18,9 @@ const TAG: u8 = 32;
 /// The signs that begin a hashtag.
 pub const SIGNS: [char; 3] = ['#', '\u{FE5F}', '\u{FF03}'];
 
+/// The characters that end a line.
+const LINE_ENDS: [char; 7] = ['\n', '\x0B', '\x0C', '\r', '\u{85}', '\u{2028}', '\u{2029}'];
+
 /// Why a text is refused.
 #[derive(Clone, Copy, Debug, PartialEq, Eq)]
 pub enum Refused {
@@ -33,11 +36,13 @@ pub enum Refused {
 }
 
 /// The flags of every code point: a block index and blocks of 256, and the
-/// first block again by byte, empty from 80 on.
+/// first block again by byte, empty from 80 on; and whether a line end may
+/// be in a token that is not white space.
 pub struct Tables {
     bytes: [u8; 256],
     index: Vec<u16>,
     blocks: Vec<[u8; 256]>,
+    ends_in_others: bool,
 }
 
 /// The flags of a class and of being medial.
@@ -90,6 +95,22 @@ fn check_text(text: &[u8]) -> Result<&str, Refused> {
     std::str::from_utf8(text).map_err(|error| ill_formed(text, error))
 }
 
+/// Whether the code point at the byte ends a line; of CR LF the LF does.
+#[inline(always)]
+fn ends_line(text: &[u8], at: usize) -> bool {
+    match text[at..] {
+        [b'\r', b'\n', ..] => false,
+        [b'\n'..=b'\r', ..] | [0xC2, 0x85, ..] | [0xE2, 0x80, 0xA8 | 0xA9, ..] => true,
+        _ => false,
+    }
+}
+
+/// The number of line ends from a byte to before another.
+#[cold]
+fn line_ends(text: &[u8], from: usize, to: usize) -> u32 {
+    (from..to).filter(|&at| ends_line(text, at)).count() as u32
+}
+
 /// A word of 32 bits, little-endian.
 pub fn word(bytes: &[u8], at: usize) -> u32 {
     u32::from_le_bytes(bytes[at..at + 4].try_into().unwrap())
@@ -135,7 +156,8 @@ impl Tables {
     pub fn new(ranges: &[Range], profile: &[(u32, Role)]) -> Tables {
         let mut blocks: Vec<[u8; 256]> = Vec::new();
         let mut index = Vec::new();
-        for block in flat(ranges, profile).chunks_exact(256) {
+        let flat = flat(ranges, profile);
+        for block in flat.chunks_exact(256) {
             let number = blocks.iter().position(|known| known == block).unwrap_or_else(|| {
                 blocks.push(block.try_into().unwrap());
                 blocks.len() - 1
@@ -144,7 +166,9 @@ impl Tables {
         }
         let mut bytes = [0; 256];
         bytes[..128].copy_from_slice(&blocks[index[0] as usize][..128]);
-        Tables { bytes, index, blocks }
+        let in_others = |&end: &char| flat[end as usize] & (CONTINUE | MEDIAL | SYNTAX) != 0;
+        let ends_in_others = LINE_ENDS.iter().any(in_others);
+        Tables { bytes, index, blocks, ends_in_others }
     }
 
     /// The flags of a scalar value.
@@ -209,15 +233,44 @@ impl Tables {
         end
     }
 
-    /// Hands each token's kind, start and end to the taker.
+    /// The end of the white space from the byte on; its line ends are added.
     #[inline(always)]
-    fn lex(&self, text: &[u8], mut take: impl FnMut(Kind, u32, u32)) -> Result<(), Refused> {
+    fn white(&self, text: &[u8], mut at: usize, line: &mut u32) -> usize {
+        loop {
+            while at < text.len() && self.bytes[text[at] as usize] & WHITE != 0 {
+                if text[at] < b' ' {
+                    *line += u32::from(ends_line(text, at));
+                }
+                at += 1;
+            }
+            if at >= text.len() || text[at] < 0x80 {
+                return at;
+            }
+            let (found, length) = self.look(text, at);
+            if found & WHITE == 0 {
+                return at;
+            }
+            *line += u32::from(ends_line(text, at));
+            at += length;
+        }
+    }
+
+    /// Hands each token's kind, start, end and line, if lines are counted, to the taker.
+    #[inline(always)]
+    fn lex<const LINES: bool>(
+        &self,
+        text: &[u8],
+        mut take: impl FnMut(Kind, u32, u32, u32),
+    ) -> Result<(), Refused> {
         check_text(text)?;
-        let mut at = 0;
+        let (mut at, mut line) = (0, 1);
         while at < text.len() {
             let (found, length) = self.look(text, at);
+            let mut next = line;
             let (kind, end) = if found & START != 0 {
                 (Kind::Identifier, self.identifier(text, at + length))
+            } else if found & WHITE != 0 && LINES {
+                (Kind::Whitespace, self.white(text, at, &mut next))
             } else if found & WHITE != 0 {
                 (Kind::Whitespace, self.run(text, at + length, WHITE))
             } else if found & SYNTAX != 0 {
@@ -225,8 +278,11 @@ impl Tables {
             } else {
                 return Err(Refused::Characters(at));
             };
-            take(kind, at as u32, end as u32);
-            at = end;
+            if LINES && self.ends_in_others && kind != Kind::Whitespace {
+                next += line_ends(text, at, end);
+            }
+            take(kind, at as u32, end as u32, line);
+            (at, line) = (end, next);
         }
         Ok(())
     }
@@ -234,41 +290,52 @@ impl Tables {
     /// Counts the text's tokens.
     pub fn count(&self, text: &[u8]) -> Result<usize, Refused> {
         let mut count = 0;
-        self.lex(text, |_, _, _| count += 1)?;
+        self.lex::<false>(text, |_, _, _, _| count += 1)?;
         Ok(count)
     }
 
-    /// Lists the text's tokens, three words each, in place of what the list
+    /// Lists the text's tokens, four words each, in place of what the list
     /// held; after a refusal it holds the tokens before the place.
     pub fn list(&self, text: &[u8], list: &mut Vec<u32>) -> Result<usize, Refused> {
         list.clear();
-        self.lex(text, |kind, start, end| list.extend_from_slice(&[kind.number(), start, end]))?;
+        self.lex::<true>(text, |kind, start, end, line| {
+            list.extend_from_slice(&[kind.number(), start, end, line])
+        })?;
         Ok(list.len() / RECORD_WORDS)
     }
+
     /// Whether a character is hashtag Continue.
     #[inline(always)]
     fn tags(&self, c: Option<char>) -> bool {
         c.map_or(false, |c| self.flags_of(c.into()) & TAG != 0)
     }
 
-    /// Lists the text's hashtags in the words, three each, and counts them. They are found first: only the characters
-    /// beside a sign are looked up, and those of a tag.
+    /// Lists the text's hashtags in the words, four each, and counts them. They are found first: only the characters
+    /// beside a sign are looked up, and those of a tag. Line ends are found in the same search.
     pub fn hashtags(&self, text: &[u8], words: &mut [u32]) -> Result<usize, Refused> {
         let text = check_text(text)?;
-        let mut found: Vec<(usize, usize)> = Vec::new();
-        for (start, sign) in text.match_indices(&SIGNS[..]) {
-            let from = start + sign.len();
-            if self.tags(text[from..].chars().next())
-                && !self.tags(text[..start].chars().next_back())
-            {
-                found.push((start, self.run(text.as_bytes(), from, TAG)));
+        let mut found: Vec<[usize; 3]> = Vec::new();
+        let mut line = 1;
+        for (start, c) in text.char_indices() {
+            match c {
+                '\n' | '\x0B' | '\x0C' | '\u{85}' | '\u{2028}' | '\u{2029}' => line += 1,
+                '\r' => line += usize::from(text.as_bytes().get(start + 1) != Some(&b'\n')),
+                '#' | '\u{FE5F}' | '\u{FF03}' => {
+                    let from = start + c.len_utf8();
+                    if self.tags(text[from..].chars().next())
+                        && !self.tags(text[..start].chars().next_back())
+                    {
+                        found.push([start, self.run(text.as_bytes(), from, TAG), line]);
+                    }
+                }
+                _ => {}
             }
         }
         if words.len() / RECORD_WORDS < found.len() {
             return Err(Refused::Room(found.len()));
         }
-        for (record, &(start, end)) in words.chunks_exact_mut(RECORD_WORDS).zip(&found) {
-            record.copy_from_slice(&[HASHTAG_KIND, start as u32, end as u32]);
+        for (record, &[start, end, line]) in words.chunks_exact_mut(RECORD_WORDS).zip(&found) {
+            record.copy_from_slice(&[HASHTAG_KIND, start as u32, end as u32, line as u32]);
         }
         Ok(found.len())
     }

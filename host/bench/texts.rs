@@ -188,6 +188,22 @@ pub fn dotted() -> String {
     })
 }
 
+/// Short lines as scripts have them: a name and a value, or less, with LF and
+/// some CR LF.
+pub fn short_lines() -> String {
+    let mut rng = Rng::new();
+    filled(|| {
+        let (name, value) = (*rng.pick(&KEYS), *rng.pick(&KEYS));
+        let end = *rng.pick(&["\n", "\n", "\n", "\r\n"]);
+        match rng.below(8) {
+            0 => format!("[{name}]{end}"),
+            1 => format!("{name}{end}"),
+            2 => format!("  {name} = {value}{end}"),
+            _ => format!("{name} = {value}{end}"),
+        }
+    })
+}
+
 /// A text, what it is called, and the profile under which it is read.
 pub struct Sample {
     pub name: &'static str,
@@ -196,7 +212,7 @@ pub struct Sample {
 }
 
 /// All texts.
-pub fn all() -> [Sample; 5] {
+pub fn all() -> [Sample; 6] {
     let sample = |name, text, profile| Sample { name, text, profile };
     [
         sample("ASCII", ascii(), &[]),
@@ -204,5 +220,6 @@ pub fn all() -> [Sample; 5] {
         sample("Adlam", adlam(), &[]),
         sample("mixed scripts", mixed(), &[]),
         sample("dotted names", dotted(), &MEDIALS),
+        sample("short lines", short_lines(), &[]),
     ]
 }

@@ -140,20 +140,20 @@ static void tokens(const uint8_t *m, size_t m_len)
 {
     static const uint8_t text[] = {'a', 'b', '.', 'c', '1', ' ', '.'};
     static const uint32_t list[] = {
-        LUFFINARC_KIND_IDENTIFIER, 0, 5, LUFFINARC_KIND_WHITESPACE, 5, 6, LUFFINARC_KIND_SYNTAX, 6, 7,
+        LUFFINARC_KIND_IDENTIFIER, 0, 5, 1, LUFFINARC_KIND_WHITESPACE, 5, 6, 1, LUFFINARC_KIND_SYNTAX, 6, 7, 1,
     };
-    uint32_t words[10];
+    uint32_t words[13];
     memset(words, 0xFF, sizeof words);
     CHECK(luffinarc_check(m, m_len, points, roles, answer) == 0 && gave(VERSION, 5, 1));
     CHECK(luffinarc_count(m, m_len, text, 7, answer) == 0 && gave(3, 0, 0));
     CHECK(luffinarc_count_checked(m, m_len, text, 7, answer) == 0 && gave(3, 0, 0));
-    CHECK(luffinarc_list(m, m_len, text, 7, words, 8, answer) == LUFFINARC_ROOM && gave(3, 0, 0));
+    CHECK(luffinarc_list(m, m_len, text, 7, words, 11, answer) == LUFFINARC_ROOM && gave(3, 0, 0));
     CHECK(words[0] == UINT32_MAX);
-    CHECK(luffinarc_list(m, m_len, text, 7, words, 10, answer) == 0 && gave(3, 0, 0));
-    CHECK(memcmp(words, list, sizeof list) == 0 && words[9] == UINT32_MAX);
+    CHECK(luffinarc_list(m, m_len, text, 7, words, 13, answer) == 0 && gave(3, 0, 0));
+    CHECK(memcmp(words, list, sizeof list) == 0 && words[12] == UINT32_MAX);
     memset(words, 0xFF, sizeof words);
-    CHECK(luffinarc_list_checked(m, m_len, text, 7, words, 9, answer) == 0 && gave(3, 0, 0));
-    CHECK(memcmp(words, list, sizeof list) == 0 && words[9] == UINT32_MAX);
+    CHECK(luffinarc_list_checked(m, m_len, text, 7, words, 12, answer) == 0 && gave(3, 0, 0));
+    CHECK(memcmp(words, list, sizeof list) == 0 && words[12] == UINT32_MAX);
     CHECK(luffinarc_token(m, m_len, text, 7, 5, answer) == 0 && gave(LUFFINARC_KIND_WHITESPACE, 5, 6));
     CHECK(luffinarc_token(m, m_len, text, 7, 4, answer) == LUFFINARC_CHARACTERS && gave(4, 0, 0));
     CHECK(luffinarc_token_checked(m, m_len, text, 7, 7, answer) == LUFFINARC_DONE && gave(0, 0, 0));
@@ -175,28 +175,49 @@ static void write_tagged(const uint8_t *m, size_t m_len, uint8_t *out)
 /* Hashtags, with each sign, with an image checked in each call and once before. */
 static void hashtags(const uint8_t *m, size_t m_len)
 {
-    static const uint8_t text[] = "%##a_ b#c \xEF\xBC\x83" "1.\xEF\xB9\x9Fz", bad[] = "#a\xE2\x82#b";
+    static const uint8_t text[] = "%##a_ b#c\n\xEF\xBC\x83" "1.\xEF\xB9\x9Fz", bad[] = "#a\xE2\x82#b";
     static const uint32_t list[] = {
-        LUFFINARC_KIND_HASHTAG, 2, 5, LUFFINARC_KIND_HASHTAG, 10, 14, LUFFINARC_KIND_HASHTAG, 15, 19,
+        LUFFINARC_KIND_HASHTAG, 2, 5, 1, LUFFINARC_KIND_HASHTAG, 10, 14, 2, LUFFINARC_KIND_HASHTAG, 15, 19, 2,
     };
-    uint32_t words[10];
+    uint32_t words[13];
     uint8_t p[108];
     memset(words, 0xFF, sizeof words);
     write_tagged(m, m_len, p);
     CHECK(luffinarc_check(p, 108, points, roles, answer) == 0 && gave(VERSION, 5, 2));
     CHECK(points[1] == 0x5F && roles[1] == LUFFINARC_ROLE_HASHTAG);
-    CHECK(luffinarc_hashtags(p, 108, text, 19, words, 8, answer) == LUFFINARC_ROOM && gave(3, 0, 0));
+    CHECK(luffinarc_hashtags(p, 108, text, 19, words, 11, answer) == LUFFINARC_ROOM && gave(3, 0, 0));
     CHECK(luffinarc_hashtags_checked(p, 108, text, 19, NULL, 0, answer) == LUFFINARC_ROOM && gave(3, 0, 0));
-    CHECK(luffinarc_hashtags(p, 108, bad, 6, words, 10, answer) == LUFFINARC_ILL_FORMED && gave(2, 2, 0));
-    CHECK(luffinarc_hashtags(p, 107, text, 19, words, 10, answer) == LUFFINARC_LENGTH && gave(0, 0, 0));
+    CHECK(luffinarc_hashtags(p, 108, bad, 6, words, 13, answer) == LUFFINARC_ILL_FORMED && gave(2, 2, 0));
+    CHECK(luffinarc_hashtags(p, 107, text, 19, words, 13, answer) == LUFFINARC_LENGTH && gave(0, 0, 0));
     CHECK(words[0] == UINT32_MAX);
-    CHECK(luffinarc_hashtags(p, 108, text, 19, words, 10, answer) == 0 && gave(3, 0, 0));
-    CHECK(memcmp(words, list, sizeof list) == 0 && words[9] == UINT32_MAX);
+    CHECK(luffinarc_hashtags(p, 108, text, 19, words, 13, answer) == 0 && gave(3, 0, 0));
+    CHECK(memcmp(words, list, sizeof list) == 0 && words[12] == UINT32_MAX);
     memset(words, 0xFF, sizeof words);
-    CHECK(luffinarc_hashtags_checked(p, 108, text, 19, words, 9, answer) == 0 && gave(3, 0, 0));
-    CHECK(memcmp(words, list, sizeof list) == 0 && words[9] == UINT32_MAX);
+    CHECK(luffinarc_hashtags_checked(p, 108, text, 19, words, 12, answer) == 0 && gave(3, 0, 0));
+    CHECK(memcmp(words, list, sizeof list) == 0 && words[12] == UINT32_MAX);
     CHECK(luffinarc_lookup(p, 108, 0x5F, answer) == 0 && gave(LUFFINARC_CLASS_UNASSIGNED, 3, 0));
     CHECK(luffinarc_count(p, 108, text, 19, answer) == LUFFINARC_CHARACTERS && gave(0, 0, 0));
+}
+
+/* Lines: CR LF ends one, so does LS, and CR LF is not parted by the token that begins at its LF. */
+static void lines(void)
+{
+    static const uint32_t ranges[] = {
+        0x0A, 0x0A, LUFFINARC_CLASS_SYNTAX, 0x0D, 0x0D, LUFFINARC_CLASS_WHITE,
+        0x61, 0x7A, LUFFINARC_CLASS_START,  0x2028, 0x2028, LUFFINARC_CLASS_NONSTART,
+    };
+    static const uint8_t text[] = "a\r\nb\xE2\x80\xA8" "c\r";
+    static const uint32_t list[] = {
+        LUFFINARC_KIND_IDENTIFIER, 0, 1, 1, LUFFINARC_KIND_WHITESPACE, 1, 2, 1, LUFFINARC_KIND_SYNTAX, 2, 3, 1,
+        LUFFINARC_KIND_IDENTIFIER, 3, 8, 2, LUFFINARC_KIND_WHITESPACE, 8, 9, 3,
+    };
+    uint32_t words[5 * LUFFINARC_TOKEN_WORDS];
+    uint8_t image[80];
+    CHECK(luffinarc_write(1, ranges, 12, points, roles, 0, image, 80, answer) == 0 && gave(80, 0, 0));
+    CHECK(luffinarc_list(image, 80, text, 9, words, 19, answer) == LUFFINARC_ROOM && gave(5, 0, 0));
+    CHECK(luffinarc_list(image, 80, text, 9, words, 20, answer) == 0 && gave(5, 0, 0));
+    CHECK(memcmp(words, list, sizeof list) == 0);
+    CHECK(luffinarc_token(image, 80, text, 9, 3, answer) == 0 && gave(LUFFINARC_KIND_IDENTIFIER, 3, 8));
 }
 
 /* Ill-formed texts: the place, and the length of the maximal subpart there. */
@@ -234,6 +255,7 @@ int main(int argc, char **argv)
     changes(m, m_len, m2, m2_len);
     tokens(m, m_len);
     hashtags(m, m_len);
+    lines();
     ill_formed(m, m_len);
     printf("%d passed, %d failed\n", passed, failed);
     return failed != 0;

@@ -1,7 +1,8 @@
 /* Lists the tokens of a text file: tokens IMAGE TEXT
  *
- * It checks the image once, and prints the number of tokens and a line for each, or a line for the refusal. Exit
- * status: 0 the tokens were listed, 1 the image or the text is refused, 2 a file cannot be read or memory is short.
+ * It checks the image once, and prints the number of tokens and a line for each, with its kind, its first byte, one past
+ * its last byte and its line in the text, or a line for the refusal. Exit status: 0 the tokens were listed, 1 the image
+ * or the text is refused, 2 a file cannot be read or memory is short.
  */
 #include <inttypes.h>
 #include <stdio.h>
@@ -86,7 +87,7 @@ static int list(struct bytes image, struct bytes text)
     luffinarc_list_checked(image.at, image.len, text.at, text.len, words, words_len, answer);
     printf("tokens %" PRIu64 "\n", answer[0]);
     for (size_t i = 0; i < words_len; i += LUFFINARC_RECORD_WORDS)
-        printf("%s %" PRIu32 " %" PRIu32 "\n", kind_name(words[i]), words[i + 1], words[i + 2]);
+        printf("%s %" PRIu32 " %" PRIu32 " %" PRIu32 "\n", kind_name(words[i]), words[i + 1], words[i + 2], words[i + 3]);
     free(words);
     return 0;
 }

@@ -40,9 +40,10 @@ extern "C" {
 #define LUFFINARC_MAX_CHANGED_ENTRIES 128
 
 /* The words of a range (first, last, class), and of a record in a list of tokens or of hashtags (kind, start byte, end
- * byte). */
+ * byte, line). LUFFINARC_TOKEN_WORDS is an older name of the latter. */
 #define LUFFINARC_RANGE_WORDS 3
-#define LUFFINARC_RECORD_WORDS 3
+#define LUFFINARC_RECORD_WORDS 4
+#define LUFFINARC_TOKEN_WORDS LUFFINARC_RECORD_WORDS
 
 /* The words of a run (first, last, older class, newer class) and of a changed entry (code point, older role, newer
  * role). */
@@ -181,7 +182,12 @@ uint32_t luffinarc_changes(const uint8_t *older, size_t older_len,
 uint32_t luffinarc_count(const uint8_t *image, size_t image_len,
                          const uint8_t *text, size_t text_len, uint64_t *answer);
 
-/* Writes the list of a text's tokens to `words`, LUFFINARC_RECORD_WORDS each: kind, first byte, one past the last byte.
+/* Writes the list of a text's tokens to `words`, LUFFINARC_RECORD_WORDS each: kind, first byte, one past the last byte,
+ * line.
+ *
+ * Lines are counted from 1: a token's line is one more than the number of line ends whose last byte stands before its
+ * first byte. U+000A, U+000B, U+000C, U+000D, U+0085, U+2028 and U+2029 each end a line, whatever their class or role,
+ * and inside an identifier too; but U+000D with U+000A right after it ends one line, at the U+000A.
  *
  * 0: answer[0] is their number; the words past the list stay as they were.
  * Refusals: 1 to 4, 5, 6 with place and length, 7, then 8 where words_len / LUFFINARC_RECORD_WORDS, rounded down, is
@@ -191,7 +197,7 @@ uint32_t luffinarc_list(const uint8_t *image, size_t image_len,
                         const uint8_t *text, size_t text_len,
                         uint32_t *words, size_t words_len, uint64_t *answer);
 
-/* Takes one token, at a byte place of a text. Nothing past the token needs to be well-formed.
+/* Takes one token, at a byte place of a text. Nothing past the token needs to be well-formed. The answer has no line.
  *
  * 0: answer is the token's kind, its first byte, which is the place, and one past its last byte.
  * LUFFINARC_DONE: the place is the text's end; answer is zeros.
@@ -203,7 +209,7 @@ uint32_t luffinarc_token(const uint8_t *image, size_t image_len,
                          size_t place, uint64_t *answer);
 
 /* Writes the list of a text's hashtags to `words`, LUFFINARC_RECORD_WORDS each: LUFFINARC_KIND_HASHTAG, first byte, one
- * past the last byte.
+ * past the last byte, line. The line is that of the sign, counted as luffinarc_list does.
  *
  * A hashtag is one of the signs U+0023, U+FE5F and U+FF03 and after it the longest run of hashtag Continue, at least
  * one, where no hashtag Continue stands right before the sign. Hashtag Continue are the code points whose class after

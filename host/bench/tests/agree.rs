@@ -85,6 +85,19 @@ fn dotted_names() {
     assert_eq!((of(kind::IDENTIFIER), of(kind::SYNTAX)), (names, 0));
 }
 
+/// Short lines have 4 to 30 bytes, those of flowing text about as many; a part of them end with CR LF.
+#[test]
+fn short_lines() {
+    let text = texts::short_lines();
+    let mut lines = text.trim_end_matches(' ').split_inclusive('\n');
+    assert!(lines.all(|line| (4..=30).contains(&line.len())));
+    for text in [text, prose::short_lines()] {
+        let [lines, windows] = ["\n", "\r\n"].map(|end| text.matches(end).count());
+        assert!((10..20).contains(&(texts::LENGTH / lines)), "{lines}");
+        assert!(windows > lines / 5 && windows < lines / 2, "{windows} of {lines}");
+    }
+}
+
 #[test]
 fn on_made_cases() {
     let mut rng = Rng::new();

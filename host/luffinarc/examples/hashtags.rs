@@ -14,7 +14,7 @@ fn main() -> Result<(), Box<dyn Error>> {
     let image = Image::check(&bytes)?;
     for tag in image.hashtags(&text)? {
         let (start, end) = (tag.range.start, tag.range.end);
-        println!("{start} {end} {}", &text[tag.range]);
+        println!("{start} {end} {} {}", tag.line, &text[tag.range]);
     }
     Ok(())
 }

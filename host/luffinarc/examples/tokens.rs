@@ -13,7 +13,8 @@ fn main() -> Result<(), Box<dyn Error>> {
     let text = fs::read(&names[1])?;
     let image = Image::check(&bytes)?;
     for token in image.tokens(&text)? {
-        println!("{:?} {} {}", token.kind, token.range.start, token.range.end);
+        let (start, end) = (token.range.start, token.range.end);
+        println!("{:?} {start} {end} {}", token.kind, token.line);
     }
     Ok(())
 }

@@ -118,14 +118,27 @@ pub unsafe fn count_checked(image: &[u8], text: &[u8], answer: &mut Answer) -> u
     ffi::luffinarc_count_checked(image.as_ptr(), image.len(), text, text_len, answer)
 }
 
-/// Writes the list of a text's tokens to `words`, a record each: kind, start byte, end byte.
+/// Calls a function that writes a list of a text.
+///
+/// # Safety
+///
+/// The image is one that the function takes.
+unsafe fn listed(
+    list: ffi::List,
+    image: &[u8],
+    text: &[u8],
+    words: &mut [u32],
+    answer: &mut Answer,
+) -> u32 {
+    let (image, image_len) = (image.as_ptr(), image.len());
+    let (text, text_len) = (text.as_ptr(), text.len());
+    let (words, words_len) = (words.as_mut_ptr(), words.len());
+    list(image, image_len, text, text_len, words, words_len, answer)
+}
+
+/// Writes the list of a text's tokens to `words`, a record each: kind, start byte, end byte, line.
 pub fn list(image: &[u8], text: &[u8], words: &mut [u32], answer: &mut Answer) -> u32 {
-    unsafe {
-        let (image, image_len) = (image.as_ptr(), image.len());
-        let (text, text_len) = (text.as_ptr(), text.len());
-        let (words, words_len) = (words.as_mut_ptr(), words.len());
-        ffi::luffinarc_list(image, image_len, text, text_len, words, words_len, answer)
-    }
+    unsafe { listed(ffi::luffinarc_list, image, text, words, answer) }
 }
 
 /// As [`list`], under an image that is not checked again.
@@ -139,10 +152,7 @@ pub unsafe fn list_checked(
     words: &mut [u32],
     answer: &mut Answer,
 ) -> u32 {
-    let (image, image_len) = (image.as_ptr(), image.len());
-    let (text, text_len) = (text.as_ptr(), text.len());
-    let (words, words_len) = (words.as_mut_ptr(), words.len());
-    ffi::luffinarc_list_checked(image, image_len, text, text_len, words, words_len, answer)
+    listed(ffi::luffinarc_list_checked, image, text, words, answer)
 }
 
 /// Takes the token at a place of a text.
@@ -163,14 +173,9 @@ pub unsafe fn token_checked(image: &[u8], text: &[u8], place: usize, answer: &mu
     ffi::luffinarc_token_checked(image.as_ptr(), image.len(), text, text_len, place, answer)
 }
 
-/// Writes the list of a text's hashtags to `words`, a record each: kind, start byte, end byte.
+/// Writes the list of a text's hashtags to `words`, a record each: kind, start byte, end byte, line.
 pub fn hashtags(image: &[u8], text: &[u8], words: &mut [u32], answer: &mut Answer) -> u32 {
-    unsafe {
-        let (image, image_len) = (image.as_ptr(), image.len());
-        let (text, text_len) = (text.as_ptr(), text.len());
-        let (words, words_len) = (words.as_mut_ptr(), words.len());
-        ffi::luffinarc_hashtags(image, image_len, text, text_len, words, words_len, answer)
-    }
+    unsafe { listed(ffi::luffinarc_hashtags, image, text, words, answer) }
 }
 
 /// As [`hashtags`], under an image that is not checked again.
@@ -184,10 +189,7 @@ pub unsafe fn hashtags_checked(
     words: &mut [u32],
     answer: &mut Answer,
 ) -> u32 {
-    let (image, image_len) = (image.as_ptr(), image.len());
-    let (text, text_len) = (text.as_ptr(), text.len());
-    let (words, words_len) = (words.as_mut_ptr(), words.len());
-    ffi::luffinarc_hashtags_checked(image, image_len, text, text_len, words, words_len, answer)
+    listed(ffi::luffinarc_hashtags_checked, image, text, words, answer)
 }
 
 /// Hands back a part of a text, as its first byte and its number of bytes.

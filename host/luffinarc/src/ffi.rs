@@ -6,6 +6,10 @@ pub type Answer = [u64; 4];
 /// The code points or the roles of a profile.
 pub type Entries = [u32; crate::MAX_ENTRIES];
 
+/// A function that writes a list of a text: of image, text, words and answer.
+pub type List =
+    unsafe extern "C" fn(*const u8, usize, *const u8, usize, *mut u32, usize, *mut Answer) -> u32;
+
 extern "C" {
     pub fn luffinarc_check(
         image: *const u8,

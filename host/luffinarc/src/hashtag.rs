@@ -9,11 +9,13 @@ use std::ops::Range;
 /// The kind in the record of a hashtag, which no token has.
 pub const HASHTAG_KIND: u32 = 6;
 
-/// A hashtag: its bytes' places in the text.
+/// A hashtag: its bytes' places in the text, and its line.
 #[derive(Clone, Debug, PartialEq, Eq, Hash)]
 pub struct Hashtag {
     /// The first byte, of the sign, and one past the last.
     pub range: Range<usize>,
+    /// The line of the sign, counted from 1; line ends are those of [`Token::line`](crate::Token::line).
+    pub line: u32,
 }
 
 impl Image<'_> {
@@ -49,9 +51,10 @@ impl Image<'_> {
     ///     let bytes = write_image(1, &[letters], &Profile::new(&[('-'.into(), Role::Hashtag)]))?;
     ///     let image = Image::check(&bytes)?;
     ///
-    ///     let text = "shift note: #night-shift, ##leak; not b#c";
-    ///     let tags: Vec<&str> = image.hashtags(text)?.into_iter().map(|tag| &text[tag.range]).collect();
-    ///     assert_eq!(tags, ["#night-shift", "#leak"]);
+    ///     let text = "shift note:\n#night-shift, ##leak; not b#c";
+    ///     let tags = image.hashtags(text)?;
+    ///     let parts: Vec<_> = tags.into_iter().map(|tag| (&text[tag.range], tag.line)).collect();
+    ///     assert_eq!(parts, [("#night-shift", 2), ("#leak", 2)]);
     ///     Ok(())
     /// }
     /// ```
@@ -62,7 +65,10 @@ impl Image<'_> {
     pub fn hashtags<T: AsRef<[u8]> + ?Sized>(&self, text: &T) -> Result<Vec<Hashtag>, Refusal> {
         let text = text.as_ref();
         let words = whole_list(text, 64, |words| self.list_hashtags(text, words))?;
-        let tag = |words: &[u32]| Hashtag { range: record(words).1 };
+        let tag = |words: &[u32]| {
+            let (_, range, line) = record(words);
+            Hashtag { range, line }
+        };
         Ok(words.chunks_exact(RECORD_WORDS).map(tag).collect())
     }
 }

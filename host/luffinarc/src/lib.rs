@@ -60,4 +60,4 @@ pub use image::{
 pub use names::{Class, Kind, Role};
 pub use record::RECORD_WORDS;
 pub use refusal::{PairRefusal, Refusal};
-pub use token::{part, Token, Tokens, MAX_TEXT};
+pub use token::{part, Taken, Token, Tokens, MAX_TEXT};

@@ -4,12 +4,12 @@ use crate::refusal::Refusal;
 use crate::token::MAX_TEXT;
 use std::ops::Range;
 
-/// The words of a record in a list of tokens or of hashtags: kind, start byte, end byte.
-pub const RECORD_WORDS: usize = 3;
+/// The words of a record in a list of tokens or of hashtags: kind, start byte, end byte, line.
+pub const RECORD_WORDS: usize = 4;
 
-/// The kind and the bytes of a record.
-pub(crate) fn record(words: &[u32]) -> (u32, Range<usize>) {
-    (words[0], words[1] as usize..words[2] as usize)
+/// The kind, the bytes and the line of a record.
+pub(crate) fn record(words: &[u32]) -> (u32, Range<usize>, u32) {
+    (words[0], words[1] as usize..words[2] as usize, words[3])
 }
 
 /// The words of a whole list of a text, by the call that writes it. There is room at first for a record to so many

@@ -16,12 +16,27 @@ fn given_kind(number: u32) -> Kind {
     Kind::from_number(number).expect("the library gives kinds 1 to 3")
 }
 
-/// A token: its kind and its bytes' places in the text.
+/// A token of a text: its kind, its bytes' places, and its line.
 #[derive(Clone, Debug, PartialEq, Eq, Hash)]
 pub struct Token {
     /// The kind.
     pub kind: Kind,
     /// The first byte, and one past the last.
+    pub range: Range<usize>,
+    /// The line of the first byte, counted from 1.
+    ///
+    /// A line ends with U+000A, U+000B, U+000C, U+000D, U+0085, U+2028 or U+2029, whatever its class or role, and
+    /// inside an identifier too; U+000D with U+000A right after it ends one line, at the U+000A.
+    pub line: u32,
+}
+
+/// The token at a place, taken by itself: its kind and its bytes' places. It has no line, since the text before the
+/// place is not read.
+#[derive(Clone, Debug, PartialEq, Eq, Hash)]
+pub struct Taken {
+    /// The kind.
+    pub kind: Kind,
+    /// The first byte, which is the place, and one past the last.
     pub range: Range<usize>,
 }
 
@@ -36,9 +51,9 @@ impl Iterator for Tokens {
     type Item = Token;
 
     fn next(&mut self) -> Option<Token> {
-        let (kind, range) = record(self.words.get(self.next..self.next + RECORD_WORDS)?);
+        let (kind, range, line) = record(self.words.get(self.next..self.next + RECORD_WORDS)?);
         self.next += RECORD_WORDS;
-        Some(Token { kind: given_kind(kind), range })
+        Some(Token { kind: given_kind(kind), range, line })
     }
 
     fn size_hint(&self) -> (usize, Option<usize>) {
@@ -83,6 +98,21 @@ impl Image<'_> {
 
     /// The tokens of a text.
     ///
+    /// ```
+    /// use luffinarc::{write_image, Class, Image, Profile, Range, Refusal};
+    ///
+    /// fn main() -> Result<(), Refusal> {
+    ///     let white = Range { first: 0x0A, last: 0x0D, class: Class::White };
+    ///     let letters = Range { first: 'a'.into(), last: 'z'.into(), class: Class::Start };
+    ///     let bytes = write_image(1, &[white, letters], &Profile::default())?;
+    ///     let image = Image::check(&bytes)?;
+    ///
+    ///     let lines: Vec<u32> = image.tokens("pump\r\nvalve\n\npanel")?.map(|token| token.line).collect();
+    ///     assert_eq!(lines, [1, 1, 2, 2, 4]);
+    ///     Ok(())
+    /// }
+    /// ```
+    ///
     /// # Errors
     ///
     /// Those of [`count`](Image::count).
@@ -110,7 +140,7 @@ impl Image<'_> {
         &self,
         text: &T,
         place: usize,
-    ) -> Result<Option<Token>, Refusal> {
+    ) -> Result<Option<Taken>, Refusal> {
         let (text, mut answer) = (text.as_ref(), Answer::default());
         // Safety: the image was accepted.
         let number = unsafe { calls::token_checked(self.as_bytes(), text, place, &mut answer) };
@@ -118,7 +148,7 @@ impl Image<'_> {
             return Ok(None);
         }
         let [kind, start, end, _] = result(number, answer)?;
-        Ok(Some(Token { kind: given_kind(kind as u32), range: start as usize..end as usize }))
+        Ok(Some(Taken { kind: given_kind(kind as u32), range: start as usize..end as usize }))
     }
 }
 

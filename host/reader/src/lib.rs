@@ -8,6 +8,7 @@ pub mod cases;
 pub mod changes;
 pub mod hashtag;
 pub mod image;
+pub mod line;
 pub mod lister;
 pub mod names;
 pub mod record;

@@ -51,7 +51,8 @@ pub fn lister(input: &[u8]) -> String {
     };
     let mut output = format!("tokens {}\n", words.len() / RECORD_WORDS);
     for token in words.chunks(RECORD_WORDS) {
-        output += &format!("{} {} {}\n", kind_name(token[0]), token[1], token[2]);
+        let (kind, line) = (kind_name(token[0]), token[3]);
+        output += &format!("{kind} {} {} {line}\n", token[1], token[2]);
     }
     output
 }

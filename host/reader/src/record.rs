@@ -2,8 +2,8 @@
 
 use crate::refusal::Refusal;
 
-/// The words of a record: kind, start byte, end byte.
-pub const RECORD_WORDS: usize = 3;
+/// The words of a record: kind, start byte, end byte, line.
+pub const RECORD_WORDS: usize = 4;
 
 pub type Record = [u32; RECORD_WORDS];
 

@@ -1,6 +1,7 @@
 //! Tokens: count, list, one token at a place, and a token's bytes.
 
 use crate::image::{parse, Image};
+use crate::line::{line_ends, line_of};
 use crate::names::{class, kind, role};
 use crate::record::{write_records, Record};
 use crate::refusal::Refusal;
@@ -9,7 +10,7 @@ use crate::utf8::{decode, maximal_subpart, Placed};
 /// The most bytes of a text.
 pub const MAX_TEXT: usize = 1_048_576;
 
-/// A token: its kind, its first byte and one past its last.
+/// A token at a place: its kind, its first byte and one past its last.
 #[derive(Clone, Copy, Debug, PartialEq, Eq)]
 pub struct Token {
     pub kind: u32,
@@ -90,13 +91,15 @@ pub(crate) fn whole_text(text: &[u8]) -> Result<Vec<Placed>, Refusal> {
 
 /// The text's tokens, or the first of refusals 5 to 7.
 fn tokens(image: &Image, text: &[u8]) -> Result<Vec<Record>, Refusal> {
-    let units = units_of(image, &whole_text(text)?);
+    let points = whole_text(text)?;
+    let (units, ends) = (units_of(image, &points), line_ends(&points));
     let mut tokens = Vec::new();
     let mut rest = &units[..];
     while !rest.is_empty() {
         let start = rest[0].start;
         let (kind, length) = longest(rest).ok_or(Refusal::Characters(start as u64))?;
-        tokens.push([kind, start as u32, rest[length - 1].end as u32]);
+        let end = rest[length - 1].end;
+        tokens.push([kind, start as u32, end as u32, line_of(&ends, start)]);
         rest = &rest[length..];
     }
     Ok(tokens)

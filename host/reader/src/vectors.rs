@@ -6,7 +6,7 @@ use std::collections::BTreeMap;
 use std::io::Write;
 
 const FOLDER: &str = concat!(env!("CARGO_MANIFEST_DIR"), "/../data/vectors/");
-const FILES: [&str; 4] = ["calls.txt", "changes.txt", "form.txt", "hashtags.txt"];
+const FILES: [&str; 5] = ["calls.txt", "changes.txt", "form.txt", "hashtags.txt", "lists.txt"];
 
 /// The images under which the form of a text is asked for.
 const FORM_IMAGES: [&str; 2] = ["../images/m.img", "../images/unicode-16.0.img"];

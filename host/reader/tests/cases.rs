@@ -3,6 +3,7 @@
 use luffinarc_reader::cases::*;
 use luffinarc_reader::changes::{CHANGED_ENTRY_WORDS, MAX_CHANGED_ENTRIES, MAX_RUNS, RUN_WORDS};
 use luffinarc_reader::image::{parse, permitted, write, MAX_ENTRIES, MAX_RANGES, RANGE_WORDS};
+use luffinarc_reader::line::LINE_ENDS;
 use luffinarc_reader::record::RECORD_WORDS;
 use luffinarc_reader::*;
 
@@ -128,12 +129,25 @@ fn changed() {
     tally.close("changes", "ok,o1,o2,o3,o4,n1,n2,n3,n4,8");
 }
 
-/// The list covers the text without gaps, and each token stands at its place.
+/// The number of line ends in a part of a text, which begins in no CR LF.
+fn line_ends(part: &[u8]) -> u32 {
+    let part = std::str::from_utf8(part).unwrap().replace("\r\n", "\n");
+    let ends = ['\n', '\x0B', '\x0C', '\r', '\u{85}', '\u{2028}', '\u{2029}'];
+    part.matches(&ends[..]).count() as u32
+}
+
+/// The list covers the text without gaps, each token stands at its place, and lines go up by the line ends between.
 fn division(image: &[u8], text: &[u8], words: &[u32]) {
-    let mut place = 0;
+    let (mut place, mut from, mut line) = (0, 0, 1);
     for (i, token) in words.chunks(RECORD_WORDS).enumerate() {
         let (start, end) = (token[1] as usize, token[2] as usize);
         assert!(start == place && end > start);
+        // A CR that LF follows is counted with the LF.
+        let cut = start > 0 && text[start - 1..].starts_with(b"\r\n");
+        let to = if cut { start - 1 } else { start };
+        line += line_ends(&text[from..to]);
+        from = to;
+        assert_eq!(token[3], line);
         if i < 20 {
             assert_eq!(at(image, text, start), Ok(Some(Token { kind: token[0], start, end })));
         }
@@ -162,19 +176,64 @@ fn lists() {
     lists.close("list", "ok,1,2,3,4,5,6,7,8");
 }
 
+/// Names what the line ends of a list of tokens are in.
+fn name_line_ends(tally: &mut Tally, image: &[u8], text: &[u8], words: &[u32]) {
+    let (image, (points, _)) = (parse(image).unwrap(), utf8::decode(text));
+    let mut tokens = words.chunks(RECORD_WORDS).peekable();
+    for (i, at) in points.iter().enumerate().filter(|(_, p)| LINE_ENDS.contains(&p.point)) {
+        while tokens.peek().map_or(false, |token| token[2] as usize <= at.start) {
+            tokens.next();
+        }
+        let token = tokens.peek().unwrap();
+        let continues = matches!(image.class(at.point), class::START | class::NONSTART);
+        let kind = match token[0] {
+            kind::IDENTIFIER if !continues => "as a medial",
+            kind::IDENTIFIER => "in an identifier",
+            kind::SYNTAX => "as syntax",
+            _ => "in white space",
+        };
+        tally.name(&format!("{:X} {kind}", at.point));
+        let before = points[..i].last().map_or(0, |p| p.point);
+        if (before, at.point) == (0x0D, 0x0A) {
+            let cut = token[1] as usize == at.start;
+            tally.name(if cut { "CR LF cut" } else { "CR LF in a token" });
+        }
+    }
+}
+
+#[test]
+fn lines() {
+    let (mut rng, mut tally) = (Rng::seeded(12), Tally::default());
+    for _ in 0..RUNS {
+        let case = list_case(&mut rng);
+        let mut words = vec![7; RECORD_WORDS * case.text.len()];
+        if let Ok(count) = list(&case.image, &case.text, &mut words) {
+            name_line_ends(&mut tally, &case.image, &case.text, &words[..RECORD_WORDS * count]);
+        }
+    }
+    let kinds = ["as a medial", "in an identifier", "as syntax", "in white space"];
+    let of = |point: u32| kinds.map(|kind| format!("{point:X} {kind}")).join(",");
+    let all = LINE_ENDS.map(of).join(",");
+    tally.close("lines", &(all + ",CR LF cut,CR LF in a token"));
+}
+
 /// Each tag is a sign and hashtag Continue as far as it goes, none right before; every sign outside of tags has a reason.
 fn tagged(image: &[u8], text: &[u8], words: &[u32]) {
     let image = parse(image).unwrap();
     let text = std::str::from_utf8(text).unwrap();
     let continues = |c: char| hashtag::is_hashtag_continue(&image, c.into());
     let is_sign = |c: char| hashtag::SIGNS.contains(&c.into());
-    let mut starts = Vec::new();
+    let (mut starts, mut from, mut line) = (Vec::new(), 0, 1);
     for tag in words.chunks(RECORD_WORDS) {
         let (start, end) = (tag[1] as usize, tag[2] as usize);
         let mut inside = text[start..end].chars();
         assert!(tag[0] == kind::HASHTAG && inside.next().map_or(false, is_sign));
         assert!(inside.clone().count() > 0 && inside.all(continues));
         assert!(!text[end..].chars().next().map_or(false, continues));
+        // No sign stands between CR and LF.
+        line += line_ends(text[from..start].as_bytes());
+        from = start;
+        assert_eq!(tag[3], line);
         starts.push(start);
     }
     assert!(starts.windows(2).all(|two| two[0] < two[1]));

@@ -50,10 +50,10 @@ fn readings() {
     assert_eq!(m2().len(), 112);
     let accepted: [(&[u8], &[u32]); 5] = [
         (b"", &[]),
-        (b"ab.c1 .", &[1, 0, 5, 3, 5, 6, 2, 6, 7]),
-        (b"a.", &[1, 0, 1, 2, 1, 2]),
-        (b"a..b", &[1, 0, 1, 2, 1, 2, 2, 2, 3, 1, 3, 4]),
-        (b".a", &[2, 0, 1, 1, 1, 2]),
+        (b"ab.c1 .", &[1, 0, 5, 1, 3, 5, 6, 1, 2, 6, 7, 1]),
+        (b"a.", &[1, 0, 1, 1, 2, 1, 2, 1]),
+        (b"a..b", &[1, 0, 1, 1, 2, 1, 2, 1, 2, 2, 3, 1, 1, 3, 4, 1]),
+        (b".a", &[2, 0, 1, 1, 1, 1, 2, 1]),
     ];
     for (text, list) in accepted {
         assert_eq!(tokens(&m(), text), Ok(list.to_vec()));
@@ -66,8 +66,40 @@ fn readings() {
     for (text, refusal) in refused {
         assert_eq!(tokens(&m(), text), Err(refusal));
     }
-    assert_eq!(tokens(&m2(), b"\x61\xC3\xA9"), Ok(vec![1, 0, 3]));
-    assert_eq!(list(&m(), b"ab.c1 .", &mut [0; 8]), Err(Refusal::Room(3)));
+    assert_eq!(tokens(&m2(), b"\x61\xC3\xA9"), Ok(vec![1, 0, 3, 1]));
+    assert_eq!(list(&m(), b"ab.c1 .", &mut [0; 11]), Err(Refusal::Room(3)));
+}
+
+/// M with line ends as white space but for LS, which is syntax, and with a profile.
+fn k(entries: &[(u32, u32)]) -> Vec<u8> {
+    let ends = [0x0A, 0x0D, WHITE, 0x20, 0x20, WHITE, 0x2E, 0x2E, SYNTAX, 0x30, 0x39, NONSTART];
+    let letters = [0x41, 0x5A, START, 0x61, 0x7A, START, 0x85, 0x85, WHITE];
+    let separators = [0x2028, 0x2028, SYNTAX, 0x2029, 0x2029, WHITE];
+    image(VERSION, &[&ends[..], &letters, &separators].concat(), entries)
+}
+
+#[test]
+fn lines() {
+    let plain: [(&str, &[u32]); 7] = [
+        ("a\r\nb", &[1, 0, 1, 1, 3, 1, 3, 1, 1, 3, 4, 2]),
+        ("\r\r\na", &[3, 0, 3, 1, 1, 3, 4, 3]),
+        ("\n\ra", &[3, 0, 2, 1, 1, 2, 3, 3]),
+        ("\x0B\x0C\u{85}\u{2029}a", &[3, 0, 7, 1, 1, 7, 8, 5]),
+        ("\u{2028}a", &[2, 0, 3, 1, 1, 3, 4, 2]),
+        ("\u{2028}\n", &[2, 0, 3, 1, 3, 3, 4, 2]),
+        ("a\r", &[1, 0, 1, 1, 3, 1, 2, 1]),
+    ];
+    for (text, list) in plain {
+        assert_eq!(tokens(&k(&[]), text.as_bytes()), Ok(list.to_vec()), "{text:?}");
+    }
+    let start = k(&[(0x0A, role::START)]);
+    assert_eq!(tokens(&start, b"\r\nb "), Ok(vec![3, 0, 1, 1, 1, 1, 3, 1, 3, 3, 4, 2]));
+    assert_eq!(tokens(&start, b"a\nb "), Ok(vec![1, 0, 3, 1, 3, 3, 4, 2]));
+    let medial = k(&[(0x0D, role::MEDIAL)]);
+    assert_eq!(tokens(&medial, b"a\rb\n."), Ok(vec![1, 0, 3, 1, 3, 3, 4, 2, 2, 4, 5, 3]));
+    assert_eq!(tags(&start, b"#a\r\n#b\r#c"), [6, 0, 2, 1, 6, 7, 9, 3]);
+    let tagged = k(&[(0x0A, role::HASHTAG)]);
+    assert_eq!(tags(&tagged, b"#a\nb \r\n.#c"), [6, 0, 4, 1, 6, 8, 10, 3]);
 }
 
 /// Refusal 6: bytes, the place and the length of the maximal subpart there.
@@ -129,21 +161,21 @@ fn p() -> Vec<u8> {
 fn tagged_texts() {
     let cases: [(&[u8], &[u32]); 9] = [
         (b"", &[]),
-        (b"##a", &[6, 1, 3]),
-        (b"#1.x", &[6, 0, 2]),
-        (b"#_ _#a", &[6, 0, 2]),
-        (b"#a#b", &[6, 0, 2]),
-        (b"a.#b #", &[6, 2, 4]),
+        (b"##a", &[6, 1, 3, 1]),
+        (b"#1.x", &[6, 0, 2, 1]),
+        (b"#_ _#a", &[6, 0, 2, 1]),
+        (b"#a#b", &[6, 0, 2, 1]),
+        (b"a.#b #", &[6, 2, 4, 1]),
         (b"a#b", &[]),
-        (b"%#a%", &[6, 1, 3]),
-        (b"\xEF\xBC\x83a \xEF\xB9\x9F1", &[6, 0, 4, 6, 5, 9]),
+        (b"%#a%", &[6, 1, 3, 1]),
+        (b"\xEF\xBC\x83a \xEF\xB9\x9F1", &[6, 0, 4, 1, 6, 5, 9, 1]),
     ];
     for (text, expected) in cases {
         assert_eq!(tags(&p(), text), expected, "{text:02X?}");
     }
     let sign = image(VERSION, &SMALL, &[(0x23, role::NONSTART)]);
-    assert_eq!(tags(&sign, b"##a"), [6, 1, 3]);
-    assert_eq!(hashtags(&p(), b"#a #b", &mut [0; 5]), Err(Refusal::Room(2)));
+    assert_eq!(tags(&sign, b"##a"), [6, 1, 3, 1]);
+    assert_eq!(hashtags(&p(), b"#a #b", &mut [0; 7]), Err(Refusal::Room(2)));
     let ill_formed = Refusal::IllFormed { place: 2, len: 2 };
     assert_eq!(hashtags(&p(), b"#a\xE2\x82", &mut []), Err(ill_formed));
 }
@@ -156,7 +188,7 @@ fn hashtag_roles() {
     assert_eq!(tokens(&p(), b"a_b"), Err(Refusal::Characters(1)));
     let words = [&SMALL[..12], &[0x5F, 0x5F, SYNTAX], &SMALL[12..]].concat();
     let syntax = image(VERSION, &words, &[(0x5F, role::HASHTAG)]);
-    assert_eq!(tokens(&syntax, b"a_b"), Ok(vec![1, 0, 1, 2, 1, 2, 1, 2, 3]));
+    assert_eq!(tokens(&syntax, b"a_b"), Ok(vec![1, 0, 1, 1, 2, 1, 2, 1, 1, 2, 3, 1]));
     assert_eq!(pair(&m(), &p()), Err(PairRefusal::Pair(Refusal::Profiles)));
     assert_eq!(changed(&m(), &p()), (vec![], vec![0x5F, 0, role::HASHTAG]));
 }
@@ -227,10 +259,10 @@ fn counts_at_their_limits() {
 #[test]
 fn lister_output() {
     let good = [&m()[..], b"ab.c1 ."].concat();
-    assert_eq!(lister(&good), "tokens 3\nidentifier 0 5\nwhitespace 5 6\nsyntax 6 7\n");
+    assert_eq!(lister(&good), "tokens 3\nidentifier 0 5 1\nwhitespace 5 6 1\nsyntax 6 7 1\n");
     assert_eq!(lister(&[&m()[..], b"a 1"].concat()), "refused 7 2\n");
     let long = [&m()[..], &[b'a'; MAX_SCRIPT]].concat();
-    assert_eq!(lister(&long), format!("tokens 1\nidentifier 0 {MAX_SCRIPT}\n"));
+    assert_eq!(lister(&long), format!("tokens 1\nidentifier 0 {MAX_SCRIPT} 1\n"));
     assert_eq!(lister(&[&long[..], b"a"].concat()), "refused 5\n");
 }
 

@@ -4,6 +4,7 @@ use luffinarc::{Hashtag, Image, HASHTAG_KIND, MAX_TEXT, RECORD_WORDS};
 use luffinarc_reader::cases::*;
 use luffinarc_reader::hashtag::SIGNS;
 use luffinarc_reader::image::{parse, Image as Made, Range};
+use luffinarc_reader::line::LINE_ENDS;
 use luffinarc_reader::{class, role, Calls, Profile, Reader, Refusal};
 use luffinarc_tests::{data, named, runs, say, Library};
 
@@ -22,7 +23,7 @@ fn compare_with(image: &[u8], text: &[u8], room: usize) -> Result<usize, Refusal
 fn compare(image: &[u8], text: &[u8]) -> Result<usize, Refusal> {
     let result = compare_with(image, text, RECORD_WORDS * (text.len() / 2));
     let exact = RECORD_WORDS * result.unwrap_or(2);
-    for room in [exact, exact.saturating_sub(1), exact + 4, 0] {
+    for room in [exact, exact.saturating_sub(1), exact + 5, 0] {
         compare_with(image, text, room).ok();
     }
     result
@@ -46,7 +47,8 @@ fn made_lists() {
             Ok(count) => count,
             Err(_) => continue,
         };
-        let record = |tag: Hashtag| [HASHTAG_KIND, tag.range.start as u32, tag.range.end as u32];
+        let record =
+            |tag: Hashtag| [HASHTAG_KIND, tag.range.start as u32, tag.range.end as u32, tag.line];
         let records = image.hashtags(&case.text).unwrap().into_iter().flat_map(record);
         assert!(records.eq(words[..RECORD_WORDS * count].iter().copied()), "{case:02X?}");
     }
@@ -216,8 +218,11 @@ fn every_character() {
             (_, role) => role == role::HASHTAG,
         };
         let text = format!("#{c} {c}\u{FF03}b");
-        let range = if continues { 0..1 + c.len_utf8() } else { text.len() - 4..text.len() };
-        assert_eq!(image.hashtags(&text), Ok(vec![Hashtag { range }]), "{c:?}");
+        let ends_line = LINE_ENDS.contains(&c.into());
+        let last =
+            Hashtag { range: text.len() - 4..text.len(), line: if ends_line { 3 } else { 1 } };
+        let tag = if continues { Hashtag { range: 0..1 + c.len_utf8(), line: 1 } } else { last };
+        assert_eq!(image.hashtags(&text), Ok(vec![tag]), "{c:?}");
     }
 }
 
@@ -256,9 +261,9 @@ fn most_tags() {
     assert_eq!(image.list_hashtags(&apart, &mut words), Ok(MAX_TEXT / 3));
     for (i, record) in words.chunks_exact(RECORD_WORDS).enumerate() {
         let start = 3 * i as u32;
-        assert_eq!(record, [HASHTAG_KIND, start, start + 2]);
+        assert_eq!(record, [HASHTAG_KIND, start, start + 2, 1]);
     }
     assert_eq!(words.last(), Some(&7));
     let one = image.hashtags(&format!("#{}", "a".repeat(MAX_TEXT - 1))).unwrap();
-    assert_eq!(one, [Hashtag { range: 0..MAX_TEXT }]);
+    assert_eq!(one, [Hashtag { range: 0..MAX_TEXT, line: 1 }]);
 }

@@ -154,6 +154,7 @@ fn limits() {
         let of_c = in_c(&format!("LUFFINARC_{name}")) as usize;
         assert_eq!((of_rust, of_reader), (of_c, of_c), "{name}");
     }
+    assert!(HEADER.contains("\n#define LUFFINARC_TOKEN_WORDS LUFFINARC_RECORD_WORDS\n"));
     assert_eq!(in_c("LUFFINARC_DONE"), luffinarc::calls::DONE);
     assert_eq!(in_c("LUFFINARC_ANSWER") as usize, luffinarc::calls::Answer::default().len());
 }

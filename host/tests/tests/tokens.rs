@@ -48,8 +48,9 @@ fn lists() {
         };
         let tokens = image.tokens(&case.text).unwrap();
         assert_eq!(tokens.len(), count);
-        let token =
-            |t: luffinarc::Token| [t.kind.number(), t.range.start as u32, t.range.end as u32];
+        let token = |t: luffinarc::Token| {
+            [t.kind.number(), t.range.start as u32, t.range.end as u32, t.line]
+        };
         assert!(
             tokens.flat_map(token).eq(words[..RECORD_WORDS * count].iter().copied()),
             "{case:02X?}"
@@ -73,7 +74,7 @@ fn places() {
             Ok(image) => image,
             Err(_) => continue,
         };
-        let token = |t: luffinarc::Token| Token {
+        let token = |t: luffinarc::Taken| Token {
             kind: t.kind.number(),
             start: t.range.start,
             end: t.range.end,
@@ -122,7 +123,7 @@ fn compare(image: &[u8], text: &[u8]) -> Result<usize, Refusal> {
     let result = Library.count(image, text);
     assert_eq!(result, Reader.count(image, text), "{text:02X?}");
     let room = RECORD_WORDS * result.unwrap_or(2);
-    for room in [room, room.saturating_sub(1), room + 4] {
+    for room in [room, room.saturating_sub(1), room + 5] {
         let (mut words, mut expected) = (vec![7; room], vec![7; room]);
         let listed = Library.list(image, text, &mut words);
         assert_eq!(listed, Reader.list(image, text, &mut expected), "{text:02X?}, room {room}");
@@ -171,7 +172,7 @@ fn every_character() {
                 continue;
             }
         };
-        let token = luffinarc::Token { kind, range: 0..text.len() };
+        let token = luffinarc::Taken { kind, range: 0..text.len() };
         assert_eq!(image.token_at(&text, 0), Ok(Some(token)), "{c:?}");
     }
 }

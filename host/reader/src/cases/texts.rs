@@ -29,12 +29,29 @@ const ILL_FORMED: [&[u8]; 16] = [
     &[0xFF],
 ];
 
+/// Line ends as texts have them, one or more together, CR LF more often.
+const LINE_ENDS: [&[u32]; 12] = [
+    &[0x0A],
+    &[0x0B],
+    &[0x0C],
+    &[0x0D],
+    &[0x85],
+    &[0x2028],
+    &[0x2029],
+    &[0x0D, 0x0A],
+    &[0x0D, 0x0A],
+    &[0x0A, 0x0D],
+    &[0x0D, 0x0D, 0x0A],
+    &[0x0D, 0x0A, 0x0A],
+];
+
 /// Code points of an image, by what they are after the profile.
 struct Palette {
     starts: Vec<u32>,
     continues: Vec<u32>,
     syntaxes: Vec<u32>,
     whites: Vec<u32>,
+    begins: Vec<u32>,
     medials: Vec<u32>,
     others: Vec<u32>,
     hashtags: Vec<u32>,
@@ -70,6 +87,7 @@ fn palette(rng: &mut Rng, image: &Image) -> Palette {
         continues: of(&[START, NONSTART]),
         syntaxes: of(&[SYNTAX]),
         whites: of(&[WHITE]),
+        begins: of(&[START, SYNTAX, WHITE]),
         others: of(&[UNASSIGNED, OTHER, NONSTART]),
         medials: with(&|point| image.role(point) == role::MEDIAL),
         hashtags: with(&|point| is_hashtag_continue(image, point)),
@@ -88,10 +106,21 @@ fn push_from(rng: &mut Rng, text: &mut Vec<u8>, list: &[u32], times: usize) {
     }
 }
 
+/// Adds line ends, if the list has all their code points.
+fn push_line_end(rng: &mut Rng, text: &mut Vec<u8>, list: &[u32]) {
+    let points = *rng.pick(&LINE_ENDS);
+    if points.iter().all(|point| list.contains(point)) {
+        points.iter().for_each(|&point| push(text, point));
+    }
+}
+
 fn push_identifier(rng: &mut Rng, text: &mut Vec<u8>, palette: &Palette) {
     push_from(rng, text, &palette.starts, 1);
     let more = if palette.starts.is_empty() { 0 } else { rng.below(5) };
     push_from(rng, text, &palette.continues, more);
+    if more > 0 {
+        push_line_end(rng, text, &palette.continues);
+    }
     while rng.once_in(2) && more > 0 {
         push_from(rng, text, &palette.medials, 1);
         let group = 1 + rng.below(3);
@@ -106,10 +135,12 @@ pub fn token_text(rng: &mut Rng, image: &Image, pieces: usize) -> Vec<u8> {
     let mut text = Vec::new();
     for _ in 0..pieces {
         let times = 1 + rng.below(3);
-        match rng.below(8) {
+        match rng.below(10) {
             0..=3 => push_identifier(rng, &mut text, &palette),
             4 => push_from(rng, &mut text, &palette.syntaxes, 1),
             5 | 6 => push_from(rng, &mut text, &palette.whites, times),
+            7 => push_line_end(rng, &mut text, &palette.whites),
+            8 => push_line_end(rng, &mut text, &palette.begins),
             _ if rng.once_in(3) => push_from(rng, &mut text, &palette.medials, 1),
             _ => {}
         }
@@ -126,16 +157,18 @@ pub fn hashtag_text(rng: &mut Rng, image: &Image, pieces: usize) -> Vec<u8> {
     let mut text = Vec::new();
     for _ in 0..pieces {
         let (signs, length) = (1 + rng.below(3) / 2, 1 + rng.below(4));
-        match rng.below(10) {
+        match rng.below(11) {
             0..=3 => {
                 push_from(rng, &mut text, &SIGNS, signs);
                 push_from(rng, &mut text, &palette.hashtags, length);
+                push_line_end(rng, &mut text, &palette.hashtags);
             }
             4 => push_from(rng, &mut text, &SIGNS, signs),
             5 => push_from(rng, &mut text, &palette.hashtags, length),
             6 => push_from(rng, &mut text, &palette.medials, 1),
             7 => push_from(rng, &mut text, &palette.others, 1),
             8 => push_from(rng, &mut text, &palette.syntaxes, 1),
+            9 => push_line_end(rng, &mut text, &EDGES),
             _ => push_from(rng, &mut text, &palette.whites, length),
         }
     }
