@@ -73,7 +73,7 @@ module _ (x : ℕ) (r : List Character) where
   unfolding endsLine
   return-alone e f = rw (is-line-end x (low (omega arith) (omega arith)), eq-eqb x 0x0D e, f)
 
-  pub ends-small : one (endsLine x r) ≤ 1
+  ends-small : one (endsLine x r) ≤ 1
   ends-small = go (endsLine x r)
     where
       go : (b : Bool) → one b ≤ 1
@@ -236,6 +236,12 @@ module _ {text : List ℕ} {at line : ℕ} (i : LineAt text at line) where
                 ap (λ (k : ℕ). lineEnds k (decode text .characters)) (i .wide),
               );
         }
+
+    pub line-counted : (k : ℕ) → k ≡ one (endsLine x rest) → LineAt text (at + n) (line + k)
+    line-counted k h = subst (λ (j : ℕ). LineAt text (at + n) (line + j)) (sym h) line-step
+
+    pub counted-few : (k : ℕ) → k ≡ one (endsLine x rest) → line + k ≤ 2 + length text
+    counted-few k h = omega (arith, line-few, ends-small x rest)
 
     pub line-passes : isLineEnd x ≡ false → LineAt text (at + n) line
     line-passes f = let z : line + one (endsLine x rest) ≡ line = omega (arith, ends-not x rest f) in subst (LineAt text (at + n)) z line-step

@@ -20,7 +20,7 @@ use Rattle.grammar.specs.Record.{recordSize, tokensWidth, recordsFrom, wordsOf,
 use Rattle.grammar.specs.Reading.{meaningOf, tokensOf}
 use Rattle.grammar.proofs.RecordLaws.{length-records, length-words, length-listed, listed-append}
 use Rattle.grammar.proofs.StepLaws.{Settles, readFrom, first-comes}
-use Rattle.scan.specs.Turns.{numberBy, waiting, states, waitingOf, afterOf, startBy}
+use Rattle.scan.specs.Turns.{numberBy, waiting, states, waitingOf, turnOf, afterOf, startBy}
 use Rattle.scan.proofs.TurnLaws.{Tokens, Under, L, Stands, kind-less, stands-less, doneBy, Going}
 use Rattle.scan.proofs.ReachLaws.{Look, NoCharacter, Reached, reached-begins, After, tokens-come, after-settling, all-settled, settles-none, read-end, after-turn, after-waiting, settles-here, left-here}
 
@@ -128,10 +128,10 @@ pub lined-begins : (text : List ℕ) → Lined text 0 1 0 1 0 1
 lined-begins text = let l = line-begins text in record { began = l .same; medial = l .same; here = l }
 
 -- .. and of the token under way after a turn
-pub lined-turn : {text : List ℕ} {start first at line : ℕ} (turn : ℕ) → first ≡ lineOf text start → line ≡ lineOf text at →
+pub lined-turn : (text : List ℕ) (start first at line turn : ℕ) → first ≡ lineOf text start → line ≡ lineOf text at →
     (p l : ℕ) → p ≡ startBy turn start at → l ≡ startBy turn first line → l ≡ lineOf text p
-lined-turn {text} zero e f p l g h = h ∙ e ∙ ap (lineOf text) (sym g)
-lined-turn {text} (suc r) e f p l g h = h ∙ f ∙ ap (lineOf text) (sym g)
+lined-turn text start first at line zero e f p l g h = h ∙ e ∙ ap (lineOf text) (sym g)
+lined-turn text start first at line (suc r) e f p l g h = h ∙ f ∙ ap (lineOf text) (sym g)
 
 pub writing-begins : (s text out : List ℕ) → Writing s text out out 0 0 0 0 0
 writing-begins s text out = record { tokens = []; under-way = idle; reached = reached-begins s text; began = refl; placed = refl; long = refl; same = sym (laid-none out 0) }
@@ -263,3 +263,22 @@ module _ {s text out₀ out : List ℕ} {state start mid at w : ℕ} (i : Writin
 
     pub writes-stop : 4 ≤ turn → out ≡ laid out₀ 0 (listedWords text (tokensOf s text))
     writes-stop h = all-shown (sym (ap (λ x. x .tokens) (left-here (i .reached) k h .1)))
+
+-- what waited is settled, and the turn of the character at the place is known
+pub record Ready (s text out₀ out : List ℕ) (state start first mid at w len traits turn : ℕ) : Type 0 where
+  pub writing : Writing s text out₀ out state start mid at w
+  pub began : first ≡ lineOf text start
+  pub look : Look s text state at len traits turn
+  pub settled : turn ≡ 3 → ⊥
+
+pub ready-after : {s text out₀ out : List ℕ} {state start first mid at w len traits state₀ turn₀ turn : ℕ} → Writing s text out₀ out state start mid at w →
+    state < waiting → first ≡ lineOf text start → Look s text state₀ at len traits turn₀ → turn ≡ turnOf state traits →
+    Ready s text out₀ out state start first mid at w len traits turn
+ready-after {s} {text} {state = state} {at = at} {len = len} {traits = traits} {turn = turn} i l e f k =
+    let g : Look s text state at len traits turn = record { accepted = f .accepted; here = f .here; known = k } in
+    record { writing = i; began = e; look = g; settled = λ q. omega (arith, waits-here i g q .0) }
+
+pub ready-by : {s text out₀ out out′ : List ℕ} {state start first mid at w len traits turn state′ start′ first′ w′ turn′ : ℕ} →
+    Ready s text out₀ out state start first mid at w len traits turn →
+    out′ ≡ out → state′ ≡ state → start′ ≡ start → first′ ≡ first → w′ ≡ w → turn′ ≡ turn → Ready s text out₀ out′ state′ start′ first′ mid at w′ len traits turn′
+ready-by r e f g h k t = rw (e, f, g, h, k, t) r

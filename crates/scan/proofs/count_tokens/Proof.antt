@@ -29,11 +29,11 @@ use Rattle.scan.proofs.count_tokens.Statement.{statement}
 use Rattle.scan.proofs.count_tokens.Tie as tie
 
 abbrev Inv-loop : tie.InvT-loop
-Inv-loop image table text turns after memo₀ state₀ count₀ mid₀ at₀ memo state count mid at = Counting image text state count mid at × MemoOf image memo
+Inv-loop image table text turns after held memo₀ state₀ count₀ mid₀ at₀ memo state count mid at = Counting image text state count mid at × MemoOf image memo
 
 -- a medial that is settled reads no byte
 abbrev μ-loop : tie.MeasureT-loop
-μ-loop image table text turns after memo₀ state₀ count₀ mid₀ at₀ memo state count mid at = 2 * (length text - at) + state / waiting
+μ-loop image table text turns after held memo₀ state₀ count₀ mid₀ at₀ memo state count mid at = 2 * (length text - at) + state / waiting
 
 -- the character that was read stands at the place
 stands :
@@ -66,13 +66,13 @@ turned c =
 
 waited :
     (c : tie.After-waiting-after Inv-loop μ-loop)
-    → let a = c .before .before .before .before .before .before .before .before .before .before .before .before .before .args in
-    let l = c .before .before .before .before .before .before .before .before .before .loop in
-    let r = c .before .before .before .before .before .before .before .read-for-tokens .result in
+    → let a = c .before .before .before .before .before .before .before .before .before .before .before .before .before .before .args in
+    let l = c .before .before .before .before .before .before .before .before .before .before .loop in
+    let r = c .before .before .before .before .before .before .before .before .read-for-tokens .result in
     Counting (a .image .now) (a .text .now) (c .waiting-after .result) (l .count) (l .at) (l .at + r .len)
 waited c =
-    let i = c .before .before .before .before .before .before .before .before .before .loop .inv .0 in
-    counting-waits i (looked (c .before .before .before)) (c .before .if3 .taken) _ (c .waiting-after .ensures)
+    let i = c .before .before .before .before .before .before .before .before .before .before .loop .inv .0 in
+    counting-waits i (looked (c .before .before .before .before)) (c .before .before .if3 .taken) _ (c .waiting-after .ensures)
 
 settled :
     (c : tie.Else5 Inv-loop μ-loop)
@@ -130,16 +130,16 @@ loop-again c = (turned c, c .before .before .before .before .before .before .bef
 
 waiting-after-requires : tie.Need-waiting-after-requires Inv-loop μ-loop
 waiting-after-requires c κs =
-    let k = c .before .before .before .before .before .before .before .before .before .before .before .before in
-    here-small (k .pre .0) (stands (c .before .before .before .before))
+    let k = c .before .before .before .before .before .before .before .before .before .before .before .before .before in
+    (refl, here-small (k .pre .0) (stands (c .before .before .before .before .before)))
 
 loop-less-2 : tie.Need-loop-less-2 Inv-loop μ-loop
 loop-less-2 c =
-    let t = stands (c .before .before .before .before .before) in
+    let t = stands (c .before .before .before .before .before .before) in
     omega (arith, t .some-bytes, t .within, counting-less (waited c))
 
 loop-again-2 : tie.Need-loop-again-2 Inv-loop μ-loop
-loop-again-2 c = (waited c, c .before .before .before .before .before .before .before .read-for-tokens .ensures .memo)
+loop-again-2 c = (waited c, c .before .before .before .before .before .before .before .before .read-for-tokens .ensures .memo)
 
 refuse-at-requires-2 : tie.Need-refuse-at-requires-2 Inv-loop μ-loop
 refuse-at-requires-2 c κs = c .before .before .before .before .before .before .before .before .before .before .loop .inv .0 .reached .medial .within

@@ -21,10 +21,10 @@ use Rattle.scan.proofs.first_token.Statement.{statement}
 use Rattle.scan.proofs.first_token.Tie as tie
 
 abbrev Inv-loop : tie.InvT-loop
-Inv-loop image table text turns after memo₀ state₀ mid₀ at₀ memo state mid at = Searching image text state mid at × MemoOf image memo
+Inv-loop image table text turns after held memo₀ state₀ mid₀ at₀ memo state mid at = Searching image text state mid at × MemoOf image memo
 
 abbrev μ-loop : tie.MeasureT-loop
-μ-loop image table text turns after memo₀ state₀ mid₀ at₀ memo state mid at = length text - at
+μ-loop image table text turns after held memo₀ state₀ mid₀ at₀ memo state mid at = length text - at
 
 -- the character that was read stands at the place
 stands :
@@ -89,18 +89,18 @@ loop-again c =
 
 waiting-after-requires : tie.Need-waiting-after-requires Inv-loop μ-loop
 waiting-after-requires c κs =
-    let k = c .before .before .before .before .before .before .before .before .before .before .before .before in
-    here-small (k .pre .0) (stands (c .before .before .before .before))
+    let k = c .before .before .before .before .before .before .before .before .before .before .before .before .before in
+    (refl, here-small (k .pre .0) (stands (c .before .before .before .before .before)))
 
 loop-less-2 : tie.Need-loop-less-2 Inv-loop μ-loop
 loop-less-2 c =
-    let t = stands (c .before .before .before .before .before) in
+    let t = stands (c .before .before .before .before .before .before) in
     omega (arith, t .some-bytes, t .within)
 
 loop-again-2 : tie.Need-loop-again-2 Inv-loop μ-loop
 loop-again-2 c =
-    let k = c .before .before .before .before .before .before .before in (
-      searching-waits (k .before .before .loop .inv .0) (looked (c .before .before .before)) (c .before .if4 .taken) _ (c .waiting-after .ensures),
+    let k = c .before .before .before .before .before .before .before .before in (
+      searching-waits (k .before .before .loop .inv .0) (looked (c .before .before .before .before)) (c .before .before .if4 .taken) _ (c .waiting-after .ensures),
       k .read-for-tokens .ensures .memo,
     )
 
