@@ -142,16 +142,16 @@ module _ (older newer text : List ℕ) (L : Later older newer) where
         others n (list-refuses x) = list-refuses (refused-other n x)
 
     -- the front of a buffer into which the tokens were written
-    front : (buffer : List ℕ) (ts : List (Tok Character Kind)) (n : ℕ) → length ts ≡ n → listIn n (laid buffer 0 (listedWords ts)) ≡ listedWords ts
+    front : (buffer : List ℕ) (ts : List (Tok Character Kind)) (n : ℕ) → length ts ≡ n → listIn n (laid buffer 0 (listedWords text ts)) ≡ listedWords text ts
     front buffer ts n l =
-        take-at (listedWords ts) (drop (0 + length (listedWords ts)) buffer) (recordSize * n) (length-listed ts ∙ ap (λ (k : ℕ). recordSize * k) l)
+        take-at (listedWords text ts) (drop (0 + length (listedWords text ts)) buffer) (recordSize * n) (length-listed text ts ∙ ap (λ (k : ℕ). recordSize * k) l)
 
     same-list : (n : ℕ) → listOf older text (length out) ≡ given n → listIn n (listWords newer text newOut) ≡ listIn n (listWords older text out)
     same-list n e =
         let (ts, d, l, w) = list-written older text out n e in
         let (us, f, k, v) = list-written newer text newOut n (writing .accepted n e) in
         let u = divided-unique f (divided-stable tt d) .0 in
-        ap (listIn n) v ∙ front newOut us n k ∙ ap listedWords u ∙ sym (front out ts n l) ∙ ap (listIn n) (sym w)
+        ap (listIn n) v ∙ front newOut us n k ∙ ap (listedWords text) u ∙ sym (front out ts n l) ∙ ap (listIn n) (sym w)
 
 pub demand-3 : (older newer : List ℕ) → Later older newer → (text out newOut : List ℕ) → roomOf (length newOut) ≡ roomOf (length out) → Demand3 older newer text out newOut
 demand-3 older newer L text out newOut room =

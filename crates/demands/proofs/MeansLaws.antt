@@ -113,17 +113,17 @@ module _ (s text : List ℕ) where
 
   -- what the buffer then holds: the words of the tokens' list in its front, and past them what it held
   pub list-written : (out : List ℕ) (n : ℕ) → listOf s text (length out) ≡ given n →
-      (ts : List (Tok Character Kind)) × Divided s text ts [] × (length ts ≡ n) × (listWords s text out ≡ laid out 0 (listedWords ts))
+      (ts : List (Tok Character Kind)) × Divided s text ts [] × (length ts ≡ n) × (listWords s text out ≡ laid out 0 (listedWords text ts))
   unfolding listOf listWords writtenOf
   list-written out n e =
       let (ts, g, l) = counts-given (roomed (length out) (outcomeOf s text)) n e in
-      go (outcome-means (given ts) (roomed-given (length out) (outcomeOf s text) ts g .0)) l (ap (laidBy listedWords out) g)
+      go (outcome-means (given ts) (roomed-given (length out) (outcomeOf s text) ts g .0)) l (ap (laidBy (listedWords text) out) g)
     where
-      go : {ts : List (Tok Character Kind)} → OutcomeMeans (given ts) → length ts ≡ n → listWords s text out ≡ laid out 0 (listedWords ts) →
-          (us : List (Tok Character Kind)) × Divided s text us [] × (length us ≡ n) × (listWords s text out ≡ laid out 0 (listedWords us))
+      go : {ts : List (Tok Character Kind)} → OutcomeMeans (given ts) → length ts ≡ n → listWords s text out ≡ laid out 0 (listedWords text ts) →
+          (us : List (Tok Character Kind)) × Divided s text us [] × (length us ≡ n) × (listWords s text out ≡ laid out 0 (listedWords text us))
       go (divides d) l w = (_, d, l, w)
 
   -- "a refused call leaves every word that was lent as it was"
   pub list-kept : (out : List ℕ) (r : Refusal) → listOf s text (length out) ≡ refused r → listWords s text out ≡ out
   unfolding listOf listWords writtenOf
-  list-kept out r e = ap (laidBy listedWords out) (counts-refused (roomed (length out) (outcomeOf s text)) r e)
+  list-kept out r e = ap (laidBy (listedWords text) out) (counts-refused (roomed (length out) (outcomeOf s text)) r e)

@@ -25,17 +25,18 @@ fn print_kind(kind: u32) {
     printing::print_text(b"whitespace");
 }
 
-// The line of the token whose words begin at word `at`.
+// A token's kind, places and line, of the token whose words begin at word `at`.
 fn print_token(words: &[u32], at: usize)
     requires { ⌜ at + recordSize ≤ length (now words) ⌝ }
 {
     print_kind(words[at]);
     printing::print_word(words[at + 1]);
     printing::print_word(words[at + 2]);
+    printing::print_word(words[at + 3]);
     printing::print_text(b"\n");
 }
 
-// The lines of all tokens, by their words.
+// All tokens, by their words.
 fn print_tokens(words: &[u32], count: usize)
     requires { ⌜ recordSize * count ≤ length (now words) ⌝ }
 {

@@ -47,25 +47,26 @@ module _ (image text : List ℕ) (words : ℕ) where
     unfolding writtenWithin
     within-listed h = rw (accepted, le-ltb maxScript (length text) h)
 
--- an answer and a buffer that an outcome gives
-abbrev pub Gives : Outcome (List (Tok Character Kind)) → Counted → List ℕ → List ℕ → Type 0
-Gives o r out out′ = (r ≡ countedBy (outcomeMap length o)) × (out′ ≡ laidBy listedWords out o)
+-- an answer and a buffer that an outcome gives for a text
+abbrev pub Gives : List ℕ → Outcome (List (Tok Character Kind)) → Counted → List ℕ → List ℕ → Type 0
+Gives text o r out out′ = (r ≡ countedBy (outcomeMap length o)) × (out′ ≡ laidBy (listedWords text) out o)
 
-pub gives-refused : {o : Outcome (List (Tok Character Kind))} {r : Refusal} (out : List ℕ) → o ≡ refused r → Gives o (counted.Refused r) out out
-gives-refused out e = rw e (refl, refl)
+pub gives-refused : {o : Outcome (List (Tok Character Kind))} {r : Refusal} (text out : List ℕ) → o ≡ refused r → Gives text o (counted.Refused r) out out
+gives-refused text out e = rw e (refl, refl)
 
 pub gives-listed : (image text out : List ℕ) {o : Outcome (List (Tok Character Kind))} {r : Counted} {out′ : List ℕ} → o ≡ writtenOf image text (length out) →
-    (r ≡ countedBy (listOf image text (length out))) × (out′ ≡ listWords image text out) → Gives o r out out′
+    (r ≡ countedBy (listOf image text (length out))) × (out′ ≡ listWords image text out) → Gives text o r out out′
 unfolding listOf listWords
 gives-listed image text out e p = rw e p
 
 module _ (input out : List ℕ) where
   pub from-refused : {r : Refusal} → writtenFrom input (length out) ≡ refused r → (counted.Refused r ≡ countedBy (listedFrom input (length out))) × (out ≡ wordsAfter input out)
   unfolding listedFrom wordsAfter
-  from-refused e = gives-refused out e
+  from-refused e = gives-refused (textIn input) out e
 
   pub from-whole : (end : ℕ) → ComesWhole input × (end ≡ totalOf input) → {r : Counted} {out′ : List ℕ} →
-      Gives (writtenWithin (take end input) (take (length input - end) (drop end input)) (length out)) r out out′ →
+      let text = take (length input - end) (drop end input) in
+      Gives text (writtenWithin (take end input) text (length out)) r out out′ →
       (r ≡ countedBy (listedFrom input (length out))) × (out′ ≡ wordsAfter input out)
   unfolding listedFrom wordsAfter
   from-whole end (w, e) p = rw (written-whole input (length out) w, ← e, ← rest input end) p

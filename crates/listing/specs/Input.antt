@@ -41,7 +41,7 @@ unfoldable pub listedFrom : List ℕ → ℕ → Outcome ℕ
 listedFrom input words = outcomeMap length (writtenFrom input words)
 
 unfoldable pub wordsAfter : List ℕ → List ℕ → List ℕ
-wordsAfter input out = laidBy listedWords out (writtenFrom input (length out))
+wordsAfter input out = laidBy (listedWords (textIn input)) out (writtenFrom input (length out))
 
 -- the program's answer: there is room for a token at every byte of the longest text
 unfoldable pub wholeAnswer : List ℕ → Counted

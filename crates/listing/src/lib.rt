@@ -25,7 +25,7 @@ pub const MAX_WORDS: usize = scan::RECORD_WORDS * MAX_SCRIPT;
 // The list of the tokens of a text of at most 8,192 bytes.
 fn list_script<'a>(image: &'a [u8], text: &'a [u8], out: &mut [u32]) -> Counted
     ensures { λ r. ⌜ r ≡ countedBy (outcomeMap length (writtenWithin (now (image .entry)) (now (text .entry)) (length (now (out .entry))))) ⌝ }
-    ensures { λ r. ⌜ now (out .exit) ≡ laidBy listedWords (now (out .entry)) (writtenWithin (now (image .entry)) (now (text .entry)) (length (now (out .entry)))) ⌝ }
+    ensures { λ r. ⌜ now (out .exit) ≡ laidBy (listedWords (now (text .entry))) (now (out .entry)) (writtenWithin (now (image .entry)) (now (text .entry)) (length (now (out .entry)))) ⌝ }
 {
     let answer = image::judge(image);
     match answer {

@@ -68,7 +68,7 @@ module _ (s text : List ℕ) where
     abbrev pub Gives : Counted → List ℕ → Type 0
     Gives r out′ = (r ≡ countedBy (listOf s text (length out))) × (out′ ≡ listWords s text out)
 
-    gives : (o : Outcome (List (Tok Character Kind))) → writtenOf s text (length out) ≡ o → Gives (countedBy (outcomeMap length o)) (laidBy listedWords out o)
+    gives : (o : Outcome (List (Tok Character Kind))) → writtenOf s text (length out) ≡ o → Gives (countedBy (outcomeMap length o)) (laidBy (listedWords text) out o)
     unfolding listOf listWords
     gives o e = rw e (refl, refl)
 
@@ -107,7 +107,7 @@ module _ (s text : List ℕ) where
         list-fits = let m = is-given .number in (is-given .short, omega arith)
 
         -- all is written
-        pub list-given : Gives (counted.Tokens n) (laid out 0 (listedWords (tokensOf s text)))
+        pub list-given : Gives (counted.Tokens n) (laid out 0 (listedWords text (tokensOf s text)))
         unfolding writtenOf
         list-given =
             let g = is-given in

@@ -15,13 +15,13 @@ enum-told : tie.Need-enum-told
 enum-told c = search needs
 
 returns : tie.Need-returns
-returns c = gives-refused _ (within-long _ _ _ (accepted-by _ _ (c .before .before .before .judge .ensures) _ _ (c .before .enum-told .given .1) .0) (c .if1 .taken))
+returns c = gives-refused _ _ (within-long _ _ _ (accepted-by _ _ (c .before .before .before .judge .ensures) _ _ (c .before .enum-told .given .1) .0) (c .if1 .taken))
 
 list-checked-requires : tie.Need-list-checked-requires
 list-checked-requires c κs = accepted-by _ _ (c .before .before .before .before .judge .ensures) _ _ (c .before .before .enum-told .given .1) .0
 
 returns-2 : tie.Need-returns-2
-returns-2 c = gives-refused _ (within-refused _ _ _ (refused-by _ _ (c .before .before .before .judge .ensures) _ (c .before .answer .given .1)))
+returns-2 c = gives-refused _ _ (within-refused _ _ _ (refused-by _ _ (c .before .before .before .judge .ensures) _ (c .before .answer .given .1)))
 
 same-length : tie.Need-same-length
 same-length c = search needs
