@@ -5,7 +5,6 @@ use mathlib.Core.Bool.{true}
 use mathlib.Core.List.{List, [], _∷_}
 use mathlib.Core.Logic.{_⊎_, inl, inr}
 use native.Mathlib.Omega.{arith}
-use lib.ListN.{length}
 use Rattle.utf8.specs.Text.{Character, Encoded, ends, takes, decode, widthOf}
 use Rattle.utf8.proofs.SequenceLaws.{sequence-length}
 use Rattle.utf8.proofs.TextLaws.{decode-means}

@@ -28,7 +28,7 @@ module _ (s text out : List ℕ) where
   abbrev pub Gives : Listed → List ℕ → Type 0
   Gives r out′ = (r ≡ listedBy (hashtagListOf s text (length out))) × (out′ ≡ hashtagListWords s text out)
 
-  gives : (o : Outcome (List Span)) → hashtagsFound s text ≡ o → Gives (listedBy (outcomeMap length (roomed (length out) o))) (laidBy spansWords out (roomed (length out) o))
+  gives : (o : Outcome (List Span)) → hashtagsFound s text ≡ o → Gives (listedBy (outcomeMap length (roomed (length out) o))) (laidBy (spansWords text) out (roomed (length out) o))
   unfolding hashtagListOf hashtagListWords hashtagsWritten
   gives o e = rw e (refl, refl)
 
@@ -83,7 +83,7 @@ module _ (s text out : List ℕ) where
           list-fits = let m = is-given .number in (is-given .form, omega arith)
 
           -- all is written
-          pub list-given : Gives (Hashtags n) (laid out 0 (spansWords (hashtagsOf s text)))
+          pub list-given : Gives (Hashtags n) (laid out 0 (spansWords text (hashtagsOf s text)))
           list-given =
               let m = is-given .number in
               let g = gives (given (hashtagsOf s text)) (is-given .found) in

@@ -10,7 +10,6 @@ use borrow.Author.Tests.{not-true}
 use Rattle.lists.proofs.BoolLaws.{and-left, and-right, impossible}
 use Rattle.utf8.specs.Text.{Character, widthOf}
 use Rattle.grammar.specs.All.{All}
-use Rattle.hashtag.specs.Hashtag.{Hashtag}
 use Rattle.hashtag.specs.Sign.{signs, continues, IsSign, IsContinue}
 use Rattle.hashtag.specs.Find.{Span, runOf, spanBy, hashtagsFrom, HashtagAt, Has, Rising}
 use Rattle.hashtag.proofs.SignLaws.{no-sign}

@@ -1,5 +1,5 @@
--- Looking for the next hashtag in a text that is well-formed: bytes that begin no sign are passed over, and the character before a sign
--- is found by stepping back. Assumes nothing.
+-- Looking for the next hashtag in a text that is well-formed: bytes that begin neither a sign nor a line end are passed over, lines are
+-- counted, and the character before a sign is found by stepping back. Assumes nothing.
 use Prim.Native.Nat.{ℕ, zero, suc, _+_, _-_, _≤_, _<_}
 use mathlib.Core.Path.{_≡_, refl, sym, ap, subst, _∙_}
 use mathlib.Core.Bool.{Bool, true, false, _&&_}
@@ -12,12 +12,16 @@ use lib.Seq.{getD-drop}
 use Rattle.lists.proofs.BoolLaws.{impossible}
 use Rattle.utf8.specs.declared.Text.the-variants.{WellFormed}
 use Rattle.utf8.specs.Lead.{knownLength, isTrail}
-use Rattle.utf8.specs.Text.{textOf}
+use Rattle.utf8.specs.Text.{charactersAt, textOf}
 use Rattle.utf8.proofs.TextLaws.{first-byte}
+use Rattle.line.specs.Line.{endsLine, one, LineAt}
+use Rattle.line.specs.Ends.{endAt}
+use Rattle.line.proofs.LineLaws.{ends-small, told-none, end-at, line-few, line-step, line-passes}
 use Rattle.hashtag.specs.Sign.{isSign}
-use Rattle.hashtag.specs.Seek.{charactersAt, continuesFirst, freeAt, Skipped, Backed, Sought}
-use Rattle.hashtag.proofs.SignLaws.{no-sign-here}
-use Rattle.hashtag.proofs.SeekLaws.{no-stop, trail-passes, Stands, stands-known, Seeking, seeking-begins, seeking-known, seeking-over, sought-end, sought-some}
+use Rattle.hashtag.specs.Seek.{continuesFirst, freeAt, Skipped, Backed, Sought}
+use Rattle.hashtag.specs.declared.Sign.{Sign}
+use Rattle.hashtag.proofs.SignLaws.{sign-ends-none, no-sign-here}
+use Rattle.hashtag.proofs.SeekLaws.{no-stop, no-stop-end, trail-passes, Stands, stands-known, Seeking, seeking-begins, seeking-known, seeking-over, sought-end, sought-some}
 
 -- stepping back over bytes that only follow others
 pub record Back (text : List ℕ) (from to at : ℕ) : Type 0 where
@@ -63,19 +67,21 @@ module _ (s text : List ℕ) where
   abbrev LastAt : ℕ → ℕ → ℕ → Type 0
   LastAt from before at = ((from ≡ at) × (before ≡ at)) ⊎ ((from ≤ before) × ((n : ℕ) × Stands s text before n × (before + n ≡ at)))
 
-  pub record Walked (from at : ℕ) : Type 0 where
+  pub record Walked (from at line : ℕ) : Type 0 where
     pub before : ℕ
     pub seeking : Seeking s text from before at
     pub last : LastAt from before at
+    pub lined : LineAt text at line
 
-  pub walked-begins : (from : ℕ) → from ≤ length text → Walked from from
-  walked-begins from h = record { before = from; seeking = seeking-begins s text from h; last = inl (refl, refl) }
+  pub walked-begins : {from line : ℕ} → from ≤ length text → LineAt text from line → Walked from from line
+  walked-begins {from} h l = record { before = from; seeking = seeking-begins s text from h; last = inl (refl, refl); lined = l }
 
   -- over a character that begins no hashtag
-  walked-over : {from at n : ℕ} (i : Walked from at) (h : Stands s text at n)
-      → (isSign (h .code) ≡ false) ⊎ ((freeAt s text (i .before) at && continuesFirst s (charactersAt text (at + n))) ≡ false) → Walked from (at + n)
-  walked-over {from} {at} {n} i h g =
-      record { before = at; seeking = seeking-over s text (i .seeking) (h .here) g; last = inr (i .seeking .above, (n, h, refl)) }
+  walked-over : {from at line n past : ℕ} (i : Walked from at line) (h : Stands s text at n)
+      → (isSign (h .code) ≡ false) ⊎ ((freeAt s text (i .before) at && continuesFirst s (charactersAt text (at + n))) ≡ false)
+      → LineAt text (at + n) past → Walked from (at + n) past
+  walked-over {from} {at} {line} {n} i h g l =
+      record { before = at; seeking = seeking-over s text (i .seeking) (h .here) g; last = inr (i .seeking .above, (n, h, refl)); lined = l }
 
   -- a search that passes over the first byte of a character passes over all of it
   apart : {past at n : ℕ} → Stands s text at n → Skipped true text at past → at < past → at + n ≤ past
@@ -86,31 +92,38 @@ module _ (s text : List ℕ) where
       by (yes m) = absurd (q .stop (omega (arith, h .here .within)) (trail-passes (getD text past 0) (others-are h past l m)))
 
   module _ (from : ℕ) (well : textOf (drop from text) ≡ WellFormed) where
-    pub stands-here : {at : ℕ} (n : ℕ) → Walked from at → at < length text → n ≡ knownLength (getD text at 0) → Stands s text at n
-    stands-here {at} n i h e = subst (Stands s text at) (sym e) (stands-known s text at h (seeking-known s text (i .seeking) well))
+    pub stands-here : {at line : ℕ} (n : ℕ) → Walked from at line → at < length text → n ≡ knownLength (getD text at 0) → Stands s text at n
+    stands-here {at} {line} n i h e = subst (Stands s text at) (sym e) (stands-known s text at h (seeking-known s text (i .seeking) well))
 
-    -- bytes that begin no sign are passed over: the next that may is the first of a character
-    module _ {past : ℕ} where
-      walked-in : (k at : ℕ) → Walked from at → Skipped true text at past → past ≤ at + k → Walked from past
-      walked-in zero at i q l = let e : at ≡ past = omega (arith, q .above) in subst (Walked from) e i
+    -- bytes that begin neither a sign nor a line end are passed over: the next that may is the first of a character
+    module _ {past line : ℕ} where
+      to-past : {at : ℕ} → Walked from at line → at ≤ past → past ≤ at → Walked from past line
+      to-past {at} i l m = let e : at ≡ past = omega arith in subst (λ (k : ℕ). Walked from k line) e i
+
+      walked-in : (k at : ℕ) → Walked from at line → Skipped true text at past → past ≤ at + k → Walked from past line
+      walked-in zero at i q l = to-past i (q .passed .above) (omega arith)
       walked-in (suc k) at i q l = go (decLt at past) (λ j m r t. walked-in k j m r t)
         where
-          go : Dec (at < past) → ((j : ℕ) → Walked from j → Skipped true text j past → past ≤ j + k → Walked from past) → Walked from past
-          go (no m) f = let e : at ≡ past = omega (arith, q .above) in subst (Walked from) e i
+          go : Dec (at < past) → ((j : ℕ) → Walked from j line → Skipped true text j past → past ≤ j + k → Walked from past line) → Walked from past line
+          go (no m) f = to-past i (q .passed .above) (omega arith)
           go (yes m) f =
-              let h = stands-here (knownLength (getD text at 0)) i (let w = q .within in omega arith) refl in
-              let n = no-stop true (getD text at 0) (q .each at (omega arith) m) in
-              let b = apart h q m in
-              f (at + knownLength (getD text at 0)) (walked-over i h (inl (sym (h .sign) ∙ sym (no-sign-here text at (n .0) (n .1)))))
-              (record { above = b; within = q .within; each = λ j u v. q .each j (omega arith) v; stop = q .stop })
+              let p = q .passed in
+              let b = getD text at 0 in
+              let n = knownLength b in
+              let h = stands-here n i (let w = p .within in omega arith) refl in
+              let z = p .each at (omega arith) m in
+              let t = no-stop true b z in
+              f (at + n) (walked-over i h (inl (sym (h .sign) ∙ sym (no-sign-here text at (t .0) (t .1))))
+              (line-passes (i .lined) (h .code) n (h .step) (told-none text at (h .code) n (h .step) (no-stop-end b z))))
+              (record { passed = record { above = apart h q m; within = p .within; each = λ j u v. p .each j (omega arith) v }; stop = q .stop })
               (omega (arith, h .here .some-bytes))
 
-    pub walked-bytes : {at past : ℕ} → Walked from at → Skipped true text at past → Walked from past
+    pub walked-bytes : {at past line : ℕ} → Walked from at line → Skipped true text at past → Walked from past line
     walked-bytes {at} {past} i p = walked-in (past - at) at i p (omega arith)
 
   -- stepping back finds where the last character begins
-  pub stepped : {from at r : ℕ} (i : Walked from at) → Backed text from at r → r ≡ i .before
-  stepped {from} {at} {r} i b = go (i .last) (b .first)
+  pub stepped : {from at line r : ℕ} (i : Walked from at line) → Backed text from at r → r ≡ i .before
+  stepped {from} {at} {line} {r} i b = go (i .last) (b .first)
     where
       other : (n : ℕ) → from ≤ i .before → Stands s text (i .before) n → i .before + n ≡ at
           → ((r < at) × (isTrail (getD text r 0) ≡ false)) ⊎ ((r ≡ from) × (r < at → isTrail (getD text r 0) ≡ true)) → r ≡ i .before
@@ -130,19 +143,36 @@ module _ (s text : List ℕ) where
       go (inr (l, (n, h, e))) f = other n l h e f
 
   -- a hashtag begins at a place, or none does; nothing is left
-  module _ {from at : ℕ} (i : Walked from at) where
-    pub known-end : length text ≤ at → Sought s text from (record { at = at; next = at })
-    known-end h = sought-end s text (i .seeking) h
+  module _ {from at line : ℕ} (i : Walked from at line) where
+    abbrev Finds : Sign → Type 0
+    Finds r = Sought s text from r × (LineAt text (r .at) line × LineAt text (r .next) line)
+
+    pub known-end : length text ≤ at → Finds (record { at = at; next = at })
+    known-end h = (sought-end s text (i .seeking) h, (i .lined, i .lined))
+
+    -- the line past a character
+    module _ {n k : ℕ} (h : Stands s text at n) (e : k ≡ endAt text at) where
+      told : k ≡ one (endsLine (h .code) (charactersAt text (at + n)))
+      told = e ∙ end-at text at (h .code) n (h .step)
+
+      pub line-fits : line + k ≤ length text + 2
+      line-fits = omega (arith, told, ends-small (h .code) (charactersAt text (at + n)), line-few (i .lined))
+
+      line-past : LineAt text (at + n) (line + k)
+      line-past = rw told (line-step (i .lined) (h .code) n (h .step))
 
     module _ {n r : ℕ} (h : Stands s text at n) (b : Backed text from at r) where
       free-same : freeAt s text r at ≡ freeAt s text (i .before) at
       free-same = ap (λ (k : ℕ). freeAt s text k at) (stepped i b)
 
-      pub known-some : isSign (h .code) ≡ true → (freeAt s text r at && continuesFirst s (charactersAt text (at + n))) ≡ true → Sought s text from (record { at = at; next = at + n })
-      known-some g e = sought-some s text (i .seeking) (h .here) g (ap (λ (t : Bool). t && continuesFirst s (charactersAt text (at + n))) (sym free-same) ∙ e)
+      pub known-some : isSign (h .code) ≡ true → (freeAt s text r at && continuesFirst s (charactersAt text (at + n))) ≡ true → Finds (record { at = at; next = at + n })
+      known-some g e = (
+        sought-some s text (i .seeking) (h .here) g (ap (λ (t : Bool). t && continuesFirst s (charactersAt text (at + n))) (sym free-same) ∙ e),
+        (i .lined, line-passes (i .lined) (h .code) n (h .step) (sign-ends-none (h .code) g)),
+      )
 
-      pub known-over : (freeAt s text r at && continuesFirst s (charactersAt text (at + n))) ≡ false → Walked from (at + n)
-      known-over e = walked-over i h (inr (ap (λ (t : Bool). t && continuesFirst s (charactersAt text (at + n))) (sym free-same) ∙ e))
+      pub known-over : {k : ℕ} → k ≡ endAt text at → (freeAt s text r at && continuesFirst s (charactersAt text (at + n))) ≡ false → Walked from (at + n) (line + k)
+      known-over f e = walked-over i h (inr (ap (λ (t : Bool). t && continuesFirst s (charactersAt text (at + n))) (sym free-same) ∙ e)) (line-past h f)
 
-    pub known-passes : {n : ℕ} (h : Stands s text at n) → isSign (h .code) ≡ false → Walked from (at + n)
-    known-passes h g = walked-over i h (inl g)
+    pub known-passes : {n k : ℕ} (h : Stands s text at n) → k ≡ endAt text at → isSign (h .code) ≡ false → Walked from (at + n) (line + k)
+    known-passes h f g = walked-over i h (inl g) (line-past h f)

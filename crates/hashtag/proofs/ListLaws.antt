@@ -10,25 +10,28 @@ use Rattle.lists.specs.Laid.{laid}
 use Rattle.lists.proofs.LaidLaws.{laid-none, laid-step, length-laid, lent}
 use Rattle.utf8.specs.declared.Text.{Text}
 use Rattle.utf8.specs.declared.Text.the-variants.{WellFormed, IllFormed}
-use Rattle.utf8.specs.Text.{widthOf, textOf, shift}
-use Rattle.utf8.proofs.TextLaws.{shift-zero, end-here}
-use Rattle.grammar.specs.Record.{recordSize}
+use Rattle.utf8.specs.Text.{charactersAt, widthOf, textOf, shift}
+use Rattle.utf8.proofs.TextLaws.{shift-zero, end-here, characters-end}
+use Rattle.line.specs.Line.{LineAt}
+use Rattle.line.proofs.LineLaws.{line-begins}
+use Rattle.grammar.specs.Record.{recordSize, tokenWords}
 use Rattle.hashtag.specs.Find.{Span, runOf, hashtagsFrom, hashtagsOf}
-use Rattle.hashtag.specs.Listed.{spanWords, spansWords, hashtagsThrough, countedThrough, closedBy}
-use Rattle.hashtag.specs.Seek.{charactersAt, hashtagsAt, Sought}
+use Rattle.hashtag.specs.Listed.{hashtagKind, spanWords, spansWords, hashtagsThrough, countedThrough, closedBy}
+use Rattle.hashtag.specs.Seek.{hashtagsAt, Sought}
 use Rattle.hashtag.specs.declared.Listed.the-variants.{Hashtags}
 use Rattle.hashtag.specs.declared.Sign.{Sign}
 use Rattle.hashtag.proofs.FindLaws.{found-none}
-use Rattle.hashtag.proofs.SeekLaws.{none-end, unshifted}
+use Rattle.hashtag.proofs.SeekLaws.{unshifted}
 
 -- the words of hashtags
-length-words : (ts : List Span) → length (spansWords ts) ≡ recordSize * length ts
-length-words [] = refl
-length-words (t ∷ ts) = omega (arith, length-words ts)
+module _ (text : List ℕ) where
+  length-words : (ts : List Span) → length (spansWords text ts) ≡ recordSize * length ts
+  length-words [] = refl
+  length-words (t ∷ ts) = omega (arith, length-words ts)
 
-words-append : (ts us : List Span) → spansWords (ts ++ us) ≡ spansWords ts ++ spansWords us
-words-append [] us = refl
-words-append (t ∷ ts) us = ap (λ (l : List ℕ). spanWords t ++ l) (words-append ts us)
+  words-append : (ts us : List Span) → spansWords text (ts ++ us) ≡ spansWords text ts ++ spansWords text us
+  words-append [] us = refl
+  words-append (t ∷ ts) us = ap (λ (l : List ℕ). spanWords text t ++ l) (words-append ts us)
 
 module _ (s text : List ℕ) where
   -- the text is well-formed up to a place, from which on hashtags are still to be found
@@ -43,7 +46,7 @@ module _ (s text : List ℕ) where
   reached-next i h = record { within = h .within; form = h .form ∙ i .form }
 
   none-left : {at : ℕ} → length text ≤ at → hashtagsAt s text true at ≡ []
-  none-left {at} h = ap (hashtagsFrom s true at) (none-end s text at h) ∙ found-none s true at
+  none-left {at} h = ap (hashtagsFrom s true at) (characters-end text at h) ∙ found-none s true at
 
   -- so many were counted
   pub record Counting (count at : ℕ) : Type 0 where
@@ -75,30 +78,32 @@ module _ (s text : List ℕ) where
   counting-ends {count} {at} i h =
       closes at count WellFormed (sym (end-here text at h) ∙ i .reached .form) (omega (arith, i .sum, ap length (none-left h)))
 
-  -- those that were found are in the buffer, up to word w
-  pub record Writing (out₀ out : List ℕ) (w at : ℕ) : Type 0 where
+  -- those that were found are in the buffer, up to word w; the place has this line
+  pub record Writing (out₀ out : List ℕ) (w at line : ℕ) : Type 0 where
     pub reached : Reached at
+    pub lined : LineAt text at line
     pub done : List Span
     pub all : hashtagsOf s text ≡ done ++ hashtagsAt s text true at
-    pub placed : w ≡ length (spansWords done)
+    pub placed : w ≡ length (spansWords text done)
     pub long : length out ≡ length out₀
-    pub same : out ≡ laid out₀ 0 (spansWords done)
+    pub same : out ≡ laid out₀ 0 (spansWords text done)
 
-  pub writing-begins : (out : List ℕ) → Writing out out 0 0
+  pub writing-begins : (out : List ℕ) → Writing out out 0 0 1
   unfolding hashtagsOf
-  writing-begins out = record { reached = reached-begins; done = []; all = refl; placed = refl; long = refl; same = sym (laid-none out 0) }
+  writing-begins out =
+      record { reached = reached-begins; lined = line-begins text; done = []; all = refl; placed = refl; long = refl; same = sym (laid-none out 0) }
 
-  module _ {out₀ out : List ℕ} {w at : ℕ} (i : Writing out₀ out w at) where
+  module _ {out₀ out : List ℕ} {w at line : ℕ} (i : Writing out₀ out w at line) where
     pub writing-known : textOf text ≡ WellFormed → textOf (drop at text) ≡ WellFormed
     writing-known e = unshifted at (textOf (drop at text)) (i .reached .form ∙ e)
 
-    all-written : hashtagsAt s text true at ≡ [] → out ≡ laid out₀ 0 (spansWords (hashtagsOf s text))
-    all-written e = i .same ∙ ap (λ (ts : List Span). laid out₀ 0 (spansWords ts)) (sym (i .all ∙ ap (λ (ts : List Span). i .done ++ ts) e ∙ append-nil (i .done)))
+    all-written : hashtagsAt s text true at ≡ [] → out ≡ laid out₀ 0 (spansWords text (hashtagsOf s text))
+    all-written e = i .same ∙ ap (λ (ts : List Span). laid out₀ 0 (spansWords text ts)) (sym (i .all ∙ ap (λ (ts : List Span). i .done ++ ts) e ∙ append-nil (i .done)))
 
-    pub writing-ends : length text ≤ at → out ≡ laid out₀ 0 (spansWords (hashtagsOf s text))
+    pub writing-ends : length text ≤ at → out ≡ laid out₀ 0 (spansWords text (hashtagsOf s text))
     writing-ends h = all-written (none-left h)
 
-    pub writing-stops : {r : Sign} → Sought s text at r → r .next ≤ r .at → out ≡ laid out₀ 0 (spansWords (hashtagsOf s text))
+    pub writing-stops : {r : Sign} → Sought s text at r → r .next ≤ r .at → out ≡ laid out₀ 0 (spansWords text (hashtagsOf s text))
     writing-stops h l = all-written (h .none l .0)
 
     -- one more
@@ -108,7 +113,7 @@ module _ (s text : List ℕ) where
 
       pub next-fits : w + recordSize ≤ length out₀
       next-fits =
-          omega (arith, i .placed, length-words (i .done), ap length (i .all), length-append (i .done) (hashtagsAt s text true at), ap length (h .some l), room)
+          omega (arith, i .placed, length-words text (i .done), ap length (i .all), length-append (i .done) (hashtagsAt s text true at), ap length (h .some l), room)
 
       pub next-room : w + recordSize ≤ length out
       next-room = omega (arith, next-fits, i .long)
@@ -116,22 +121,23 @@ module _ (s text : List ℕ) where
       pub next-part : recordSize ≤ length (take (length out - w) (drop w out))
       next-part = simp (length-take, length-drop) (omega (arith, next-room))
 
-      pub next-put : (end : ℕ) (ys : List ℕ) → end ≡ found .end → ys ≡ laid (take (length out - w) (drop w out)) 0 (spanWords (record { start = r .at; end = end }))
-          → Writing out₀ (putMid w (length out - w) out ys) (w + recordSize) (r .next)
-      next-put end ys e f =
-          let xs = spansWords (i .done) in
-          let zs = spanWords found in
-          let g = f ∙ ap (λ (n : ℕ). laid (take (length out - w) (drop w out)) 0 (spanWords (record { start = r .at; end = n }))) e in
+      pub next-put : {n : ℕ} → LineAt text (r .at) n → LineAt text (r .next) n → (end : ℕ) (ys : List ℕ) → end ≡ found .end
+          → ys ≡ laid (take (length out - w) (drop w out)) 0 (tokenWords hashtagKind (r .at) end n) → Writing out₀ (putMid w (length out - w) out ys) (w + recordSize) (r .next) n
+      next-put a b end ys e f =
+          let xs = spansWords text (i .done) in
+          let zs = spanWords text found in
+          let g = f ∙ (λ j. laid (take (length out - w) (drop w out)) 0 (tokenWords hashtagKind (r .at) (e j) (a .same j))) in
           let z : 0 + length xs ≡ w = omega (arith, i .placed) in
-          let b = next-fits in
-          let v : spansWords (i .done ++ (found ∷ [])) ≡ xs ++ zs = words-append (i .done) (found ∷ []) in
-          let m : putMid w (length out - w) out ys ≡ laid out₀ 0 (spansWords (i .done ++ (found ∷ []))) =
+          let q = next-fits in
+          let v : spansWords text (i .done ++ (found ∷ [])) ≡ xs ++ zs = words-append text (i .done) (found ∷ []) in
+          let m : putMid w (length out - w) out ys ≡ laid out₀ 0 (spansWords text (i .done ++ (found ∷ []))) =
           lent out zs w next-room ys g ∙ (λ j. laid (i .same j) (sym z j) zs) ∙ sym (laid-step out₀ xs 0 (omega (arith, i .placed)) zs) ∙ ap (laid out₀ 0) (sym v) in
           record {
             reached = reached-next (i .reached) h;
+            lined = b;
             done = i .done ++ (found ∷ []);
             all = i .all ∙ ap (λ (ts : List Span). i .done ++ ts) (h .some l) ∙ sym (append-assoc (i .done) (found ∷ []) (hashtagsAt s text true (r .next)));
             placed = omega (arith, i .placed, ap length v, length-append xs zs);
-            long = ap length m ∙ length-laid out₀ (spansWords (i .done ++ (found ∷ []))) 0 (omega (arith, i .placed, ap length v, length-append xs zs));
+            long = ap length m ∙ length-laid out₀ (spansWords text (i .done ++ (found ∷ []))) 0 (omega (arith, i .placed, ap length v, length-append xs zs));
             same = m;
           }

@@ -89,17 +89,17 @@ module _ (s text : List ℕ) where
 
   -- what the buffer then holds: the words of the hashtags in its front, and past them what it held
   pub hashtag-list-written : (out : List ℕ) (n : ℕ) → hashtagListOf s text (length out) ≡ given n →
-      (ts : List Span) × Tagged s text ts × (length ts ≡ n) × (hashtagListWords s text out ≡ laid out 0 (spansWords ts))
+      (ts : List Span) × Tagged s text ts × (length ts ≡ n) × (hashtagListWords s text out ≡ laid out 0 (spansWords text ts))
   unfolding hashtagListOf hashtagListWords hashtagsWritten
   hashtag-list-written out n e =
       let (ts, g, l) = counts-given (roomed (length out) (hashtagsFound s text)) n e in
-      go (subst FoundMeans (roomed-given (length out) (hashtagsFound s text) ts g .0) own-means) l (ap (laidBy spansWords out) g)
+      go (subst FoundMeans (roomed-given (length out) (hashtagsFound s text) ts g .0) own-means) l (ap (laidBy (spansWords text) out) g)
     where
-      go : {ts : List Span} → FoundMeans (given ts) → length ts ≡ n → hashtagListWords s text out ≡ laid out 0 (spansWords ts) →
-          (us : List Span) × Tagged s text us × (length us ≡ n) × (hashtagListWords s text out ≡ laid out 0 (spansWords us))
+      go : {ts : List Span} → FoundMeans (given ts) → length ts ≡ n → hashtagListWords s text out ≡ laid out 0 (spansWords text ts) →
+          (us : List Span) × Tagged s text us × (length us ≡ n) × (hashtagListWords s text out ≡ laid out 0 (spansWords text us))
       go (tags d) l w = (_, d, l, w)
 
   -- "a refused call leaves every word that was lent as it was"
   pub hashtag-list-kept : (out : List ℕ) (r : Refusal) → hashtagListOf s text (length out) ≡ refused r → hashtagListWords s text out ≡ out
   unfolding hashtagListOf hashtagListWords hashtagsWritten
-  hashtag-list-kept out r e = ap (laidBy spansWords out) (counts-refused (roomed (length out) (hashtagsFound s text)) r e)
+  hashtag-list-kept out r e = ap (laidBy (spansWords text) out) (counts-refused (roomed (length out) (hashtagsFound s text)) r e)

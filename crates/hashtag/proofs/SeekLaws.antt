@@ -7,8 +7,8 @@ use mathlib.Core.Logic.{_⊎_, inl, inr}
 use native.Mathlib.Omega.{arith}
 use native.Mathlib.Decide.{decLt}
 use mathlib.Core.Option.{none}
-use lib.ListN.{length, getD, set, take, drop, length-set, length-drop, drop-of-length-le}
-use lib.Seq.{drop-drop, getD-drop, getD-set-same, getD-set-other}
+use lib.ListN.{length, getD, take, drop, length-drop}
+use lib.Seq.{getD-drop}
 use lib.Dec.{leb, ltb, eqb}
 use borrow.Author.Tests.{lt-ltb, le-ltb, leb-true, ltb-true, ne-eqb}
 use Rattle.lists.proofs.BoolLaws.{and-left, and-right, impossible}
@@ -19,16 +19,16 @@ use Rattle.utf8.specs.Head.{stepOf, IllHead}
 use Rattle.utf8.specs.declared.Text.{Text}
 use Rattle.utf8.specs.declared.Text.the-variants.{WellFormed, IllFormed as Bad}
 use Rattle.utf8.specs.Lead.{lengthOf, knownLength, isTrail}
-use Rattle.utf8.specs.Text.{Character, widthOf, decode, textOf, shift}
+use Rattle.utf8.specs.Text.{Character, charactersAt, widthOf, textOf, shift}
 use Rattle.utf8.proofs.SequenceLaws.{known-bounds, ill-at, end-empty}
-use Rattle.utf8.proofs.TextLaws.{step-bounds, known-length, decode-scalar, decode-ill, decode-empty, turn, ascii-at}
+use Rattle.utf8.proofs.TextLaws.{step-bounds, known-length, turn, ascii-at, characters-step, characters-ill, characters-end}
+use Rattle.line.specs.Ends.{endOf}
 use Rattle.image.specs.Check.{refusalOf}
 use Rattle.character.specs.Read.{ReadAs}
 use Rattle.character.specs.declared.Character.{Character as Read}
 use Rattle.hashtag.specs.Sign.{isSign, continues}
 use Rattle.hashtag.specs.Find.{runOf, hashtagsFrom}
-use Rattle.hashtag.specs.Seek.{charactersAt, hashtagsAt, continuesFirst, freeAt, stopOf, Stops, Passed, Skipped, signOf, Sought}
-use Rattle.hashtag.specs.declared.Sign.{Sign}
+use Rattle.hashtag.specs.Seek.{hashtagsAt, continuesFirst, freeAt, stopOf, Passed, Skipped, signOf, Sought}
 use Rattle.hashtag.proofs.SignLaws.{continuesBy, by-traits, no-sign-here}
 use Rattle.hashtag.proofs.RunLaws.{Characters, run-yes, run-no, run-none}
 use Rattle.hashtag.proofs.FindLaws.{found-none, found-begins, found-passes}
@@ -46,6 +46,12 @@ no-run-first s [] e = run-none s
 pub no-stop : (known : Bool) (b : ℕ) → stopOf known b ≡ 0 → (b ≡ 0x23 → ⊥) × (b ≡ 0xEF → ⊥)
 no-stop known b e = (λ f. impossible (sym e ∙ rw f), λ f. impossible (sym e ∙ rw f))
 
+pub no-stop-end : (b : ℕ) → stopOf true b ≡ 0 → endOf b ≡ 0
+no-stop-end b e =
+    let n = no-stop true b e in
+    let q : stopOf true b ≡ endOf b = rw (ne-eqb b 0x23 (n .0), ne-eqb b 0xEF (n .1)) in
+    sym q ∙ e
+
 plain-byte : (b : ℕ) → stopOf false b ≡ 0 → b < 0x80
 plain-byte b e = go (eqb b 0x23) (eqb b 0xEF) (decLt b 0x80) e
   where
@@ -59,50 +65,39 @@ pub trail-passes : (b : ℕ) → isTrail b ≡ true → stopOf true b ≡ 0
 trail-passes b e =
     let h = leb-true 0x80 b (and-left (leb 0x80 b) (ltb b 0xC0) e) in
     let l = ltb-true b 0xC0 (and-right (leb 0x80 b) (ltb b 0xC0) e) in
-    rw (ne-eqb b 0x23 (λ f. absurd (omega arith)), ne-eqb b 0xEF (λ f. absurd (omega arith)))
-
--- one more byte of the table
-pub stops-more : {known : Bool} {t : List ℕ} {k v : ℕ} → Stops known t k → k < 256 → v ≡ stopOf known k → Stops known (set t k v) (k + 1)
-stops-more {known} {t} {k} {v} f h e = record { long = length-set t k v ∙ f .long; each = λ y l. go y l (decLt y k) }
-  where
-    go : (y : ℕ) → y < k + 1 → Dec (y < k) → getD (set t k v) y 0 ≡ stopOf known y
-    go y l (yes p) = getD-set-other t k y v 0 (λ q. absurd (omega arith)) ∙ f .each y p
-    go y l (no p) =
-        let q : y ≡ k = omega arith in
-        let b = f .long in
-        ap (λ (j : ℕ). getD (set t k v) j 0) q ∙ getD-set-same t k v 0 (omega arith) ∙ e ∙ ap (stopOf known) (sym q)
-
-pub stops-all : {known : Bool} {t : List ℕ} {k : ℕ} → Stops known t k → 256 ≤ k → Stops known t 256
-stops-all f h = record { long = f .long; each = λ y l. f .each y (omega arith) }
-
--- bytes that were passed over
-pub passed : {known : Bool} {text : List ℕ} {from to : ℕ} → Skipped known text from to → Passed known text from to
-passed p = record { above = p .above; within = p .within; each = p .each }
-
-pub skipped : {known : Bool} {text : List ℕ} {from to : ℕ} → Passed known text from to → (to < length text → stopOf known (getD text to 0) ≡ 0 → ⊥) → Skipped known text from to
-skipped p h = record { above = p .above; within = p .within; each = p .each; stop = h }
+    rw (
+      ne-eqb b 0x23 (λ f. absurd (omega arith)),
+      ne-eqb b 0xEF (λ f. absurd (omega arith)),
+      le-ltb b 0x0A (omega arith),
+      le-ltb b 0x0D (omega arith),
+      ne-eqb b 0x0D (λ f. absurd (omega arith)),
+      ne-eqb b 0xC2 (λ f. absurd (omega arith)),
+      ne-eqb b 0xE2 (λ f. absurd (omega arith)),
+    )
 
 -- over bytes, and then on from there
 pub skipped-on : {known : Bool} {text : List ℕ} {from at to : ℕ} → Passed known text from at → Skipped known text at to → Skipped known text from to
 skipped-on {known} {text} {from} {at} {to} p q =
-    record { above = omega (arith, p .above, q .above); within = q .within; each = λ i l u. go i l u (decLt i at); stop = q .stop }
+    let r = q .passed in
+    record { passed = record { above = omega (arith, p .above, r .above); within = r .within; each = λ i l u. go i l u (decLt i at) }; stop = q .stop }
   where
     go : (i : ℕ) → from ≤ i → i < to → Dec (i < at) → stopOf known (getD text i 0) ≡ 0
     go i l u (yes v) = p .each i l v
-    go i l u (no v) = q .each i (omega arith) u
+    go i l u (no v) = q .passed .each i (omega arith) u
 
-stop-small : (known : Bool) (b : ℕ) → stopOf known b ≤ 1
-stop-small known b = go (eqb b 0x23) (eqb b 0xEF) known (ltb b 0x80)
+-- what the table has for a byte
+pub small : (b : ℕ) {n : ℕ} → n ≡ stopOf true b → n ≤ 2
+small b {n} e = go (eqb b 0x23) (eqb b 0xEF) (ltb b 0x0A) (ltb b 0x0D) (eqb b 0x0D) (eqb b 0xC2) (eqb b 0xE2) e
   where
-    go : (x y z w : Bool) → cond x 1 (cond y 1 (cond z 0 (cond w 0 1))) ≤ 1
-    go true y z w = omega arith
-    go false true z w = omega arith
-    go false false true w = omega arith
-    go false false false true = omega arith
-    go false false false false = omega arith
-
-pub bit : (b : ℕ) {n : ℕ} → n ≡ stopOf true b → n ≤ 1
-bit b e = omega (arith, stop-small true b)
+    go : (p q t u v w x : Bool) → n ≡ cond p 1 (cond q 1 (cond t 0 (cond u 1 (cond v 2 (cond w 2 (cond x 2 0)))))) → n ≤ 2
+    go true q t u v w x f = omega arith
+    go false true t u v w x f = omega arith
+    go false false true u v w x f = omega arith
+    go false false false true v w x f = omega arith
+    go false false false false true w x f = omega arith
+    go false false false false false true x f = omega arith
+    go false false false false false false true f = omega arith
+    go false false false false false false false f = omega arith
 
 -- four bytes at a time
 pub four-pass : (known : Bool) (s : List ℕ) (k l m n : ℕ) → k ≡ stopOf known (getD s 0 0) → l ≡ stopOf known (getD s 1 0) → m ≡ stopOf known (getD s 2 0)
@@ -177,8 +172,7 @@ module _ (s text : List ℕ) where
       record {
         some-bytes = t .some-bytes;
         within = t .within;
-        decoded = ap (λ d. d .characters) (decode-scalar (drop at text) x n e)
-            ∙ ap (λ (u : List ℕ). record { code = x; width = n } ∷ decode u .characters) (drop-drop n at text);
+        decoded = characters-step text at x n e;
         same = t .same;
       }
 
@@ -199,13 +193,6 @@ module _ (s text : List ℕ) where
   pub stands-known : (at : ℕ) → at < length text → textOf (drop at text) ≡ WellFormed → Stands at (knownLength (getD text at 0))
   stands-known at h w =
       stands at (knownLength (getD text at 0)) h (measured-known text at h w) (λ z. absurd (omega (arith, known-bounds (getD text at 0) .0)))
-
-  -- none stands where the text is ill-formed, nor at its end
-  pub none-ill : (at : ℕ) → IllHead (drop at text) → charactersAt text at ≡ []
-  none-ill at e = ap (λ d. d .characters) (decode-ill (drop at text) e)
-
-  pub none-end : (at : ℕ) → length text ≤ at → charactersAt text at ≡ []
-  none-end at h = ap (λ (u : List ℕ). decode u .characters) (drop-of-length-le text h) ∙ ap (λ d. d .characters) decode-empty
 
   -- what was read at a place tells whether hashtag Continue stands there
   pub read-continues : (at : ℕ) (r : Read) → refusalOf s ≡ none → at < length text → ReadAs s text at r → 0 < r .len
@@ -231,10 +218,10 @@ module _ (s text : List ℕ) where
     run-over e = (omega (arith, i .same, ap widthOf e), i .within)
 
     pub run-ill : IllHead (drop at text) → Ends
-    run-ill e = run-over (ap (runOf s) (none-ill at e) ∙ run-none s)
+    run-ill e = run-over (ap (runOf s) (characters-ill text at e) ∙ run-none s)
 
     pub run-end : length text ≤ at → Ends
-    run-end h = run-over (ap (runOf s) (none-end at h) ∙ run-none s)
+    run-end h = run-over (ap (runOf s) (characters-end text at h) ∙ run-none s)
 
     pub run-stops : continuesFirst s (charactersAt text at) ≡ false → Ends
     run-stops e = run-over (no-run-first s (charactersAt text at) e)
@@ -278,10 +265,10 @@ module _ (s text : List ℕ) where
         }
 
     pub sought-ill : IllHead (drop at text) → Sought s text from (record { at = at; next = at })
-    sought-ill e = sought-no (none-ill at e) (λ _. e)
+    sought-ill e = sought-no (characters-ill text at e) (λ _. e)
 
     pub sought-end : length text ≤ at → Sought s text from (record { at = at; next = at })
-    sought-end h = sought-no (none-end at h) (λ l. absurd (omega arith))
+    sought-end h = sought-no (characters-end text at h) (λ l. absurd (omega arith))
 
     module _ {x n : ℕ} (h : Here at x n) where
       abbrev next : Characters
@@ -327,7 +314,7 @@ module _ (s text : List ℕ) where
       seeking-over i (k .here) (inl (sym (k .sign) ∙ sym (no-sign-here text at (n .0) (n .1))))
 
   pub seeking-plain : {from before at past : ℕ} → Seeking from before at → Skipped false text at past → at < past → Seeking from (past - 1) past
-  seeking-plain {from} {before} {at} {past} i p h = go (past - at - 1) past (omega arith) (passed p)
+  seeking-plain {from} {before} {at} {past} i p h = go (past - at - 1) past (omega arith) (p .passed)
     where
       go : (k q : ℕ) → q ≡ at + suc k → Passed false text at q → Seeking from (q - 1) q
       go zero q e p =

@@ -17,6 +17,7 @@ use Rattle.utf8.specs.declared.Step.the-variants.{Scalar, IllFormed, End}
 use Rattle.utf8.specs.Head.{stepOf}
 use Rattle.utf8.specs.Lead.{packed}
 use Rattle.utf8.proofs.TextLaws.{step-bounds, first-byte, ascii-at}
+use Rattle.line.specs.Line.{isLineEnd}
 use Rattle.image.specs.Class.{classNamed}
 use Rattle.image.specs.Check.{refusalOf, classOf, hashtagOf}
 use Rattle.character.specs.Traits.{traitsOf}
@@ -68,6 +69,16 @@ one-of x e = first (or-cases (eqb x 0x23) (eqb x 0xFE5F || eqb x 0xFF03) e)
     first (inl f) = inl (eqb-true x 0x23 f)
     first (inr f) = other (or-cases (eqb x 0xFE5F) (eqb x 0xFF03) f)
 
+-- a sign ends no line
+pub sign-ends-none : (x : ℕ) → isSign x ≡ true → isLineEnd x ≡ false
+unfolding isLineEnd
+sign-ends-none x e = go (one-of x e)
+  where
+    go : (x ≡ 0x23) ⊎ ((x ≡ 0xFE5F) ⊎ (x ≡ 0xFF03)) → isLineEnd x ≡ false
+    go (inl f) = rw f
+    go (inr (inl f)) = rw f
+    go (inr (inr f)) = rw f
+
 pub no-sign-here : (text : List ℕ) (at : ℕ) → (getD text at 0 ≡ 0x23 → ⊥) → (getD text at 0 ≡ 0xEF → ⊥) → false ≡ signOf (stepOf (drop at text))
 no-sign-here text at h k = sym (go (stepOf (drop at text)) refl)
   where
@@ -76,8 +87,8 @@ no-sign-here text at h k = sym (go (stepOf (drop at text)) refl)
 
     none : (x n : ℕ) → stepOf (drop at text) ≡ Scalar x n → (x ≡ 0x23) ⊎ ((x ≡ 0xFE5F) ⊎ (x ≡ 0xFF03)) → ⊥
     none x n e (inl f) = h (sym zero-th ∙ first-byte (drop at text) x n e .ascii (omega arith) ∙ f)
-    none x n e (inr (inl f)) = k (sym zero-th ∙ first-byte (drop at text) x n e .high (omega arith) (omega arith))
-    none x n e (inr (inr f)) = k (sym zero-th ∙ first-byte (drop at text) x n e .high (omega arith) (omega arith))
+    none x n e (inr (inl f)) = k (omega (arith, zero-th, first-byte (drop at text) x n e .three (omega arith) (omega arith)))
+    none x n e (inr (inr f)) = k (omega (arith, zero-th, first-byte (drop at text) x n e .three (omega arith) (omega arith)))
 
     by : (x n : ℕ) → stepOf (drop at text) ≡ Scalar x n → (b : Bool) → isSign x ≡ b → b ≡ false
     by x n e true f = absurd (none x n e (one-of x f))

@@ -1,5 +1,5 @@
 -- What writing the list of a text's hashtags answers under an image, and what the buffer then holds
--- (docs/RULES.md, "Hashtags" and "Named refusals").
+-- (docs/RULES.md, "Hashtags", "Lines" and "Named refusals").
 use Prim.Native.Nat.{ℕ, _+_}
 use mathlib.Core.List.{List, [], _∷_, _++_}
 use lib.ListN.{length}
@@ -7,6 +7,7 @@ use Rattle.refusal.specs.Outcome.{Outcome, given, refused, unless, outcomeMap}
 use Rattle.refusal.specs.declared.Refusal.the-variants as refusal
 use Rattle.utf8.specs.declared.Text.{Text}
 use Rattle.utf8.specs.declared.Text.the-variants.{WellFormed, IllFormed}
+use Rattle.line.specs.Line.{lineOf}
 use Rattle.image.specs.Check.{refusalOf}
 use Rattle.grammar.specs.Record.{tokenWords}
 use Rattle.grammar.specs.Reading.{lengthRefusal, formRefusal, roomed, laidBy}
@@ -18,13 +19,13 @@ use Rattle.hashtag.specs.declared.Listed.the-variants.{Refused, Hashtags
 abbrev pub hashtagKind : ℕ
 hashtagKind = 6
 
--- the words of hashtags, a record each: kind, first byte, one past the last
-abbrev pub spanWords : Span → List ℕ
-spanWords t = tokenWords hashtagKind (t .start) (t .end)
+-- the words of a text's hashtags, a record each: kind, first byte, one past the last, the line of the first byte
+abbrev pub spanWords : List ℕ → Span → List ℕ
+spanWords text t = tokenWords hashtagKind (t .start) (t .end) (lineOf text (t .start))
 
-abbrev pub spansWords : List Span → List ℕ
-spansWords [] = []
-spansWords (t ∷ ts) = spanWords t ++ spansWords ts
+abbrev pub spansWords : List ℕ → List Span → List ℕ
+spansWords text [] = []
+spansWords text (t ∷ ts) = spanWords text t ++ spansWords text ts
 
 -- the enum's case for each outcome
 abbrev pub listedBy : Outcome ℕ → Listed
@@ -57,4 +58,4 @@ hashtagListOf s text words = outcomeMap length (hashtagsWritten s text words)
 
 -- what the buffer then holds
 unfoldable pub hashtagListWords : List ℕ → List ℕ → List ℕ → List ℕ
-hashtagListWords s text out = laidBy spansWords out (hashtagsWritten s text (length out))
+hashtagListWords s text out = laidBy (spansWords text) out (hashtagsWritten s text (length out))

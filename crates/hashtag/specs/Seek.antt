@@ -1,4 +1,4 @@
--- Looking for the next hashtag of a text, from a byte place on (docs/RULES.md, "Hashtags").
+-- Looking for the next hashtag of a text, from a byte place on (docs/RULES.md, "Hashtags" and "Lines").
 use Prim.Native.Nat.{ℕ, _+_, _≤_, _<_}
 use mathlib.Core.Path.{_≡_}
 use mathlib.Core.Bool.{Bool, true, false, not, cond}
@@ -6,19 +6,18 @@ use mathlib.Core.List.{List, [], _∷_}
 use mathlib.Core.Logic.{_⊎_}
 use lib.Dec.{ltb, eqb}
 use lib.ListN.{length, getD, drop}
+use Rattle.lists.specs.Filled.{Filled}
 use Rattle.utf8.specs.declared.Step.{Step}
 use Rattle.utf8.specs.declared.Step.the-variants.{Scalar, IllFormed, End}
 use Rattle.utf8.specs.Head.{IllHead}
 use Rattle.utf8.specs.Lead.{isTrail}
-use Rattle.utf8.specs.Text.{Character, widthOf, decode, textOf, shift}
+use Rattle.utf8.specs.Text.{Character, charactersAt, widthOf, textOf, shift}
+use Rattle.line.specs.Ends.{endOf}
 use Rattle.hashtag.specs.Sign.{isSign, continues}
 use Rattle.hashtag.specs.Find.{Span, runOf, hashtagsFrom}
 use Rattle.hashtag.specs.declared.Sign.{Sign}
 
--- the characters from a place on, and their hashtags
-abbrev pub charactersAt : List ℕ → ℕ → List Character
-charactersAt text at = decode (drop at text) .characters
-
+-- the hashtags of the characters from a place on
 abbrev pub hashtagsAt : List ℕ → List ℕ → Bool → ℕ → List Span
 hashtagsAt s text free at = hashtagsFrom s free at (charactersAt text at)
 
@@ -31,18 +30,14 @@ continuesFirst s (c ∷ r) = continues s c
 abbrev pub freeAt : List ℕ → List ℕ → ℕ → ℕ → Bool
 freeAt s text before at = cond (ltb before at) (not (continuesFirst s (charactersAt text before))) true
 
--- where a search for signs stops, by the byte there: the first bytes of the signs; and, in a text that isn't known to be well-formed, every
--- byte that isn't a character by itself
+-- not 0 where a search for signs stops, by the byte there: at the first bytes of the signs; in a text that is known to be well-formed at those
+-- of line ends too, in another at every byte that isn't a character by itself
 abbrev pub stopOf : Bool → ℕ → ℕ
-stopOf known b = cond (eqb b 0x23) 1 (cond (eqb b 0xEF) 1 (cond known 0 (cond (ltb b 0x80) 0 1)))
+stopOf known b = cond (eqb b 0x23) 1 (cond (eqb b 0xEF) 1 (cond known (endOf b) (cond (ltb b 0x80) 0 1)))
 
--- the first k bytes of the table of them
-pub record Stops (known : Bool) (t : List ℕ) (k : ℕ) : Type 0 where
-  pub long : length t ≡ 256
-  pub each : (b : ℕ) → b < k → getD t b 0 ≡ stopOf known b
-
+-- the table of all bytes
 abbrev pub StopsOf : Bool → List ℕ → Type 0
-StopsOf known t = Stops known t 256
+StopsOf known t = Filled 256 (stopOf known) t 256
 
 -- it stops nowhere from one place to before another
 pub record Passed (known : Bool) (text : List ℕ) (from to : ℕ) : Type 0 where
@@ -52,9 +47,7 @@ pub record Passed (known : Bool) (text : List ℕ) (from to : ℕ) : Type 0 wher
 
 -- the first place from a place on where it stops, or the text's end
 pub record Skipped (known : Bool) (text : List ℕ) (from to : ℕ) : Type 0 where
-  pub above : from ≤ to
-  pub within : to ≤ length text
-  pub each : (i : ℕ) → from ≤ i → i < to → stopOf known (getD text i 0) ≡ 0
+  pub passed : Passed known text from to
   pub stop : to < length text → stopOf known (getD text to 0) ≡ 0 → ⊥
 
 -- the last place before another, and no sooner than a third, where no byte stands that only follows others; the third where there is none

@@ -10,7 +10,8 @@ ghost use Rattle.lists.specs.Laid.{laid};
 ghost use Rattle.utf8.specs.declared.Text.the-variants.{WellFormed};
 ghost use Rattle.utf8.specs.Head.{stepOf, IllHead};
 ghost use Rattle.utf8.specs.Lead.{isTrail};
-ghost use Rattle.utf8.specs.Text.{widthOf, textOf};
+ghost use Rattle.utf8.specs.Text.{charactersAt, widthOf, textOf};
+ghost use Rattle.line.specs.Line.{LineAt};
 ghost use Rattle.image.specs.Class.{classNamed};
 ghost use Rattle.image.specs.Check.{refusalOf};
 ghost use Rattle.character.specs.Read.{TableOf};
@@ -20,7 +21,7 @@ ghost use Rattle.grammar.specs.Reading.{maxText};
 ghost use Rattle.hashtag.specs.Sign.{isSign};
 ghost use Rattle.hashtag.specs.Find.{runOf, hashtagsOf};
 ghost use Rattle.hashtag.specs.Listed.{spansWords, hashtagListOf, hashtagListWords, listedBy, countedThrough, closedBy};
-ghost use Rattle.hashtag.specs.Seek.{charactersAt, continuesFirst, freeAt, stopOf, StopsOf, Passed, Skipped, Backed, signOf, Sought};
+ghost use Rattle.hashtag.specs.Seek.{continuesFirst, freeAt, stopOf, StopsOf, Passed, Skipped, Backed, signOf, Sought};
 use image::Answer;
 use refusal::Refusal;
 use scan::MAX_TEXT;
@@ -49,6 +50,12 @@ pub enum Listed {
 pub struct Sign {
     pub at: usize,
     pub next: usize,
+}
+
+// A sign, and the line of its first byte; where there is none, the line of that place.
+pub struct Found {
+    pub sign: Sign,
+    pub line: u32,
 }
 
 // Whether a code point is a sign.
@@ -121,8 +128,8 @@ fn find_end<'a>(image: &'a [u8], table: &'a [u8; 128], text: &'a [u8], from: usi
     at
 }
 
-// What a table of bytes has for a byte: 1 where a search stops there, else 0. In a text that is known to be well-formed only the first bytes
-// of the signs stop it, in another every byte that isn't a character by itself too.
+// What a table of bytes has for a byte: 0 where a search goes on over it. The first bytes of the signs stop it; in a text that is known to be
+// well-formed those of line ends too, in another every byte that isn't a character by itself.
 fn stop_at(b: usize, known: bool) -> u8
     ensures { λ r. ⌜ r ≡ stopOf known b ⌝ }
 {
@@ -133,7 +140,7 @@ fn stop_at(b: usize, known: bool) -> u8
         return 1;
     }
     if known {
-        return 0;
+        return line::tell_end(b);
     }
     if b < 0x80 {
         return 0;
@@ -317,40 +324,45 @@ fn step_back(text: &[u8], from: usize, to: usize) -> usize
     at
 }
 
-// As `seek`, in a text that is well-formed from the place on: bytes that begin no sign are passed over, whatever character they are of.
+// As `seek`, in a text that is well-formed from the place on, which has this line: bytes that begin neither a sign nor a line end are passed
+// over, whatever character they are of.
 fn seek_known<'a>(
     image: &'a [u8],
     table: &'a [u8; 128],
     stops: &'a [u8; 256],
     text: &'a [u8],
     from: usize,
-) -> Sign
+    mut line: u32,
+) -> Found
     requires { ⌜ refusalOf (now image) ≡ none ⌝ }
     requires { ⌜ TableOf (now image) (now table) ⌝ }
     requires { ⌜ StopsOf true (now stops) ⌝ }
+    requires { ⌜ length (now text) ≤ maxText ⌝ }
     requires { ⌜ (from ≤ length (now text)) × (textOf (drop from (now text)) ≡ WellFormed) ⌝ }
-    ensures { λ r. ⌜ Sought (now (image .entry)) (now (text .entry)) from r ⌝ }
+    requires { ⌜ LineAt (now text) from line ⌝ }
+    ensures { λ r. ⌜ Sought (now (image .entry)) (now (text .entry)) from (r .sign) ⌝ }
+    ensures { λ r. ⌜ LineAt (now (text .entry)) (r .sign .at) (r .line) × LineAt (now (text .entry)) (r .sign .next) (r .line) ⌝ }
 {
     let mut at = from;
     while at < text.len() {
         let near = skip_fours(stops, text, at);
-        let past = skip(stops, text, near);
-        if text.len() <= past {
-            return Sign {
-                at: past,
-                next: past,
-            };
+        at = skip(stops, text, near);
+        if text.len() <= at {
+            break;
         }
-        let next = past + utf8::measure_known(text[past]);
-        if is_sign_at(text, past) {
-            let before = step_back(text, from, past);
-            if begins(image, table, text, before, Sign { at: past, next }) {
-                return Sign { at: past, next };
+        let next = at + utf8::measure_known(text[at]);
+        if is_sign_at(text, at) {
+            let before = step_back(text, from, at);
+            let sign = Sign { at, next };
+            if begins(image, table, text, before, sign) {
+                return Found { sign, line };
             }
         }
+        line += line::count_at(text, at);
         at = next;
     }
-    Sign { at, next: at }
+    let sign = Sign { at, next: at };
+    Found { sign, line }
 }
 
 // The answer where the characters end at a place: so many hashtags, or refusal 6 if the text goes on there.
@@ -392,20 +404,23 @@ fn write_hashtags<'a>(image: &'a [u8], table: &'a [u8; 128], text: &'a [u8], out
     requires { ⌜ length (now text) ≤ maxText ⌝ }
     requires { ⌜ textOf (now text) ≡ WellFormed ⌝ }
     requires { ⌜ recordSize * length (hashtagsOf (now image) (now text)) ≤ length (now out) ⌝ }
-    ensures { λ _. ⌜ now (out .exit) ≡ laid (now (out .entry)) 0 (spansWords (hashtagsOf (now (image .entry)) (now (text .entry)))) ⌝ }
+    ensures { λ _. ⌜ now (out .exit) ≡ laid (now (out .entry)) 0 (spansWords (now (text .entry)) (hashtagsOf (now (image .entry)) (now (text .entry)))) ⌝ }
 {
     let stops = fill_stops(true);
     let mut w = 0;
     let mut at = 0;
+    let mut line = 1;
     while at < text.len() {
-        let sign = seek_known(image, table, &stops, text, at);
+        let found = seek_known(image, table, &stops, text, at, line);
+        let sign = found.sign;
         if sign.next <= sign.at {
             return;
         }
         let end = find_end(image, table, text, sign.next);
-        scan::put_record(&mut out[w..], HASHTAG, sign.at, end);
+        scan::put_record(&mut out[w..], HASHTAG, sign.at, end, found.line);
         w += RECORD_WORDS;
         at = sign.next;
+        line = found.line;
     }
 }
 

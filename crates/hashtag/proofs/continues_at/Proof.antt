@@ -2,12 +2,13 @@
 use mathlib.Core.Path.{_∙_}
 use native.Mathlib.Omega.{arith}
 use borrow.Author.Needs.{needs}
-use Rattle.hashtag.proofs.SeekLaws.{none-ill, none-end, read-continues}
+use Rattle.utf8.proofs.TextLaws.{characters-ill, characters-end}
+use Rattle.hashtag.proofs.SeekLaws.{read-continues}
 use Rattle.hashtag.proofs.continues_at.Statement.{statement}
 use Rattle.hashtag.proofs.continues_at.Tie as tie
 
 returns : tie.Need-returns
-returns c = let a = c .before .before .before .args in rw (none-end (a .image .now) (a .text .now) (a .at) (c .if1 .taken))
+returns c = let a = c .before .before .before .args in rw (characters-end (a .text .now) (a .at) (c .if1 .taken))
 
 read-requires : tie.Need-read-requires
 read-requires c κs =
@@ -17,7 +18,7 @@ read-requires c κs =
 returns-2 : tie.Need-returns-2
 returns-2 c =
     let a = c .before .before .before .before .before .before .before .args in
-    rw (none-ill (a .image .now) (a .text .now) (a .at) (c .before .before .read .ensures .none (c .if2 .taken)))
+    rw (characters-ill (a .text .now) (a .at) (c .before .before .read .ensures .none (c .if2 .taken)))
 
 returns-3 : tie.Need-returns-3
 returns-3 c =

@@ -3,7 +3,7 @@ use mathlib.Core.Bool.{true}
 use native.Mathlib.Omega.{arith}
 use borrow.Author.Needs.{needs}
 use lib.ListN.{getD}
-use Rattle.hashtag.proofs.SeekLaws.{bit, four-pass}
+use Rattle.hashtag.proofs.SeekLaws.{small, four-pass}
 use Rattle.hashtag.proofs.look_four.Statement.{statement}
 use Rattle.hashtag.proofs.look_four.Tie as tie
 
@@ -11,7 +11,7 @@ add-result : tie.Need-add-result
 add-result c =
     let k = c .before .before .before .before .before in
     let s = k .args .s .now in
-    omega (arith, bit (getD s 1 0) (c .look2 .ensures true (k .pre .0)), bit (getD s 0 0) (c .before .before .look .ensures true (k .pre .0)))
+    omega (arith, small (getD s 1 0) (c .look2 .ensures true (k .pre .0)), small (getD s 0 0) (c .before .before .look .ensures true (k .pre .0)))
 
 add-result-2 : tie.Need-add-result-2
 add-result-2 c =
@@ -19,9 +19,9 @@ add-result-2 c =
     let s = k .args .s .now in
     omega (
       arith,
-      bit (getD s 2 0) (c .look3 .ensures true (k .pre .0)),
-      bit (getD s 1 0) (c .before .before .look2 .ensures true (k .pre .0)),
-      bit (getD s 0 0) (c .before .before .before .before .look .ensures true (k .pre .0)),
+      small (getD s 2 0) (c .look3 .ensures true (k .pre .0)),
+      small (getD s 1 0) (c .before .before .look2 .ensures true (k .pre .0)),
+      small (getD s 0 0) (c .before .before .before .before .look .ensures true (k .pre .0)),
     )
 
 add-result-3 : tie.Need-add-result-3
@@ -30,10 +30,10 @@ add-result-3 c =
     let s = k .args .s .now in
     omega (
       arith,
-      bit (getD s 3 0) (c .look4 .ensures true (k .pre .0)),
-      bit (getD s 2 0) (c .before .before .look3 .ensures true (k .pre .0)),
-      bit (getD s 1 0) (c .before .before .before .before .look2 .ensures true (k .pre .0)),
-      bit (getD s 0 0) (c .before .before .before .before .before .before .look .ensures true (k .pre .0)),
+      small (getD s 3 0) (c .look4 .ensures true (k .pre .0)),
+      small (getD s 2 0) (c .before .before .look3 .ensures true (k .pre .0)),
+      small (getD s 1 0) (c .before .before .before .before .look2 .ensures true (k .pre .0)),
+      small (getD s 0 0) (c .before .before .before .before .before .before .look .ensures true (k .pre .0)),
     )
 
 returns : tie.Need-returns

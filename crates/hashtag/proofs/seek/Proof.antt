@@ -25,7 +25,7 @@ sub-before : tie.Need-sub-before Inv-loop μ-loop
 sub-before c = omega (arith, c .if1 .taken)
 
 loop-less : tie.Need-loop-less Inv-loop μ-loop
-loop-less c = omega (arith, c .if1 .taken, c .before .skip .ensures false (c .before .before .before .before .before .before .pre .1 .1 .0) .within)
+loop-less c = omega (arith, c .if1 .taken, c .before .skip .ensures false (c .before .before .before .before .before .before .pre .1 .1 .0) .passed .within)
 
 loop-again : tie.Need-loop-again Inv-loop μ-loop
 loop-again c = seeking-plain _ _ (c .before .before .before .loop .inv) (c .before .skip .ensures false (c .before .before .before .before .before .before .pre .1 .1 .0)) (c .if1 .taken)

@@ -1,23 +1,24 @@
 -- `hashtag::seek_known` meets its contract. The loop's invariant: no hashtag begins in what was passed over, and the place is where a
--- character begins. Assumes nothing.
+-- character begins, on this line. Assumes nothing.
 use Prim.Native.Nat.{_-_}
 use mathlib.Core.Bool.{true}
+use mathlib.Core.Logic.{⊎-elim}
 use mathlib.Core.Path.{sym, _∙_}
 use native.Mathlib.Omega.{arith}
 use lib.ListN.{length}
 use Rattle.hashtag.proofs.SeekLaws.{Stands, skipped-on}
-use Rattle.hashtag.proofs.KnownLaws.{Walked, walked-begins, walked-bytes, stands-here, known-end, known-some, known-over, known-passes}
+use Rattle.hashtag.proofs.KnownLaws.{Walked, walked-begins, walked-bytes, stands-here, known-end, known-some, known-over, known-passes, line-fits}
 use Rattle.hashtag.proofs.seek_known.Statement.{statement}
 use Rattle.hashtag.proofs.seek_known.Tie as tie
 
 abbrev Inv-loop : tie.InvT-loop
-Inv-loop image table stops text from at₀ at = Walked image text from at
+Inv-loop image table stops text from line₀ at₀ line at = Walked image text from at line
 
 abbrev μ-loop : tie.MeasureT-loop
-μ-loop image table stops text from at₀ at = length text - at
+μ-loop image table stops text from line₀ at₀ line at = length text - at
 
 loop-holds : tie.Need-loop-holds Inv-loop μ-loop
-loop-holds c = walked-begins _ _ _ (c .before .before .pre .1 .1 .1 .0)
+loop-holds c = let p = c .before .before .pre .1 .1 .1 .1 in walked-begins _ _ (p .0 .0) (p .1)
 
 skip-fours-requires : tie.Need-skip-fours-requires Inv-loop μ-loop
 skip-fours-requires c κs = (c .before .before .before .before .pre .1 .1 .0, c .before .loop .inv .seeking .within)
@@ -29,13 +30,10 @@ skip-requires c κs = c .skip-fours .ensures .within
 walked :
     (c : tie.After-skip Inv-loop μ-loop)
     → let a = c .before .before .before .before .before .before .args in
-    Walked (a .image .now) (a .text .now) (a .from) (c .skip .result)
+    Walked (a .image .now) (a .text .now) (a .from) (c .skip .result) (c .before .before .before .loop .line)
 walked c =
-    let p = c .before .before .before .before .before .before .pre in
-    walked-bytes _ _ _ (p .1 .1 .1 .1) (c .before .before .before .loop .inv) (skipped-on (c .before .skip-fours .ensures) (c .skip .ensures true (p .1 .1 .0)))
-
-returns : tie.Need-returns Inv-loop μ-loop
-returns c = known-end _ _ (walked (c .before)) (c .if1 .taken)
+    let p = c .before .before .before .before .before .before .pre .1 .1 in
+    walked-bytes _ _ _ (p .1 .1 .0 .1) (c .before .before .before .loop .inv) (skipped-on (c .before .skip-fours .ensures) (c .skip .ensures true (p .0)))
 
 read-byte : tie.Need-shared-slice-read-measure-known Inv-loop μ-loop
 read-byte c = c .before .if1 .left
@@ -47,7 +45,7 @@ standing :
     Stands (a .image .now) (a .text .now) (c .before .before .before .skip .result) (c .measure-known .result)
 standing c =
     let b = c .before .before .before in
-    stands-here _ _ _ (b .before .before .before .before .before .before .pre .1 .1 .1 .1) _ (walked b) (c .before .before .if1 .left) (c .measure-known .ensures)
+    stands-here _ _ _ (b .before .before .before .before .before .before .pre .1 .1 .1 .1 .0 .1) _ (walked b) (c .before .before .if1 .left) (c .measure-known .ensures)
 
 add-next : tie.Need-add-next Inv-loop μ-loop
 add-next c = omega (arith, standing c .here .within, c .before .before .before .before .before .before .before .before)
@@ -65,38 +63,43 @@ begins-requires c κs =
     let p = c .before .before .before .before .before .before .before .before .before .before .before .before .pre in
     (p .0, p .1 .0)
 
-returns-2 : tie.Need-returns-2 Inv-loop μ-loop
-returns-2 c =
+returns : tie.Need-returns Inv-loop μ-loop
+returns c =
     let d = c .before .before .before .before .before in
     let s = standing d in
     known-some _ _ (walked (d .before .before .before)) s (c .before .before .step-back .ensures)
     (sym (s .sign) ∙ sym (c .before .before .before .before .is-sign-at .ensures) ∙ c .before .before .before .if2 .taken) (sym (c .before .begins .ensures) ∙ c .if3 .taken)
 
+count-at-requires : tie.Need-count-at-requires Inv-loop μ-loop
+count-at-requires c κs = c .before .before .before .before .if1 .left
+
+add-line : tie.Need-add-line Inv-loop μ-loop
+add-line c =
+    let d = c .before .before .before in
+    omega (arith, line-fits _ _ (walked (d .before .before .before)) (standing d) (c .count-at .ensures), d .before .before .before .before .before .before .before .before .before .pre .1 .1 .1 .0)
+
 loop-less : tie.Need-loop-less Inv-loop μ-loop
 loop-less c =
-    let d = c .before .before .before .before .before in
+    let d = c .before .before .before in
     let h = standing d .here in
-    omega (arith, h .some-bytes, h .within, d .before .before .before .skip .ensures true (d .before .before .before .before .before .before .before .before .before .pre .1 .1 .0) .above, d .before .before .before .before .skip-fours .ensures .above)
+    let p = d .before .before .before .before .before .before .before .before .before .pre .1 .1 .0 in
+    omega (arith, h .some-bytes, h .within, d .before .before .before .skip .ensures true p .passed .above, d .before .before .before .before .skip-fours .ensures .above)
 
 loop-again : tie.Need-loop-again Inv-loop μ-loop
 loop-again c =
-    let d = c .before .before .before .before .before in
-    known-over _ _ (walked (d .before .before .before)) (standing d) (c .before .before .step-back .ensures) (sym (c .before .begins .ensures) ∙ c .if3 .left)
-
-loop-less-2 : tie.Need-loop-less-2 Inv-loop μ-loop
-loop-less-2 c =
-    let d = c .before .before in
-    let h = standing d .here in
-    omega (arith, h .some-bytes, h .within, d .before .before .before .skip .ensures true (d .before .before .before .before .before .before .before .before .before .pre .1 .1 .0) .above, d .before .before .before .before .skip-fours .ensures .above)
-
-loop-again-2 : tie.Need-loop-again-2 Inv-loop μ-loop
-loop-again-2 c =
-    let d = c .before .before in
+    let d = c .before .before .before in
+    let i = walked (d .before .before .before) in
     let s = standing d in
-    known-passes _ _ (walked (d .before .before .before)) s (sym (s .sign) ∙ sym (c .before .is-sign-at .ensures) ∙ c .if2 .left)
+    ⊎-elim
+    (λ w. known-over _ _ i s (w .1 .ensures) (c .count-at .ensures) (sym (w .2 .ensures) ∙ w .3 .left))
+    (λ w. known-passes _ _ i s (c .count-at .ensures) (sym (s .sign) ∙ sym (c .before .before .is-sign-at .ensures) ∙ w .left))
+    (c .before .if2 .came)
+
+returns-2 : tie.Need-returns-2 Inv-loop μ-loop
+returns-2 c = known-end _ _ (c .before .loop .inv) (c .loop-test .left)
 
 returns-3 : tie.Need-returns-3 Inv-loop μ-loop
-returns-3 c = known-end _ _ (c .before .loop .inv) (c .loop-test .left)
+returns-3 c = known-end _ _ (walked (c .before)) (c .if1 .taken)
 
 pub seek-known-spec : {M : Type 1} → statement M
 seek-known-spec =
@@ -107,16 +110,16 @@ seek-known-spec =
     loop-holds
     skip-fours-requires
     skip-requires
-    returns
     read-byte
     (λ c κs. tt)
     add-next
     is-sign-at-requires
     step-back-requires
     begins-requires
-    returns-2
+    returns
+    count-at-requires
+    add-line
     loop-less
     loop-again
-    loop-less-2
-    loop-again-2
+    returns-2
     returns-3)

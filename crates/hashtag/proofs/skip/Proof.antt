@@ -5,7 +5,7 @@ use mathlib.Core.Path.{sym, _∙_}
 use native.Mathlib.Omega.{arith}
 use lib.ListN.{length}
 use Rattle.hashtag.specs.Seek.{StopsOf, Passed}
-use Rattle.hashtag.proofs.SeekLaws.{passed-begins, passed-more, skipped}
+use Rattle.hashtag.proofs.SeekLaws.{passed-begins, passed-more}
 use Rattle.hashtag.proofs.skip.Statement.{statement}
 use Rattle.hashtag.proofs.skip.Tie as tie
 
@@ -22,7 +22,7 @@ read-byte : tie.Need-shared-slice-read-look Inv-loop μ-loop
 read-byte c = c .before .loop-test .taken
 
 returns : tie.Need-returns Inv-loop μ-loop
-returns c known t = skipped (c .before .before .before .before .loop .inv known t) (λ h e. c .if1 .taken (c .before .look .ensures known t ∙ e))
+returns c known t = record { passed = c .before .before .before .before .loop .inv known t; stop = λ h e. c .if1 .taken (c .before .look .ensures known t ∙ e) }
 
 add-at : tie.Need-add-at Inv-loop μ-loop
 add-at c = omega (arith, c .before .before .before .loop-test .taken, c .before .before .before .before .before .before)
@@ -35,7 +35,7 @@ loop-again c known t =
     passed-more (c .before .before .before .before .loop .inv known t) (c .before .before .before .loop-test .taken) (sym (c .before .look .ensures known t) ∙ c .if1 .left)
 
 returns-2 : tie.Need-returns-2 Inv-loop μ-loop
-returns-2 c known t = skipped (c .before .loop .inv known t) (λ h. absurd (omega (arith, c .loop-test .left)))
+returns-2 c known t = record { passed = c .before .loop .inv known t; stop = λ h. absurd (omega (arith, c .loop-test .left)) }
 
 pub skip-spec : {M : Type 1} → statement M
 skip-spec = tie.close (tie.spec Inv-loop μ-loop loop-holds read-byte (λ c κs. tt) returns add-at loop-less loop-again returns-2)
