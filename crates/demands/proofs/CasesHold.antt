@@ -6,6 +6,7 @@ use Rattle.utf8.specs.Scalar.{isScalar}
 use Rattle.utf8.specs.Subpart.{subpartOf}
 use Rattle.utf8.specs.Head.{stepOf}
 use Rattle.utf8.specs.Text.{decodeIn, decode, textOf}
+use Rattle.line.specs.Line.{isLineEnd, endsLine, lineEnds, lineOf}
 use Rattle.image.specs.Word.{wordAt}
 use Rattle.image.specs.Header.{lengthRight, headerRight}
 use Rattle.image.specs.Ranges.{rangeAt, goodAlone, follows, goodRange, firstBadRange, classIn}
@@ -16,13 +17,17 @@ use Rattle.grammar.specs.Reading.{meaningOf, readingOf, lengthRefusal, outcomeO
 use Rattle.hashtag.specs.Sign.{isSign, isHashtagContinue}
 use Rattle.hashtag.specs.Find.{runOf, hashtagsFrom, hashtagsOf}
 use Rattle.hashtag.specs.Listed.{hashtagsThrough, hashtagsFound}
-use Rattle.demands.specs.Cases.{Case, M, M2, P, N, cases, hashtagCases, numbersOf, hashtagNumbersOf}
+use Rattle.demands.specs.Cases.{Case, M, M2, P, N, K, K1, K2, cases, lineCases, hashtagCases, numbersOf, hashtagNumbersOf}
 
-pub cases-hold : map (λ (c : Case). numbersOf (outcomeOf (c .image) (c .text))) cases ≡ map (λ (c : Case). c .answer) cases
-unfolding firstFrom firstWhere isScalar subpartOf stepOf decodeIn decode textOf wordAt lengthRight headerRight rangeAt goodAlone follows goodRange firstBadRange classIn pointAt roleAt goodEntryAlone goodEntry firstBadEntry roleBy afterRole isMedial recordsRefusal refusalOf rangeClass entryRole classOf medialOf walk meaningOf readingOf lengthRefusal outcomeOf M M2 P cases
+pub cases-hold : map (λ (c : Case). numbersOf (c .text) (outcomeOf (c .image) (c .text))) cases ≡ map (λ (c : Case). c .answer) cases
+unfolding firstFrom firstWhere isScalar subpartOf stepOf decodeIn decode textOf wordAt lengthRight headerRight rangeAt goodAlone follows goodRange firstBadRange classIn pointAt roleAt goodEntryAlone goodEntry firstBadEntry roleBy afterRole isMedial recordsRefusal refusalOf rangeClass entryRole classOf medialOf walk meaningOf readingOf lengthRefusal outcomeOf isLineEnd endsLine lineEnds lineOf M M2 P cases
 cases-hold = refl
 
+pub line-cases-hold : map (λ (c : Case). numbersOf (c .text) (outcomeOf (c .image) (c .text))) lineCases ≡ map (λ (c : Case). c .answer) lineCases
+unfolding firstFrom firstWhere isScalar subpartOf stepOf decodeIn decode textOf wordAt lengthRight headerRight rangeAt goodAlone follows goodRange firstBadRange classIn pointAt roleAt goodEntryAlone goodEntry firstBadEntry roleBy afterRole isMedial recordsRefusal refusalOf rangeClass entryRole classOf medialOf walk meaningOf readingOf lengthRefusal outcomeOf isLineEnd endsLine lineEnds lineOf K K1 K2 lineCases
+line-cases-hold = refl
+
 pub hashtag-cases-hold :
-    map (λ (c : Case). hashtagNumbersOf (hashtagsFound (c .image) (c .text))) hashtagCases ≡ map (λ (c : Case). c .answer) hashtagCases
-unfolding firstFrom firstWhere isScalar subpartOf stepOf decodeIn decode textOf wordAt lengthRight headerRight rangeAt goodAlone follows goodRange firstBadRange classIn pointAt roleAt goodEntryAlone goodEntry firstBadEntry roleBy afterRole isHashtag recordsRefusal refusalOf rangeClass entryRole classOf hashtagOf lengthRefusal isSign isHashtagContinue runOf hashtagsFrom hashtagsOf hashtagsThrough hashtagsFound P N hashtagCases
+    map (λ (c : Case). hashtagNumbersOf (c .text) (hashtagsFound (c .image) (c .text))) hashtagCases ≡ map (λ (c : Case). c .answer) hashtagCases
+unfolding firstFrom firstWhere isScalar subpartOf stepOf decodeIn decode textOf wordAt lengthRight headerRight rangeAt goodAlone follows goodRange firstBadRange classIn pointAt roleAt goodEntryAlone goodEntry firstBadEntry roleBy afterRole isHashtag recordsRefusal refusalOf rangeClass entryRole classOf hashtagOf lengthRefusal isSign isHashtagContinue runOf hashtagsFrom hashtagsOf hashtagsThrough hashtagsFound isLineEnd endsLine lineEnds lineOf P N hashtagCases
 hashtag-cases-hold = refl

@@ -1,6 +1,7 @@
--- The small images M, M2 and P, and the marked cases of docs/RULES.md, "Small image M and its readings".
-use Prim.Native.Nat.{ℕ}
-use mathlib.Core.List.{List, [], _∷_}
+-- The small images M, M2, P and K, and the marked cases of docs/RULES.md, "Small image M and its readings".
+use Prim.Native.Nat.{ℕ, _+_, _*_, _/_, _%_}
+use mathlib.Core.List.{List, [], _∷_, _++_}
+use lib.ListN.{length}
 use Rattle.refusal.specs.Refusal.{numberOf, carriedBy}
 use Rattle.utf8.specs.Text.{Character}
 use Rattle.grammar.specs.Scan.{Tok}
@@ -15,13 +16,13 @@ pub data Numbers : Type 0 where
   words : List ℕ → Numbers
   refusal : ℕ → List ℕ → Numbers
 
-abbrev pub numbersOf : Outcome (List (Tok Character Kind)) → Numbers
-numbersOf (given ts) = words (listedWords ts)
-numbersOf (refused r) = refusal (numberOf r) (carriedBy r)
+abbrev pub numbersOf : List ℕ → Outcome (List (Tok Character Kind)) → Numbers
+numbersOf text (given ts) = words (listedWords text ts)
+numbersOf text (refused r) = refusal (numberOf r) (carriedBy r)
 
-abbrev pub hashtagNumbersOf : Outcome (List Span) → Numbers
-hashtagNumbersOf (given ts) = words (spansWords ts)
-hashtagNumbersOf (refused r) = refusal (numberOf r) (carriedBy r)
+abbrev pub hashtagNumbersOf : List ℕ → Outcome (List Span) → Numbers
+hashtagNumbersOf text (given ts) = words (spansWords text ts)
+hashtagNumbersOf text (refused r) = refusal (numberOf r) (carriedBy r)
 
 -- version 1,048,576; ranges 20-20 White, 2E-2E Syntax, 30-39 Nonstart, 41-5A Start, 61-7A Start; profile 2E role 3: 100 bytes
 unfoldable pub M : List ℕ
@@ -50,27 +51,47 @@ M2 =
     ∷ 0x2E ∷ 0x00 ∷ 0x00 ∷ 0x00 ∷ 0x03 ∷ 0x00 ∷ 0x00 ∷ 0x00
     ∷ []
 
--- M with two profile entries, x role q and y role r: 108 bytes
-abbrev withEntries : ℕ → ℕ → ℕ → ℕ → List ℕ
-withEntries x q y r =
-    0x01 ∷ 0x00 ∷ 0x00 ∷ 0x00 ∷ 0x00 ∷ 0x00 ∷ 0x10 ∷ 0x00 ∷ 0x6C ∷ 0x00 ∷ 0x00 ∷ 0x00 ∷ 0x05 ∷ 0x00 ∷ 0x00 ∷ 0x00
-    ∷ 0x20 ∷ 0x00 ∷ 0x00 ∷ 0x00 ∷ 0x02 ∷ 0x00 ∷ 0x00 ∷ 0x00 ∷ 0x5C ∷ 0x00 ∷ 0x00 ∷ 0x00 ∷ 0x00 ∷ 0x00 ∷ 0x00 ∷ 0x00
-    ∷ 0x20 ∷ 0x00 ∷ 0x00 ∷ 0x00 ∷ 0x20 ∷ 0x00 ∷ 0x00 ∷ 0x00 ∷ 0x04 ∷ 0x00 ∷ 0x00 ∷ 0x00
-    ∷ 0x2E ∷ 0x00 ∷ 0x00 ∷ 0x00 ∷ 0x2E ∷ 0x00 ∷ 0x00 ∷ 0x00 ∷ 0x03 ∷ 0x00 ∷ 0x00 ∷ 0x00
-    ∷ 0x30 ∷ 0x00 ∷ 0x00 ∷ 0x00 ∷ 0x39 ∷ 0x00 ∷ 0x00 ∷ 0x00 ∷ 0x02 ∷ 0x00 ∷ 0x00 ∷ 0x00
-    ∷ 0x41 ∷ 0x00 ∷ 0x00 ∷ 0x00 ∷ 0x5A ∷ 0x00 ∷ 0x00 ∷ 0x00 ∷ 0x01 ∷ 0x00 ∷ 0x00 ∷ 0x00
-    ∷ 0x61 ∷ 0x00 ∷ 0x00 ∷ 0x00 ∷ 0x7A ∷ 0x00 ∷ 0x00 ∷ 0x00 ∷ 0x01 ∷ 0x00 ∷ 0x00 ∷ 0x00
-    ∷ x ∷ 0x00 ∷ 0x00 ∷ 0x00 ∷ q ∷ 0x00 ∷ 0x00 ∷ 0x00
-    ∷ y ∷ 0x00 ∷ 0x00 ∷ 0x00 ∷ r ∷ 0x00 ∷ 0x00 ∷ 0x00
-    ∷ []
+-- the bytes of numbers, and of an image of version 1,048,576 with these words of ranges, three each, and of entries, two each
+abbrev bytes : List ℕ → List ℕ
+bytes [] = []
+bytes (n ∷ ns) = (n % 256) ∷ (n / 256 % 256) ∷ (n / 65536 % 256) ∷ (n / 16777216) ∷ bytes ns
+
+abbrev imageOf : List ℕ → List ℕ → List ℕ
+imageOf ranges entries =
+    let n = length ranges / 3 in
+    let m = length entries / 2 in
+    bytes (1 ∷ 1048576 ∷ (32 + 12 * n + 8 * m) ∷ n ∷ 32 ∷ m ∷ (32 + 12 * n) ∷ 0 ∷ []) ++ bytes ranges ++ bytes entries
+
+-- the ranges of M
+abbrev rangesOfM : List ℕ
+rangesOfM = 0x20 ∷ 0x20 ∷ 4 ∷ 0x2E ∷ 0x2E ∷ 3 ∷ 0x30 ∷ 0x39 ∷ 2 ∷ 0x41 ∷ 0x5A ∷ 1 ∷ 0x61 ∷ 0x7A ∷ 1 ∷ []
+
+-- M with these entries
+abbrev withEntries : List ℕ → List ℕ
+withEntries entries = imageOf rangesOfM entries
 
 -- M with 5F role 5 added
 unfoldable pub P : List ℕ
-P = withEntries 0x2E 3 0x5F 5
+P = withEntries (0x2E ∷ 3 ∷ 0x5F ∷ 5 ∷ [])
 
 -- M with 23 role 2 added
 unfoldable pub N : List ℕ
-N = withEntries 0x23 2 0x2E 3
+N = withEntries (0x23 ∷ 2 ∷ 0x2E ∷ 3 ∷ [])
+
+-- M with the ranges 0A-0D White, these, and 200E-200F White, and with these entries before its own
+abbrev withLines : List ℕ → List ℕ → List ℕ → List ℕ
+withLines next last entries = imageOf (0x0A ∷ 0x0D ∷ 4 ∷ rangesOfM ++ next ++ (0x200E ∷ 0x200F ∷ 4 ∷ last)) (entries ++ (0x2E ∷ 3 ∷ []))
+
+unfoldable pub K : List ℕ
+K = withLines [] [] []
+
+-- K with 0A role 1
+unfoldable pub K1 : List ℕ
+K1 = withLines [] [] (0x0A ∷ 1 ∷ [])
+
+-- K with 85 and 2028-2029 Syntax
+unfoldable pub K2 : List ℕ
+K2 = withLines (0x85 ∷ 0x85 ∷ 3 ∷ []) (0x2028 ∷ 0x2029 ∷ 3 ∷ []) []
 
 pub record Case : Type 0 where
   pub image : List ℕ
@@ -83,10 +104,10 @@ on image text answer = record { image = image; text = text; answer = answer }
 unfoldable pub cases : List Case
 cases =
     on M [] (words [])
-    ∷ on M (0x61 ∷ 0x62 ∷ 0x2E ∷ 0x63 ∷ 0x31 ∷ 0x20 ∷ 0x2E ∷ []) (words (1 ∷ 0 ∷ 5 ∷ 3 ∷ 5 ∷ 6 ∷ 2 ∷ 6 ∷ 7 ∷ []))
-    ∷ on M (0x61 ∷ 0x2E ∷ []) (words (1 ∷ 0 ∷ 1 ∷ 2 ∷ 1 ∷ 2 ∷ []))
-    ∷ on M (0x61 ∷ 0x2E ∷ 0x2E ∷ 0x62 ∷ []) (words (1 ∷ 0 ∷ 1 ∷ 2 ∷ 1 ∷ 2 ∷ 2 ∷ 2 ∷ 3 ∷ 1 ∷ 3 ∷ 4 ∷ []))
-    ∷ on M (0x2E ∷ 0x61 ∷ []) (words (2 ∷ 0 ∷ 1 ∷ 1 ∷ 1 ∷ 2 ∷ []))
+    ∷ on M (0x61 ∷ 0x62 ∷ 0x2E ∷ 0x63 ∷ 0x31 ∷ 0x20 ∷ 0x2E ∷ []) (words (1 ∷ 0 ∷ 5 ∷ 1 ∷ 3 ∷ 5 ∷ 6 ∷ 1 ∷ 2 ∷ 6 ∷ 7 ∷ 1 ∷ []))
+    ∷ on M (0x61 ∷ 0x2E ∷ []) (words (1 ∷ 0 ∷ 1 ∷ 1 ∷ 2 ∷ 1 ∷ 2 ∷ 1 ∷ []))
+    ∷ on M (0x61 ∷ 0x2E ∷ 0x2E ∷ 0x62 ∷ []) (words (1 ∷ 0 ∷ 1 ∷ 1 ∷ 2 ∷ 1 ∷ 2 ∷ 1 ∷ 2 ∷ 2 ∷ 3 ∷ 1 ∷ 1 ∷ 3 ∷ 4 ∷ 1 ∷ []))
+    ∷ on M (0x2E ∷ 0x61 ∷ []) (words (2 ∷ 0 ∷ 1 ∷ 1 ∷ 1 ∷ 1 ∷ 2 ∷ 1 ∷ []))
     ∷ on M (0x31 ∷ 0x61 ∷ []) (refusal 7 (0 ∷ []))
     ∷ on M (0x61 ∷ 0x20 ∷ 0x31 ∷ []) (refusal 7 (2 ∷ []))
     ∷ on M (0xC0 ∷ 0x80 ∷ []) (refusal 6 (0 ∷ 1 ∷ []))
@@ -94,8 +115,21 @@ cases =
     ∷ on M (0x61 ∷ 0xED ∷ 0xA0 ∷ 0x80 ∷ []) (refusal 6 (1 ∷ 1 ∷ []))
     ∷ on M (0xF4 ∷ 0x90 ∷ 0x80 ∷ 0x80 ∷ []) (refusal 6 (0 ∷ 1 ∷ []))
     ∷ on M (0x61 ∷ 0xC3 ∷ 0xA9 ∷ []) (refusal 7 (1 ∷ []))
-    ∷ on M2 (0x61 ∷ 0xC3 ∷ 0xA9 ∷ []) (words (1 ∷ 0 ∷ 3 ∷ []))
+    ∷ on M2 (0x61 ∷ 0xC3 ∷ 0xA9 ∷ []) (words (1 ∷ 0 ∷ 3 ∷ 1 ∷ []))
     ∷ on P (0x5F ∷ []) (refusal 7 (0 ∷ []))
+    ∷ []
+
+-- of lines
+unfoldable pub lineCases : List Case
+lineCases =
+    on K (0x61 ∷ 0x0D ∷ 0x0A ∷ 0x62 ∷ []) (words (1 ∷ 0 ∷ 1 ∷ 1 ∷ 3 ∷ 1 ∷ 3 ∷ 1 ∷ 1 ∷ 3 ∷ 4 ∷ 2 ∷ []))
+    ∷ on K (0x0D ∷ 0x0D ∷ 0x0A ∷ 0x61 ∷ []) (words (3 ∷ 0 ∷ 3 ∷ 1 ∷ 1 ∷ 3 ∷ 4 ∷ 3 ∷ []))
+    ∷ on K (0x0A ∷ 0x0D ∷ 0x61 ∷ []) (words (3 ∷ 0 ∷ 2 ∷ 1 ∷ 1 ∷ 2 ∷ 3 ∷ 3 ∷ []))
+    ∷ on K (0x0B ∷ 0x61 ∷ 0x0C ∷ 0x62 ∷ 0x0D ∷ []) (words (3 ∷ 0 ∷ 1 ∷ 1 ∷ 1 ∷ 1 ∷ 2 ∷ 2 ∷ 3 ∷ 2 ∷ 3 ∷ 2 ∷ 1 ∷ 3 ∷ 4 ∷ 3 ∷ 3 ∷ 4 ∷ 5 ∷ 3 ∷ []))
+    ∷ on K1 (0x0D ∷ 0x0A ∷ 0x62 ∷ 0x20 ∷ []) (words (3 ∷ 0 ∷ 1 ∷ 1 ∷ 1 ∷ 1 ∷ 3 ∷ 1 ∷ 3 ∷ 3 ∷ 4 ∷ 2 ∷ []))
+    ∷ on K1 (0x61 ∷ 0x0A ∷ 0x62 ∷ 0x20 ∷ []) (words (1 ∷ 0 ∷ 3 ∷ 1 ∷ 3 ∷ 3 ∷ 4 ∷ 2 ∷ []))
+    ∷ on K2 (0xE2 ∷ 0x80 ∷ 0xA8 ∷ 0x61 ∷ []) (words (2 ∷ 0 ∷ 3 ∷ 1 ∷ 1 ∷ 3 ∷ 4 ∷ 2 ∷ []))
+    ∷ on K2 (0xC2 ∷ 0x85 ∷ 0x61 ∷ 0xE2 ∷ 0x80 ∷ 0xA9 ∷ 0x62 ∷ []) (words (2 ∷ 0 ∷ 2 ∷ 1 ∷ 1 ∷ 2 ∷ 3 ∷ 2 ∷ 2 ∷ 3 ∷ 6 ∷ 2 ∷ 1 ∷ 6 ∷ 7 ∷ 3 ∷ []))
     ∷ []
 
 -- of hashtags
@@ -104,14 +138,16 @@ hashtagCases =
     on P [] (words [])
     ∷ on P (0x23 ∷ []) (words [])
     ∷ on P (0x61 ∷ 0x23 ∷ 0x62 ∷ []) (words [])
-    ∷ on P (0x23 ∷ 0x23 ∷ 0x61 ∷ []) (words (6 ∷ 1 ∷ 3 ∷ []))
-    ∷ on P (0x23 ∷ 0x31 ∷ 0x2E ∷ 0x78 ∷ []) (words (6 ∷ 0 ∷ 2 ∷ []))
-    ∷ on P (0x23 ∷ 0x5F ∷ 0x20 ∷ 0x5F ∷ 0x23 ∷ 0x61 ∷ []) (words (6 ∷ 0 ∷ 2 ∷ []))
-    ∷ on P (0x23 ∷ 0x61 ∷ 0x23 ∷ 0x62 ∷ []) (words (6 ∷ 0 ∷ 2 ∷ []))
-    ∷ on P (0x61 ∷ 0x2E ∷ 0x23 ∷ 0x62 ∷ 0x20 ∷ 0x23 ∷ []) (words (6 ∷ 2 ∷ 4 ∷ []))
-    ∷ on P (0x25 ∷ 0x23 ∷ 0x61 ∷ 0x25 ∷ []) (words (6 ∷ 1 ∷ 3 ∷ []))
-    ∷ on P (0xEF ∷ 0xBC ∷ 0x83 ∷ 0x61 ∷ 0x20 ∷ 0xEF ∷ 0xB9 ∷ 0x9F ∷ 0x31 ∷ []) (words (6 ∷ 0 ∷ 4 ∷ 6 ∷ 5 ∷ 9 ∷ []))
-    ∷ on N (0x23 ∷ 0x23 ∷ 0x61 ∷ []) (words (6 ∷ 1 ∷ 3 ∷ []))
+    ∷ on P (0x23 ∷ 0x23 ∷ 0x61 ∷ []) (words (6 ∷ 1 ∷ 3 ∷ 1 ∷ []))
+    ∷ on P (0x23 ∷ 0x31 ∷ 0x2E ∷ 0x78 ∷ []) (words (6 ∷ 0 ∷ 2 ∷ 1 ∷ []))
+    ∷ on P (0x23 ∷ 0x5F ∷ 0x20 ∷ 0x5F ∷ 0x23 ∷ 0x61 ∷ []) (words (6 ∷ 0 ∷ 2 ∷ 1 ∷ []))
+    ∷ on P (0x23 ∷ 0x61 ∷ 0x23 ∷ 0x62 ∷ []) (words (6 ∷ 0 ∷ 2 ∷ 1 ∷ []))
+    ∷ on P (0x61 ∷ 0x2E ∷ 0x23 ∷ 0x62 ∷ 0x20 ∷ 0x23 ∷ []) (words (6 ∷ 2 ∷ 4 ∷ 1 ∷ []))
+    ∷ on P (0x25 ∷ 0x23 ∷ 0x61 ∷ 0x25 ∷ []) (words (6 ∷ 1 ∷ 3 ∷ 1 ∷ []))
+    ∷ on P (0xEF ∷ 0xBC ∷ 0x83 ∷ 0x61 ∷ 0x20 ∷ 0xEF ∷ 0xB9 ∷ 0x9F ∷ 0x31 ∷ []) (words (6 ∷ 0 ∷ 4 ∷ 1 ∷ 6 ∷ 5 ∷ 9 ∷ 1 ∷ []))
+    ∷ on N (0x23 ∷ 0x23 ∷ 0x61 ∷ []) (words (6 ∷ 1 ∷ 3 ∷ 1 ∷ []))
+    ∷ on P (0x0D ∷ 0x0A ∷ 0x23 ∷ 0x61 ∷ 0x0D ∷ 0x23 ∷ 0x62 ∷ []) (words (6 ∷ 2 ∷ 4 ∷ 2 ∷ 6 ∷ 5 ∷ 7 ∷ 3 ∷ []))
+    ∷ on (withEntries (0x0A ∷ 5 ∷ [])) (0x23 ∷ 0x61 ∷ 0x0A ∷ 0x62 ∷ 0x20 ∷ 0x23 ∷ 0x63 ∷ []) (words (6 ∷ 0 ∷ 4 ∷ 1 ∷ 6 ∷ 5 ∷ 7 ∷ 2 ∷ []))
     ∷ on P (0x23 ∷ 0x61 ∷ 0xE2 ∷ 0x82 ∷ []) (refusal 6 (2 ∷ 2 ∷ []))
-    ∷ on (withEntries 0x2E 3 0x5F 6) (0x23 ∷ 0x61 ∷ []) (refusal 4 (1 ∷ []))
+    ∷ on (withEntries (0x2E ∷ 3 ∷ 0x5F ∷ 6 ∷ [])) (0x23 ∷ 0x61 ∷ []) (refusal 4 (1 ∷ []))
     ∷ []

@@ -16,7 +16,7 @@ use Rattle.utf8.specs.Text.{charactersAt, textOf}
 use Rattle.utf8.proofs.TextLaws.{first-byte}
 use Rattle.line.specs.Line.{endsLine, one, LineAt}
 use Rattle.line.specs.Ends.{endAt}
-use Rattle.line.proofs.LineLaws.{ends-small, told-none, end-at, line-few, line-step, line-passes}
+use Rattle.line.proofs.LineLaws.{told-none, end-at, line-counted, counted-few, line-passes}
 use Rattle.hashtag.specs.Sign.{isSign}
 use Rattle.hashtag.specs.Seek.{continuesFirst, freeAt, Skipped, Backed, Sought}
 use Rattle.hashtag.specs.declared.Sign.{Sign}
@@ -155,11 +155,11 @@ module _ (s text : List ℕ) where
       told : k ≡ one (endsLine (h .code) (charactersAt text (at + n)))
       told = e ∙ end-at text at (h .code) n (h .step)
 
-      pub line-fits : line + k ≤ length text + 2
-      line-fits = omega (arith, told, ends-small (h .code) (charactersAt text (at + n)), line-few (i .lined))
+      pub line-fits : line + k ≤ 2 + length text
+      line-fits = counted-few (i .lined) (h .code) n (h .step) k told
 
       line-past : LineAt text (at + n) (line + k)
-      line-past = rw told (line-step (i .lined) (h .code) n (h .step))
+      line-past = line-counted (i .lined) (h .code) n (h .step) k told
 
     module _ {n r : ℕ} (h : Stands s text at n) (b : Backed text from at r) where
       free-same : freeAt s text r at ≡ freeAt s text (i .before) at
