@@ -66,7 +66,7 @@ fn look(text: &[u8], code: u32, next: usize) -> u32
         return 1;
     }
     if feeds_at(text, next) {
-        return 0;
+        return 0; // the line ends with the LINE FEED
     }
     1
 }
