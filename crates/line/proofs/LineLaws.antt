@@ -15,9 +15,10 @@ use Rattle.utf8.specs.declared.Step.{Step}
 use Rattle.utf8.specs.declared.Step.the-variants.{Scalar, IllFormed, End}
 use Rattle.utf8.specs.Head.{stepOf, IllHead}
 use Rattle.utf8.specs.Text.{Character, decode, charactersAt, widthOf}
-use Rattle.utf8.proofs.SequenceLaws.{ill-at, end-empty}
-use Rattle.utf8.proofs.TextLaws.{step-bounds, first-byte, decode-scalar, decode-ill, decode-end, characters-few, ascii-at, characters-step, characters-end, width-append}
-use Rattle.line.specs.Line.{isLineEnd, feeds, endsLine, one, lineEnds, lineOf, LineAt}
+use Rattle.utf8.proofs.SequenceLaws.{ill-at}
+use Rattle.utf8.proofs.EncodedLaws.{AllWide}
+use Rattle.utf8.proofs.TextLaws.{first-byte, decode-ill, decode-end, characters-few, characters-wide, ascii-at, characters-step, characters-end, width-append}
+use Rattle.line.specs.Line.{isLineEnd, feeds, endsLine, one, lineEnds, before, lineOf, LineAt}
 use Rattle.line.specs.Ends.{endOf, endAt}
 
 -- the code points that end a line, by ranges
@@ -55,6 +56,10 @@ is-line-end x (separator h l) = go (decLt x 0x2029)
     go (yes a) = let q : x ≡ 0x2028 = omega arith in rw q
     go (no a) = let q : x ≡ 0x2029 = omega arith in rw q
 
+small : (b : Bool) → one b ≤ 1
+small true = omega arith
+small false = omega arith
+
 -- whether a line ends with a code point
 module _ (x : ℕ) (r : List Character) where
   pub ends-not : isLineEnd x ≡ false → one (endsLine x r) ≡ 0
@@ -72,13 +77,6 @@ module _ (x : ℕ) (r : List Character) where
   pub return-alone : x ≡ 0x0D → feeds r ≡ false → one (endsLine x r) ≡ 1
   unfolding endsLine
   return-alone e f = rw (is-line-end x (low (omega arith) (omega arith)), eq-eqb x 0x0D e, f)
-
-  ends-small : one (endsLine x r) ≤ 1
-  ends-small = go (endsLine x r)
-    where
-      go : (b : Bool) → one b ≤ 1
-      go true = omega arith
-      go false = omega arith
 
 module _ (text : List ℕ) where
   first-at : (at : ℕ) → getD (drop at text) 0 0 ≡ getD text at 0
@@ -163,85 +161,105 @@ module _ (text : List ℕ) where
   unfolding endAt
   end-none at e = rw e
 
--- line ends among the first bytes of characters
-ends-none : (text : List ℕ) (at : ℕ) → lineEnds 0 (charactersAt text at) ≡ 0
+-- of characters that begin at byte p or after a place, no line end has its last byte before that place
+ends-later : (p q : ℕ) (cs : List Character) → AllWide cs → q ≤ p → before q (lineEnds p cs) ≡ 0
 unfolding lineEnds
-ends-none text at = go (stepOf (drop at text)) refl
+ends-later p q [] a h = refl
+ends-later p q (c ∷ r) a h = go (endsLine (c .code) r) (ends-later (p + c .width) q r (a .1) (omega arith))
   where
-    go : (t : Step) → stepOf (drop at text) ≡ t → lineEnds 0 (charactersAt text at) ≡ 0
-    go (Scalar x n) e = ap (lineEnds 0) (characters-step text at x n e) ∙ rw (lt-leb n 0 (step-bounds (drop at text) x n e .some-bytes))
-    go (IllFormed n) e = ap (λ d. lineEnds 0 (d .characters)) (decode-ill (drop at text) (ill-at (drop at text) n e))
-    go End e = ap (λ d. lineEnds 0 (d .characters)) (decode-end (drop at text) e)
+    go : (b : Bool) → before q (lineEnds (p + c .width) r) ≡ 0 → before q (cond b ((p + c .width) ∷ lineEnds (p + c .width) r) (lineEnds (p + c .width) r)) ≡ 0
+    go true e = rw (lt-leb (p + c .width) q (let w = a .0 in omega arith), e)
+    go false e = e
 
-ends-after : (u cs : List Character) (n : ℕ) → lineEnds 0 cs ≡ 0 → lineEnds (widthOf u + n) (u ++ cs) ≡ lineEnds (widthOf u) (u ++ cs) + lineEnds n cs
+-- past the character after the characters u there is one line end more, if a line ends with it
+ends-past : (p : ℕ) (u : List Character) (c : Character) (r : List Character) → AllWide (u ++ c ∷ r) →
+    before (p + widthOf u + c .width) (lineEnds p (u ++ c ∷ r)) ≡ before (p + widthOf u) (lineEnds p (u ++ c ∷ r)) + one (endsLine (c .code) r)
 unfolding lineEnds
-ends-after [] cs n z = let q : 0 + n ≡ n = omega arith in ap (λ (k : ℕ). lineEnds k cs) q ∙ omega arith
-ends-after (c ∷ u) cs n z =
-    let i = ends-after u cs n z in
-    let q : c .width + widthOf u + n - c .width ≡ widthOf u + n = omega arith in
-    let p : c .width + widthOf u - c .width ≡ widthOf u = omega arith in
-    rw (le-leb (c .width) (c .width + widthOf u + n) (omega arith), le-leb (c .width) (c .width + widthOf u) (omega arith), q, p, i)
-    (omega arith)
-
-ends-few : (n : ℕ) (cs : List Character) → lineEnds n cs ≤ length cs
-unfolding lineEnds
-ends-few n [] = omega arith
-ends-few n (c ∷ r) = go (leb (c .width) n) (ends-few (n - c .width) r)
+ends-past p [] c r a =
+    go (endsLine (c .code) r) (ends-later q (p + 0 + c .width) r (a .1) (omega arith)) (ends-later q (p + 0) r (a .1) (omega arith))
   where
-    go : (b : Bool) → lineEnds (n - c .width) r ≤ length r → cond b (one (endsLine (c .code) r) + lineEnds (n - c .width) r) 0 ≤ length (c ∷ r)
-    go true h = let o = ends-small (c .code) r in omega arith
+    q : ℕ
+    q = p + c .width
+
+    go : (b : Bool) → before (p + 0 + c .width) (lineEnds q r) ≡ 0 → before (p + 0) (lineEnds q r) ≡ 0 →
+        before (p + 0 + c .width) (cond b (q ∷ lineEnds q r) (lineEnds q r)) ≡ before (p + 0) (cond b (q ∷ lineEnds q r) (lineEnds q r)) + one b
+    go true e f = rw (le-leb q (p + 0 + c .width) (omega arith), lt-leb q (p + 0) (let w = a .0 in omega arith), e, f)
+    go false e f = rw (e, f)
+ends-past p (d ∷ u) c r a =
+    let k : p + (d .width + widthOf u) + c .width ≡ p + d .width + widthOf u + c .width = omega arith in
+    let l : p + (d .width + widthOf u) ≡ p + d .width + widthOf u = omega arith in
+    rw (k, l) (go (p + d .width) (lineEnds (p + d .width) (u ++ c ∷ r)) (endsLine (d .code) (u ++ c ∷ r)) (ends-past (p + d .width) u c r (a .1)))
+  where
+    go : (q : ℕ) (es : List ℕ) (b : Bool) → before (q + widthOf u + c .width) es ≡ before (q + widthOf u) es + one (endsLine (c .code) r) →
+        before (q + widthOf u + c .width) (cond b (q ∷ es) es) ≡ before (q + widthOf u) (cond b (q ∷ es) es) + one (endsLine (c .code) r)
+    go q es true e = rw (le-leb q (q + widthOf u + c .width) (omega arith), le-leb q (q + widthOf u) (omega arith)) (omega arith)
+    go q es false e = e
+
+-- no more than characters
+ends-few : (p q : ℕ) (cs : List Character) → before q (lineEnds p cs) ≤ length cs
+unfolding lineEnds
+ends-few p q [] = omega arith
+ends-few p q (c ∷ r) = go (endsLine (c .code) r) (ends-few (p + c .width) q r)
+  where
+    go : (b : Bool) → before q (lineEnds (p + c .width) r) ≤ length r →
+        before q (cond b ((p + c .width) ∷ lineEnds (p + c .width) r) (lineEnds (p + c .width) r)) ≤ length (c ∷ r)
+    go true h = let o = small (leb (p + c .width) q) in omega arith
     go false h = omega arith
 
-pub line-begins : (text : List ℕ) → LineAt text 0 1
+-- lines rise from 1
+before-rises : (p q : ℕ) (es : List ℕ) → p ≤ q → before p es ≤ before q es
+before-rises p q [] h = omega arith
+before-rises p q (e ∷ es) h = let i = before-rises p q es h in let j = go (decLt q e) in omega arith
+  where
+    go : Dec (q < e) → one (leb e p) ≤ one (leb e q)
+    go (yes l) = rw (lt-leb e p (omega arith), lt-leb e q l) (omega arith)
+    go (no l) = rw (le-leb e q (omega arith)) (small (leb e p))
+
+pub lines-rise : (text : List ℕ) (p q : ℕ) → p ≤ q → lineOf text p ≤ lineOf text q
 unfolding lineOf
-line-begins text = record { before = []; parted = refl; wide = refl; same = ap (λ (n : ℕ). 1 + n) (sym (ends-none text 0)) }
+lines-rise text p q h = let i = before-rises p q (lineEnds 0 (decode text .characters)) h in omega arith
+
+pub line-first : (text : List ℕ) → lineOf text 0 ≡ 1
+unfolding lineOf
+line-first text = ap (λ (n : ℕ). 1 + n) (ends-later 0 0 (decode text .characters) (characters-wide text) (omega arith))
+
+pub line-begins : (text : List ℕ) → LineAt text 0 1
+line-begins text = record { front = []; parted = refl; wide = refl; same = sym (line-first text) }
 
 module _ {text : List ℕ} {at line : ℕ} (i : LineAt text at line) where
   pub line-few : line ≤ 1 + length text
   unfolding lineOf
-  line-few = omega (arith, i .same, ends-few at (decode text .characters), characters-few text)
+  line-few = omega (arith, i .same, ends-few 0 at (decode text .characters), characters-few text)
 
   -- past the character at the place
   module _ (x n : ℕ) (e : stepOf (drop at text) ≡ Scalar x n) where
     abbrev rest : List Character
     rest = charactersAt text (at + n)
 
-    past : lineEnds n (charactersAt text at) ≡ one (endsLine x rest)
-    unfolding lineEnds
-    past =
-        let z : n - n ≡ 0 = omega arith in
-        ap (lineEnds n) (characters-step text at x n e)
-        ∙ rw (le-leb n n (omega arith), z, ends-none text (at + n)) (omega arith)
-
     pub line-step : LineAt text (at + n) (line + one (endsLine x rest))
     unfolding lineOf
     line-step =
         let c : Character = record { code = x; width = n } in
-        let u = i .before in
-        let p : decode text .characters ≡ u ++ charactersAt text at = i .parted in
-        let q : at + n ≡ widthOf u + n = ap (λ (k : ℕ). k + n) (sym (i .wide)) in
+        let u = i .front in
+        let p : decode text .characters ≡ u ++ c ∷ rest = i .parted ∙ ap (λ (cs : List Character). u ++ cs) (characters-step text at x n e) in
+        let f : List Character → ℕ → ℕ = λ (cs : List Character) (q : ℕ). before q (lineEnds 0 cs) in
+        let a : 0 + widthOf u ≡ at = omega (arith, i .wide) in
+        let s : f (u ++ c ∷ rest) (0 + widthOf u + n) ≡ f (u ++ c ∷ rest) (0 + widthOf u) + one (endsLine x rest) =
+        ends-past 0 u c rest (subst AllWide p (characters-wide text)) in
+        let g : f (decode text .characters) at ≡ f (u ++ c ∷ rest) (0 + widthOf u) = (λ j. f (p j) (sym a j)) in
+        let h : f (decode text .characters) (at + n) ≡ f (u ++ c ∷ rest) (0 + widthOf u + n) = (λ j. f (p j) (sym a j + n)) in
         record {
-          before = u ++ (c ∷ []);
-          parted = p ∙ ap (λ (cs : List Character). u ++ cs) (characters-step text at x n e) ∙ sym (append-assoc u (c ∷ []) rest);
+          front = u ++ (c ∷ []);
+          parted = p ∙ sym (append-assoc u (c ∷ []) rest);
           wide = width-append u (c ∷ []) ∙ omega (arith, i .wide);
-          same =
-              omega (
-                arith,
-                i .same,
-                past,
-                ap (λ (k : ℕ). lineEnds k (decode text .characters)) q,
-                ap (lineEnds (widthOf u + n)) p,
-                ends-after u (charactersAt text at) n (ends-none text at),
-                ap (lineEnds (widthOf u)) p,
-                ap (λ (k : ℕ). lineEnds k (decode text .characters)) (i .wide),
-              );
+          same = omega (arith, i .same, s, g, h);
         }
 
     pub line-counted : (k : ℕ) → k ≡ one (endsLine x rest) → LineAt text (at + n) (line + k)
     line-counted k h = subst (λ (j : ℕ). LineAt text (at + n) (line + j)) (sym h) line-step
 
     pub counted-few : (k : ℕ) → k ≡ one (endsLine x rest) → line + k ≤ 2 + length text
-    counted-few k h = omega (arith, line-few, ends-small x rest)
+    counted-few k h = omega (arith, line-few, small (endsLine x rest))
 
     pub line-passes : isLineEnd x ≡ false → LineAt text (at + n) line
     line-passes f = let z : line + one (endsLine x rest) ≡ line = omega (arith, ends-not x rest f) in subst (LineAt text (at + n)) z line-step

@@ -1,5 +1,5 @@
 -- The lines of a text (docs/RULES.md, "Lines"). They are a matter of its code points alone, whatever class or role these have.
-use Prim.Native.Nat.{ℕ, _+_, _-_}
+use Prim.Native.Nat.{ℕ, _+_}
 use mathlib.Core.Path.{_≡_}
 use mathlib.Core.Bool.{Bool, true, false, not, _&&_, _||_, cond}
 use mathlib.Core.List.{List, [], _∷_, _++_}
@@ -24,19 +24,26 @@ abbrev pub one : Bool → ℕ
 one true = 1
 one false = 0
 
--- how many line ends of the characters have their last byte among the first n bytes
-unfoldable pub lineEnds : ℕ → List Character → ℕ
-lineEnds n [] = 0
-lineEnds n (c ∷ r) = cond (leb (c .width) n) (one (endsLine (c .code) r) + lineEnds (n - c .width) r) 0
+-- the line ends of characters that begin at byte p: for each, one past its last byte
+unfoldable pub lineEnds : ℕ → List Character → List ℕ
+lineEnds p [] = []
+lineEnds p (c ∷ r) =
+    let q = p + c .width in
+    cond (endsLine (c .code) r) (q ∷ lineEnds q r) (lineEnds q r)
+
+-- how many of them have their last byte before the byte p
+abbrev pub before : ℕ → List ℕ → ℕ
+before p [] = 0
+before p (e ∷ es) = one (leb e p) + before p es
 
 -- the line of byte p of a text: one more than the number of line ends whose last byte stands before it. Where the text is ill-formed,
 -- the characters up to the first such place count
 unfoldable pub lineOf : List ℕ → ℕ → ℕ
-lineOf text p = 1 + lineEnds p (decode text .characters)
+lineOf text p = 1 + before p (lineEnds 0 (decode text .characters))
 
 -- a place between the characters of a text, and its line
 pub record LineAt (text : List ℕ) (at line : ℕ) : Type 0 where
-  pub before : List Character
-  pub parted : decode text .characters ≡ before ++ charactersAt text at
-  pub wide : widthOf before ≡ at
+  pub front : List Character
+  pub parted : decode text .characters ≡ front ++ charactersAt text at
+  pub wide : widthOf front ≡ at
   pub same : line ≡ lineOf text at

@@ -1,6 +1,6 @@
 -- Texts as sequences one after the other: each a scalar value, together the text, and the same from and up to a boundary.
 -- Assumes nothing.
-use Prim.Native.Nat.{ℕ, _+_, _≤_}
+use Prim.Native.Nat.{ℕ, _+_, _≤_, _<_}
 use mathlib.Core.Path.{_≡_, refl, sym, ap, _∙_}
 use mathlib.Core.Bool.{true}
 use mathlib.Core.List.{List, [], _∷_, _++_}
@@ -20,6 +20,15 @@ AllScalar (c ∷ cs) = (isScalar (c .code) ≡ true) × AllScalar cs
 pub encoded-scalar : {s r : List ℕ} {cs : List Character} → Encoded s cs r → AllScalar cs
 encoded-scalar (ends n) = tt
 encoded-scalar (takes q r e f d) = (sequence-scalar q f, encoded-scalar d)
+
+-- every character has bytes
+abbrev pub AllWide : List Character → Type 0
+AllWide [] = Unit {0}
+AllWide (c ∷ cs) = (0 < c .width) × AllWide cs
+
+pub encoded-wide : {s r : List ℕ} {cs : List Character} → Encoded s cs r → AllWide cs
+encoded-wide (ends n) = tt
+encoded-wide (takes q r e f d) = (sequence-length q f .0, encoded-wide d)
 
 -- no more characters than bytes
 pub encoded-few : {s r : List ℕ} {cs : List Character} → Encoded s cs r → length cs ≤ length s

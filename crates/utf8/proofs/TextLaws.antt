@@ -42,7 +42,7 @@ use Rattle.utf8.specs.Text.{
 use Rattle.utf8.proofs.ScalarLaws.{scalar-le}
 use Rattle.utf8.proofs.LeadLaws.{ascii}
 use Rattle.utf8.proofs.SubpartLaws.{subpart-means, means-subpart}
-use Rattle.utf8.proofs.EncodedLaws.{Covers, AllScalar, encoded-scalar, encoded-few, encoded-covers, encoded-before, encoded-stops}
+use Rattle.utf8.proofs.EncodedLaws.{Covers, AllScalar, encoded-scalar, AllWide, encoded-wide, encoded-few, encoded-covers, encoded-before, encoded-stops}
 use Rattle.utf8.proofs.SequenceLaws.{
   sequence-of-step,
   step-of-sequence,
@@ -198,9 +198,12 @@ decode-end s e = means-decode (ends (none-end s e))
 pub decode-empty : decode [] ≡ ended []
 decode-empty = means-decode (ends (none-empty [] refl))
 
--- so of the characters of a text: they are scalar values, no more than bytes, and cover it up to the rest
+-- so of the characters of a text: they are scalar values, have bytes, are no more than bytes, and cover it up to the rest
 pub characters-scalar : (s : List ℕ) → AllScalar (decode s .characters)
 characters-scalar s = encoded-scalar (decode-means s)
+
+pub characters-wide : (s : List ℕ) → AllWide (decode s .characters)
+characters-wide s = encoded-wide (decode-means s)
 
 pub characters-few : (s : List ℕ) → length (decode s .characters) ≤ length s
 characters-few s = encoded-few (decode-means s)
