@@ -18,6 +18,7 @@ use Rattle.utf8.specs.Head.{stepOf}
 use Rattle.utf8.specs.Lead.{packed}
 use Rattle.utf8.proofs.TextLaws.{step-bounds, first-byte, ascii-at}
 use Rattle.line.specs.Line.{isLineEnd}
+use Rattle.line.proofs.LineLaws.{LineEnd, low, next, separator, no-line-end}
 use Rattle.image.specs.Class.{classNamed}
 use Rattle.image.specs.Check.{refusalOf, classOf, hashtagOf}
 use Rattle.character.specs.Traits.{traitsOf}
@@ -71,13 +72,18 @@ one-of x e = first (or-cases (eqb x 0x23) (eqb x 0xFE5F || eqb x 0xFF03) e)
 
 -- a sign ends no line
 pub sign-ends-none : (x : ℕ) → isSign x ≡ true → isLineEnd x ≡ false
-unfolding isLineEnd
-sign-ends-none x e = go (one-of x e)
+sign-ends-none x e = no-line-end x (λ l. none l (one-of x e))
   where
-    go : (x ≡ 0x23) ⊎ ((x ≡ 0xFE5F) ⊎ (x ≡ 0xFF03)) → isLineEnd x ≡ false
-    go (inl f) = rw f
-    go (inr (inl f)) = rw f
-    go (inr (inr f)) = rw f
+    none : LineEnd x → (x ≡ 0x23) ⊎ ((x ≡ 0xFE5F) ⊎ (x ≡ 0xFF03)) → ⊥
+    none (low h l) (inl f) = omega arith
+    none (low h l) (inr (inl f)) = omega arith
+    none (low h l) (inr (inr f)) = omega arith
+    none (next h) (inl f) = omega arith
+    none (next h) (inr (inl f)) = omega arith
+    none (next h) (inr (inr f)) = omega arith
+    none (separator h l) (inl f) = omega arith
+    none (separator h l) (inr (inl f)) = omega arith
+    none (separator h l) (inr (inr f)) = omega arith
 
 pub no-sign-here : (text : List ℕ) (at : ℕ) → (getD text at 0 ≡ 0x23 → ⊥) → (getD text at 0 ≡ 0xEF → ⊥) → false ≡ signOf (stepOf (drop at text))
 no-sign-here text at h k = sym (go (stepOf (drop at text)) refl)
