@@ -6,9 +6,8 @@ use mathlib.Core.Bool.{Bool, true, false}
 use mathlib.Core.List.{List}
 use mathlib.Core.Option.{none}
 use native.Mathlib.Omega.{arith}
-use native.Mathlib.Decide.{decLt}
-use lib.ListN.{length, getD, set, drop, length-set, length-drop}
-use lib.Seq.{getD-set-same, getD-set-other, getD-drop}
+use lib.ListN.{length, getD, set, drop}
+use lib.Seq.{getD-set-other}
 use Rattle.lists.specs.Filled.{Filled}
 use Rattle.lists.proofs.FilledLaws.{filled-more}
 use Rattle.image.specs.Profile.{afterRole, isMedial, isHashtag}
@@ -20,8 +19,6 @@ use Rattle.lookup.specs.Records.{recordAt, recordCount, sectionClass}
 use Rattle.lookup.proofs.RisingLaws.{class-held, class-gap}
 use Rattle.lookup.proofs.RecordLaws.{records-rise, class-by-sections, medial-by-sections, hashtag-by-sections}
 use Rattle.utf8.specs.declared.Step.the-variants.{Scalar}
-use Rattle.utf8.specs.Head.{stepOf}
-use Rattle.utf8.proofs.LeadLaws.{ascii}
 use Rattle.character.specs.Traits.{medialPart, hashtagPart, tokenTraits, traitsOf}
 use Rattle.utf8.proofs.TextLaws.{Unpacked, ascii-at}
 use Rattle.character.specs.Stretch.{StretchOf}

@@ -2,7 +2,7 @@
 use Prim.Native.Nat.{ℕ, _/_, _%_, _≤_, _<_}
 use mathlib.Core.Path.{_≡_}
 use mathlib.Core.List.{List}
-use lib.ListN.{length, drop}
+use lib.ListN.{drop}
 use Rattle.lists.specs.Filled.{Filled}
 use Rattle.utf8.specs.declared.Step.the-variants.{Scalar}
 use Rattle.utf8.specs.Head.{stepOf, IllHead}

@@ -1,16 +1,15 @@
 -- Lines from character to character, and what the first byte of a character tells of its line end. Assumes nothing.
-use Prim.Native.Nat.{ℕ, zero, suc, _+_, _-_, _/_, _≤_, _<_}
+use Prim.Native.Nat.{ℕ, zero, suc, _+_, _-_, _≤_, _<_}
 use mathlib.Core.Path.{_≡_, refl, sym, ap, subst, _∙_}
-use mathlib.Core.Bool.{Bool, true, false, _&&_, _||_, cond}
+use mathlib.Core.Bool.{Bool, true, false, cond}
 use mathlib.Core.List.{List, [], _∷_, _++_, append-assoc}
-use mathlib.Core.Logic.{_⊎_, inl, inr}
 use native.Mathlib.Omega.{arith}
 use native.Mathlib.Decide.{decLt}
-use lib.ListN.{length, getD, drop, length-append}
+use lib.ListN.{length, getD, drop}
 use lib.Seq.{getD-drop}
-use lib.Dec.{leb, ltb, eqb}
+use lib.Dec.{leb, eqb}
 use borrow.Author.Tests.{eq-eqb, ne-eqb, eqb-true, lt-ltb, le-ltb, le-leb, lt-leb}
-use Rattle.lists.proofs.BoolLaws.{impossible, or-cases}
+use Rattle.lists.proofs.BoolLaws.{impossible}
 use Rattle.utf8.specs.declared.Step.{Step}
 use Rattle.utf8.specs.declared.Step.the-variants.{Scalar, IllFormed, End}
 use Rattle.utf8.specs.Head.{stepOf, IllHead}
@@ -195,6 +194,25 @@ ends-past p (d ∷ u) c r a =
     go q es true e = rw (le-leb q (q + widthOf u + c .width) (omega arith), le-leb q (q + widthOf u) (omega arith)) (omega arith)
     go q es false e = e
 
+-- the line ends before a character depend on those before it and on itself, not on what follows
+next-same : (x : ℕ) (u : List Character) (c : Character) (r t : List Character) → endsLine x (u ++ c ∷ r) ≡ endsLine x (u ++ c ∷ t)
+unfolding endsLine
+next-same x [] c r t = refl
+next-same x (d ∷ u) c r t = refl
+
+ends-front : (p : ℕ) (u : List Character) (c : Character) (r t : List Character) → AllWide (u ++ c ∷ r) → AllWide (u ++ c ∷ t) →
+    before (p + widthOf u) (lineEnds p (u ++ c ∷ r)) ≡ before (p + widthOf u) (lineEnds p (u ++ c ∷ t))
+unfolding lineEnds
+ends-front p [] c r t a b = ends-later p (p + 0) (c ∷ r) a (omega arith) ∙ sym (ends-later p (p + 0) (c ∷ t) b (omega arith))
+ends-front p (d ∷ u) c r t a b =
+    let l : p + (d .width + widthOf u) ≡ p + d .width + widthOf u = omega arith in
+    rw (l, next-same (d .code) u c r t) (go (p + d .width) (endsLine (d .code) (u ++ c ∷ t)) (ends-front (p + d .width) u c r t (a .1) (b .1)))
+  where
+    go : (q : ℕ) (e : Bool) → before (q + widthOf u) (lineEnds q (u ++ c ∷ r)) ≡ before (q + widthOf u) (lineEnds q (u ++ c ∷ t)) →
+        before (q + widthOf u) (cond e (q ∷ lineEnds q (u ++ c ∷ r)) (lineEnds q (u ++ c ∷ r))) ≡ before (q + widthOf u) (cond e (q ∷ lineEnds q (u ++ c ∷ t)) (lineEnds q (u ++ c ∷ t)))
+    go q true h = ap (λ (n : ℕ). one (leb q (q + widthOf u)) + n) h
+    go q false h = h
+
 -- no more than characters
 ends-few : (p q : ℕ) (cs : List Character) → before q (lineEnds p cs) ≤ length cs
 unfolding lineEnds
@@ -222,6 +240,15 @@ lines-rise text p q h = let i = before-rises p q (lineEnds 0 (decode text .chara
 pub line-first : (text : List ℕ) → lineOf text 0 ≡ 1
 unfolding lineOf
 line-first text = ap (λ (n : ℕ). 1 + n) (ends-later 0 0 (decode text .characters) (characters-wide text) (omega arith))
+
+-- two texts that begin with the same characters, up to and with one, have its first byte on the same line
+pub line-front : (text other : List ℕ) (u : List Character) (c : Character) (r t : List Character) →
+    decode text .characters ≡ u ++ c ∷ r → decode other .characters ≡ u ++ c ∷ t → lineOf text (widthOf u) ≡ lineOf other (widthOf u)
+unfolding lineOf
+line-front text other u c r t e f =
+    let z : 0 + widthOf u ≡ widthOf u = omega arith in
+    let h = ends-front 0 u c r t (subst AllWide e (characters-wide text)) (subst AllWide f (characters-wide other)) in
+    rw (e, f) (ap (λ (n : ℕ). 1 + n) (rw z at h))
 
 pub line-begins : (text : List ℕ) → LineAt text 0 1
 line-begins text = record { front = []; parted = refl; wide = refl; same = sym (line-first text) }

@@ -14,7 +14,6 @@ use Rattle.utf8.specs.declared.Step.the-variants.{Scalar, IllFormed, End
 use Rattle.utf8.specs.declared.Text.{Text}
 use Rattle.utf8.specs.declared.Text.the-variants as text
 use Rattle.utf8.specs.Scalar.{isScalar}
-use Rattle.utf8.specs.Table.{codePoint}
 use Rattle.utf8.specs.Subpart.{subpartOf, MaximalSubpart}
 use Rattle.utf8.specs.Head.{stepOf, IllHead, NoSequence, StepMeans, sequence, no-sequence, empty}
 use Rattle.utf8.specs.Lead.{packed, lengthOf, knownLength, isTrail}

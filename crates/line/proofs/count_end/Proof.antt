@@ -1,7 +1,7 @@
 -- `line::count_end` meets its contract. Assumes nothing.
 use native.Mathlib.Omega.{arith}
 use borrow.Author.Needs.{needs}
-use lib.ListN.{drop, length-drop}
+use lib.ListN.{length-drop}
 use Rattle.utf8.proofs.TextLaws.{step-bounds}
 use Rattle.line.proofs.LineLaws.{told}
 use Rattle.line.proofs.count_end.Statement.{statement}
