@@ -1,4 +1,5 @@
 -- The lines of a text (docs/RULES.md, "Lines"). They are a matter of its code points alone, whatever class or role these have.
+-- The line ends are those of UAX #31 of Unicode 16.0, UAX31-R3a-1, item 1.
 use Prim.Native.Nat.{ℕ, _+_}
 use mathlib.Core.Path.{_≡_}
 use mathlib.Core.Bool.{Bool, true, false, not, _&&_, _||_, cond}
