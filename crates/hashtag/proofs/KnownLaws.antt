@@ -15,13 +15,15 @@ use Rattle.utf8.specs.Lead.{knownLength, isTrail}
 use Rattle.utf8.specs.Text.{charactersAt, textOf}
 use Rattle.utf8.proofs.TextLaws.{first-byte}
 use Rattle.line.specs.Line.{endsLine, one, LineAt}
-use Rattle.line.specs.Ends.{endAt}
-use Rattle.line.proofs.LineLaws.{told-none, end-at, line-counted, counted-few, line-passes}
+use Rattle.line.specs.Ends.{look, endAt}
+use Rattle.line.proofs.LineLaws.{told, end-at, line-counted, counted-few, line-passes}
 use Rattle.hashtag.specs.Sign.{isSign}
-use Rattle.hashtag.specs.Seek.{continuesFirst, freeAt, Skipped, Backed, Sought}
+use Rattle.hashtag.specs.Seek.{continuesFirst, freeAt, stopOf, Passed, sumOf, Counted, Backed, Sought}
 use Rattle.hashtag.specs.declared.Sign.{Sign}
+use Rattle.hashtag.specs.declared.Reach.{Reach}
 use Rattle.hashtag.proofs.SignLaws.{sign-ends-none, no-sign-here}
 use Rattle.hashtag.proofs.SeekLaws.{no-stop, no-stop-end, trail-passes, Stands, stands-known, Seeking, seeking-begins, seeking-known, seeking-over, sought-end, sought-some}
+use Rattle.hashtag.proofs.CountedLaws.{sum-none, sum-split, sum-first}
 
 -- stepping back over bytes that only follow others
 pub record Back (text : List ℕ) (from to at : ℕ) : Type 0 where
@@ -76,6 +78,13 @@ module _ (s text : List ℕ) where
   pub walked-begins : {from line : ℕ} → from ≤ length text → LineAt text from line → Walked from from line
   walked-begins {from} h l = record { before = from; seeking = seeking-begins s text from h; last = inl (refl, refl); lined = l }
 
+  to-past : {from at line past : ℕ} → Walked from at line → Passed true text at past → past ≤ at → Walked from past (line + sumOf text at (past - at))
+  to-past {from} {at} {line} {past} i p l =
+      let e : at ≡ past = omega (arith, p .above) in
+      let z : past - at ≡ 0 = omega arith in
+      let n : line ≡ line + sumOf text at (past - at) = omega (arith, ap (sumOf text at) z, sum-none text at) in
+      subst (λ (k : ℕ). Walked from k (line + sumOf text at (past - at))) e (subst (Walked from at) n i)
+
   -- over a character that begins no hashtag
   walked-over : {from at line n past : ℕ} (i : Walked from at line) (h : Stands s text at n)
       → (isSign (h .code) ≡ false) ⊎ ((freeAt s text (i .before) at && continuesFirst s (charactersAt text (at + n))) ≡ false)
@@ -84,42 +93,59 @@ module _ (s text : List ℕ) where
       record { before = at; seeking = seeking-over s text (i .seeking) (h .here) g; last = inr (i .seeking .above, (n, h, refl)); lined = l }
 
   -- a search that passes over the first byte of a character passes over all of it
-  apart : {past at n : ℕ} → Stands s text at n → Skipped true text at past → at < past → at + n ≤ past
-  apart {past} {at} {n} h q l = by (decLt past (at + n))
+  module _ {past : ℕ} (stop : past < length text → stopOf true (getD text past 0) < look → ⊥) where
+    apart : {at n : ℕ} → Stands s text at n → at < past → at + n ≤ past
+    apart {at} {n} h l = by (decLt past (at + n))
+      where
+        by : Dec (past < at + n) → at + n ≤ past
+        by (no m) = omega arith
+        by (yes m) = absurd (stop (omega (arith, h .here .within)) (omega (arith, trail-passes (getD text past 0) (others-are h past l m))))
+
+  -- what it counts of a character is what its first byte tells
+  sum-character : {at n : ℕ} → Stands s text at n → sumOf text at n ≡ stopOf true (getD text at 0)
+  sum-character {at} {n} h = go n refl
     where
-      by : Dec (past < at + n) → at + n ≤ past
-      by (no m) = omega arith
-      by (yes m) = absurd (q .stop (omega (arith, h .here .within)) (trail-passes (getD text past 0) (others-are h past l m)))
+      go : (k : ℕ) → n ≡ k → sumOf text at k ≡ stopOf true (getD text at 0)
+      go zero e = absurd (omega (arith, h .here .some-bytes))
+      go (suc k) e = sum-first text at k (λ i l u. trail-passes (getD text i 0) (others-are h i l (omega arith)))
 
   module _ (from : ℕ) (well : textOf (drop from text) ≡ WellFormed) where
     pub stands-here : {at line : ℕ} (n : ℕ) → Walked from at line → at < length text → n ≡ knownLength (getD text at 0) → Stands s text at n
     stands-here {at} {line} n i h e = subst (Stands s text at) (sym e) (stands-known s text at h (seeking-known s text (i .seeking) well))
 
-    -- bytes that begin neither a sign nor a line end are passed over: the next that may is the first of a character
-    module _ {past line : ℕ} where
-      to-past : {at : ℕ} → Walked from at line → at ≤ past → past ≤ at → Walked from past line
-      to-past {at} i l m = let e : at ≡ past = omega arith in subst (λ (k : ℕ). Walked from k line) e i
+    -- over a character at which the search doesn't stop: no sign, and its first byte tells whether a line ends with it
+    walked-first : {at line n : ℕ} → Walked from at line → Stands s text at n → stopOf true (getD text at 0) < look → Walked from (at + n) (line + sumOf text at n)
+    walked-first {at} {line} {n} i h z =
+        let b = getD text at 0 in
+        let t = no-stop true b z in
+        let w : at < length text = omega (arith, h .here .some-bytes, h .here .within) in
+        let e = told text at (h .code) n (h .step) w (stopOf true b) (no-stop-end b z) z (charactersAt text (at + n)) in
+        walked-over i h (inl (sym (h .sign) ∙ sym (no-sign-here text at (t .0) (t .1)))) (line-counted (i .lined) (h .code) n (h .step) (sumOf text at n) (sum-character h ∙ e))
 
-      walked-in : (k at : ℕ) → Walked from at line → Skipped true text at past → past ≤ at + k → Walked from past line
-      walked-in zero at i q l = to-past i (q .passed .above) (omega arith)
-      walked-in (suc k) at i q l = go (decLt at past) (λ j m r t. walked-in k j m r t)
+    -- bytes are passed over up to where the search stops: there a character begins
+    module _ {past : ℕ} (stop : past < length text → stopOf true (getD text past 0) < look → ⊥) where
+      walked-in : (k at line : ℕ) → Walked from at line → Passed true text at past → past ≤ at + k → Walked from past (line + sumOf text at (past - at))
+      walked-in zero at line i p l = to-past i p (omega arith)
+      walked-in (suc k) at line i p l = go (decLt at past) (λ j m q r t. walked-in k j m q r t)
         where
-          go : Dec (at < past) → ((j : ℕ) → Walked from j line → Skipped true text j past → past ≤ j + k → Walked from past line) → Walked from past line
-          go (no m) f = to-past i (q .passed .above) (omega arith)
+          go : Dec (at < past) → ((j m : ℕ) → Walked from j m → Passed true text j past → past ≤ j + k → Walked from past (m + sumOf text j (past - j))) →
+              Walked from past (line + sumOf text at (past - at))
+          go (no m) f = to-past i p (omega arith)
           go (yes m) f =
-              let p = q .passed in
-              let b = getD text at 0 in
-              let n = knownLength b in
+              let n = knownLength (getD text at 0) in
               let h = stands-here n i (let w = p .within in omega arith) refl in
-              let z = p .each at (omega arith) m in
-              let t = no-stop true b z in
-              f (at + n) (walked-over i h (inl (sym (h .sign) ∙ sym (no-sign-here text at (t .0) (t .1))))
-              (line-passes (i .lined) (h .code) n (h .step) (told-none text at (h .code) n (h .step) (no-stop-end b z))))
-              (record { passed = record { above = apart h q m; within = p .within; each = λ j u v. p .each j (omega arith) v }; stop = q .stop })
-              (omega (arith, h .here .some-bytes))
+              let a = apart stop h m in
+              let q : past - at ≡ n + (past - (at + n)) = omega arith in
+              let e : line + sumOf text at n + sumOf text (at + n) (past - (at + n)) ≡ line + sumOf text at (past - at) =
+              omega (arith, ap (sumOf text at) q, sum-split text at n (past - (at + n))) in
+              subst (Walked from past) e
+              (f (at + n) (line + sumOf text at n) (walked-first i h (p .each at (omega arith) m))
+              (record { above = a; within = p .within; each = λ j u v. p .each j (omega arith) v }) (omega (arith, h .here .some-bytes)))
 
-    pub walked-bytes : {at past line : ℕ} → Walked from at line → Skipped true text at past → Walked from past line
-    walked-bytes {at} {past} i p = walked-in (past - at) at i p (omega arith)
+    pub walked-bytes : {at line : ℕ} {r : Reach} → Walked from at line → Counted text at line r → (r .at < length text → stopOf true (getD text (r .at) 0) < look → ⊥) →
+        Walked from (r .at) (r .line)
+    walked-bytes {at} {line} {r} i c stop =
+        subst (Walked from (r .at)) (sym (c .sum)) (walked-in stop (r .at - at) at line i (c .passed) (omega arith))
 
   -- stepping back finds where the last character begins
   pub stepped : {from at line r : ℕ} (i : Walked from at line) → Backed text from at r → r ≡ i .before
@@ -152,14 +178,14 @@ module _ (s text : List ℕ) where
 
     -- the line past a character
     module _ {n k : ℕ} (h : Stands s text at n) (e : k ≡ endAt text at) where
-      told : k ≡ one (endsLine (h .code) (charactersAt text (at + n)))
-      told = e ∙ end-at text at (h .code) n (h .step)
+      ends : k ≡ one (endsLine (h .code) (charactersAt text (at + n)))
+      ends = e ∙ end-at text at (h .code) n (h .step)
 
       pub line-fits : line + k ≤ 2 + length text
-      line-fits = counted-few (i .lined) (h .code) n (h .step) k told
+      line-fits = counted-few (i .lined) (h .code) n (h .step) k ends
 
       line-past : LineAt text (at + n) (line + k)
-      line-past = line-counted (i .lined) (h .code) n (h .step) k told
+      line-past = line-counted (i .lined) (h .code) n (h .step) k ends
 
     module _ {n r : ℕ} (h : Stands s text at n) (b : Backed text from at r) where
       free-same : freeAt s text r at ≡ freeAt s text (i .before) at

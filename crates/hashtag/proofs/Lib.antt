@@ -3,6 +3,7 @@ pub mod RunLaws
 pub mod FindLaws
 pub mod AllLaws
 pub mod SeekLaws
+pub mod CountedLaws
 pub mod KnownLaws
 pub mod ListLaws
 pub mod AnswerLaws

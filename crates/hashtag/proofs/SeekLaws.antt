@@ -7,12 +7,11 @@ use mathlib.Core.Logic.{_⊎_, inl, inr}
 use native.Mathlib.Omega.{arith}
 use native.Mathlib.Decide.{decLt}
 use mathlib.Core.Option.{none}
-use lib.ListN.{length, getD, take, drop, length-drop}
+use lib.ListN.{length, getD, drop, length-drop}
 use lib.Seq.{getD-drop}
 use lib.Dec.{leb, ltb, eqb}
 use borrow.Author.Tests.{lt-ltb, le-ltb, leb-true, ltb-true, ne-eqb}
 use Rattle.lists.proofs.BoolLaws.{and-left, and-right, impossible}
-use Rattle.lists.proofs.LaidLaws.{rest as part-rest}
 use Rattle.utf8.specs.declared.Step.{Step}
 use Rattle.utf8.specs.declared.Step.the-variants.{Scalar, IllFormed, End}
 use Rattle.utf8.specs.Head.{stepOf, IllHead}
@@ -22,7 +21,7 @@ use Rattle.utf8.specs.Lead.{lengthOf, knownLength, isTrail}
 use Rattle.utf8.specs.Text.{Character, charactersAt, widthOf, textOf, shift}
 use Rattle.utf8.proofs.SequenceLaws.{known-bounds, ill-at, end-empty}
 use Rattle.utf8.proofs.TextLaws.{step-bounds, known-length, turn, ascii-at, characters-step, characters-ill, characters-end}
-use Rattle.line.specs.Ends.{endOf}
+use Rattle.line.specs.Ends.{look, endOf}
 use Rattle.image.specs.Check.{refusalOf}
 use Rattle.character.specs.Read.{ReadAs}
 use Rattle.character.specs.declared.Character.{Character as Read}
@@ -43,23 +42,21 @@ no-run-first s (c ∷ r) e = run-no s c r e
 no-run-first s [] e = run-none s
 
 -- what a byte tells where a search doesn't stop
-pub no-stop : (known : Bool) (b : ℕ) → stopOf known b ≡ 0 → (b ≡ 0x23 → ⊥) × (b ≡ 0xEF → ⊥)
-no-stop known b e = (λ f. impossible (sym e ∙ rw f), λ f. impossible (sym e ∙ rw f))
+pub no-stop : (known : Bool) (b : ℕ) → stopOf known b < look → (b ≡ 0x23 → ⊥) × (b ≡ 0xEF → ⊥)
+no-stop known b h = (λ f. let z : look ≡ stopOf known b = rw f in omega arith, λ f. let z : look ≡ stopOf known b = rw f in omega arith)
 
-pub no-stop-end : (b : ℕ) → stopOf true b ≡ 0 → endOf b ≡ 0
-no-stop-end b e =
-    let n = no-stop true b e in
-    let q : stopOf true b ≡ endOf b = rw (ne-eqb b 0x23 (n .0), ne-eqb b 0xEF (n .1)) in
-    sym q ∙ e
+pub no-stop-end : (b : ℕ) → stopOf true b < look → stopOf true b ≡ endOf b
+no-stop-end b h = let n = no-stop true b h in rw (ne-eqb b 0x23 (n .0), ne-eqb b 0xEF (n .1))
 
-plain-byte : (b : ℕ) → stopOf false b ≡ 0 → b < 0x80
-plain-byte b e = go (eqb b 0x23) (eqb b 0xEF) (decLt b 0x80) e
+plain-byte : (b : ℕ) → stopOf false b < look → b < 0x80
+plain-byte b h = go (decLt b 0x80)
   where
-    go : (x y : Bool) → Dec (b < 0x80) → _≡_ {A = ℕ} (cond x 1 (cond y 1 (cond (ltb b 0x80) 0 1))) 0 → b < 0x80
-    go x y (yes h) f = h
-    go true y (no h) f = absurd (omega arith)
-    go false true (no h) f = absurd (omega arith)
-    go false false (no h) f = impossible (sym f ∙ rw (le-ltb b 0x80 (let z : 0x80 ≤ b = omega arith in z)))
+    go : Dec (b < 0x80) → b < 0x80
+    go (yes l) = l
+    go (no l) =
+        let n = no-stop false b h in
+        let z : look ≡ stopOf false b = rw (ne-eqb b 0x23 (n .0), ne-eqb b 0xEF (n .1), le-ltb b 0x80 (let z : 0x80 ≤ b = omega arith in z)) in
+        absurd (omega arith)
 
 pub trail-passes : (b : ℕ) → isTrail b ≡ true → stopOf true b ≡ 0
 trail-passes b e =
@@ -75,21 +72,11 @@ trail-passes b e =
       ne-eqb b 0xE2 (λ f. absurd (omega arith)),
     )
 
--- over bytes, and then on from there
-pub skipped-on : {known : Bool} {text : List ℕ} {from at to : ℕ} → Passed known text from at → Skipped known text at to → Skipped known text from to
-skipped-on {known} {text} {from} {at} {to} p q =
-    let r = q .passed in
-    record { passed = record { above = omega (arith, p .above, r .above); within = r .within; each = λ i l u. go i l u (decLt i at) }; stop = q .stop }
-  where
-    go : (i : ℕ) → from ≤ i → i < to → Dec (i < at) → stopOf known (getD text i 0) ≡ 0
-    go i l u (yes v) = p .each i l v
-    go i l u (no v) = q .passed .each i (omega arith) u
-
 -- what the table has for a byte
-pub small : (b : ℕ) {n : ℕ} → n ≡ stopOf true b → n ≤ 2
+pub small : (b : ℕ) {n : ℕ} → n ≡ stopOf true b → n ≤ look
 small b {n} e = go (eqb b 0x23) (eqb b 0xEF) (ltb b 0x0A) (ltb b 0x0D) (eqb b 0x0D) (eqb b 0xC2) (eqb b 0xE2) e
   where
-    go : (p q t u v w x : Bool) → n ≡ cond p 1 (cond q 1 (cond t 0 (cond u 1 (cond v 2 (cond w 2 (cond x 2 0)))))) → n ≤ 2
+    go : (p q t u v w x : Bool) → n ≡ cond p look (cond q look (cond t 0 (cond u 1 (cond v look (cond w look (cond x look 0)))))) → n ≤ look
     go true q t u v w x f = omega arith
     go false true t u v w x f = omega arith
     go false false true u v w x f = omega arith
@@ -99,37 +86,17 @@ small b {n} e = go (eqb b 0x23) (eqb b 0xEF) (ltb b 0x0A) (ltb b 0x0D) (eqb b 0x
     go false false false false false false true f = omega arith
     go false false false false false false false f = omega arith
 
--- four bytes at a time
-pub four-pass : (known : Bool) (s : List ℕ) (k l m n : ℕ) → k ≡ stopOf known (getD s 0 0) → l ≡ stopOf known (getD s 1 0) → m ≡ stopOf known (getD s 2 0)
-    → n ≡ stopOf known (getD s 3 0) → k + l + m + n ≡ 0 → (i : ℕ) → i < 4 → stopOf known (getD s i 0) ≡ 0
-four-pass known s k l m n a b c d e zero h = omega arith
-four-pass known s k l m n a b c d e (suc zero) h = omega arith
-four-pass known s k l m n a b c d e (suc (suc zero)) h = omega arith
-four-pass known s k l m n a b c d e (suc (suc (suc zero))) h = omega arith
-four-pass known s k l m n a b c d e (suc (suc (suc (suc i)))) h = absurd (omega arith)
-
-pub passed-four : {known : Bool} {text : List ℕ} {from at : ℕ} → Passed known text from at → at + 4 ≤ length text
-    → ((i : ℕ) → i < 4 → stopOf known (getD (take (length text - at) (drop at text)) i 0) ≡ 0) → Passed known text from (at + 4)
-passed-four {known} {text} {from} {at} p h f =
-    record { above = omega (arith, p .above); within = h; each = λ i l u. go i l u (decLt i at) }
-  where
-    go : (i : ℕ) → from ≤ i → i < at + 4 → Dec (i < at) → stopOf known (getD text i 0) ≡ 0
-    go i l u (yes v) = p .each i l v
-    go i l u (no v) =
-        let q : at + (i - at) ≡ i = omega arith in
-        let e = ap (λ (s : List ℕ). getD s (i - at) 0) (part-rest text at) ∙ getD-drop at text (i - at) 0 ∙ ap (λ (k : ℕ). getD text k 0) q in
-        ap (stopOf known) (sym e) ∙ f (i - at) (omega arith)
-
+-- bytes that were passed over
 pub passed-begins : (known : Bool) (text : List ℕ) (from : ℕ) → from ≤ length text → Passed known text from from
 passed-begins known text from h = record { above = omega arith; within = h; each = λ i l u. absurd (omega arith) }
 
-pub passed-more : {known : Bool} {text : List ℕ} {from at : ℕ} → Passed known text from at → at < length text → stopOf known (getD text at 0) ≡ 0 → Passed known text from (at + 1)
+pub passed-more : {known : Bool} {text : List ℕ} {from at : ℕ} → Passed known text from at → at < length text → stopOf known (getD text at 0) < look → Passed known text from (at + 1)
 passed-more {known} {text} {from} {at} p h e =
     record { above = omega (arith, p .above); within = omega arith; each = λ i l u. go i l u (decLt i at) }
   where
-    go : (i : ℕ) → from ≤ i → i < at + 1 → Dec (i < at) → stopOf known (getD text i 0) ≡ 0
+    go : (i : ℕ) → from ≤ i → i < at + 1 → Dec (i < at) → stopOf known (getD text i 0) < look
     go i l u (yes v) = p .each i l v
-    go i l u (no v) = let q : i ≡ at = omega arith in ap (λ (j : ℕ). stopOf known (getD text j 0)) q ∙ e
+    go i l u (no v) = let q : at ≡ i = omega arith in subst (λ (j : ℕ). stopOf known (getD text j 0) < look) q e
 
 -- the length of the sequence at a place: none begins there, or one of this length
 pub measured-none : (text : List ℕ) (at n : ℕ) → at < length text → n ≡ lengthOf (stepOf (drop at text)) → n ≡ 0 → IllHead (drop at text)
@@ -307,7 +274,7 @@ module _ (s text : List ℕ) where
           passes (inr e) = inr (no free refl e)
 
   -- bytes that are characters by themselves
-  one-plain : {from before at : ℕ} → Seeking from before at → at < length text → stopOf false (getD text at 0) ≡ 0 → Seeking from at (at + 1)
+  one-plain : {from before at : ℕ} → Seeking from before at → at < length text → stopOf false (getD text at 0) < look → Seeking from at (at + 1)
   one-plain {from} {before} {at} i h e =
       let k = stands-at at 1 (ascii-at text at h (plain-byte (getD text at 0) e)) h in
       let n = no-stop false (getD text at 0) e in

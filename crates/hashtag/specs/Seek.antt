@@ -1,5 +1,5 @@
 -- Looking for the next hashtag of a text, from a byte place on (docs/RULES.md, "Hashtags" and "Lines").
-use Prim.Native.Nat.{ℕ, _+_, _≤_, _<_}
+use Prim.Native.Nat.{ℕ, zero, suc, _+_, _-_, _*_, _≤_, _<_}
 use mathlib.Core.Path.{_≡_}
 use mathlib.Core.Bool.{Bool, true, false, not, cond}
 use mathlib.Core.List.{List, [], _∷_}
@@ -12,10 +12,11 @@ use Rattle.utf8.specs.declared.Step.the-variants.{Scalar, IllFormed, End}
 use Rattle.utf8.specs.Head.{IllHead}
 use Rattle.utf8.specs.Lead.{isTrail}
 use Rattle.utf8.specs.Text.{Character, charactersAt, widthOf, textOf, shift}
-use Rattle.line.specs.Ends.{endOf}
+use Rattle.line.specs.Ends.{look, endOf}
 use Rattle.hashtag.specs.Sign.{isSign, continues}
 use Rattle.hashtag.specs.Find.{Span, runOf, hashtagsFrom}
 use Rattle.hashtag.specs.declared.Sign.{Sign}
+use Rattle.hashtag.specs.declared.Reach.{Reach}
 
 -- the hashtags of the characters from a place on
 abbrev pub hashtagsAt : List ℕ → List ℕ → Bool → ℕ → List Span
@@ -30,10 +31,11 @@ continuesFirst s (c ∷ r) = continues s c
 abbrev pub freeAt : List ℕ → List ℕ → ℕ → ℕ → Bool
 freeAt s text before at = cond (ltb before at) (not (continuesFirst s (charactersAt text before))) true
 
--- not 0 where a search for signs stops, by the byte there: at the first bytes of the signs; in a text that is known to be well-formed at those
--- of line ends too, in another at every byte that isn't a character by itself
+-- what a search for signs does, by the byte at a place: `look` where it stops, else how many line ends it passes over there. It stops at the
+-- first bytes of the signs; in a text that is known to be well-formed where a line end is to be looked at, in another at every byte that isn't a
+-- character by itself, and line ends aren't counted
 abbrev pub stopOf : Bool → ℕ → ℕ
-stopOf known b = cond (eqb b 0x23) 1 (cond (eqb b 0xEF) 1 (cond known (endOf b) (cond (ltb b 0x80) 0 1)))
+stopOf known b = cond (eqb b 0x23) look (cond (eqb b 0xEF) look (cond known (endOf b) (cond (ltb b 0x80) 0 look)))
 
 -- the table of all bytes
 abbrev pub StopsOf : Bool → List ℕ → Type 0
@@ -43,12 +45,28 @@ StopsOf known t = Filled 256 (stopOf known) t 256
 pub record Passed (known : Bool) (text : List ℕ) (from to : ℕ) : Type 0 where
   pub above : from ≤ to
   pub within : to ≤ length text
-  pub each : (i : ℕ) → from ≤ i → i < to → stopOf known (getD text i 0) ≡ 0
+  pub each : (i : ℕ) → from ≤ i → i < to → stopOf known (getD text i 0) < look
 
 -- the first place from a place on where it stops, or the text's end
 pub record Skipped (known : Bool) (text : List ℕ) (from to : ℕ) : Type 0 where
   pub passed : Passed known text from to
-  pub stop : to < length text → stopOf known (getD text to 0) ≡ 0 → ⊥
+  pub stop : to < length text → stopOf known (getD text to 0) < look → ⊥
+
+-- the line ends that it passes over in n bytes from a place on, in a text that is known to be well-formed
+unfoldable pub sumOf : List ℕ → ℕ → ℕ → ℕ
+sumOf text from zero = 0
+sumOf text from (suc n) = sumOf text from n + stopOf true (getD text (from + n) 0)
+
+-- it stops nowhere from one place, on this line, to before another, and has counted line ends on its way
+pub record Counted (text : List ℕ) (from line : ℕ) (r : Reach) : Type 0 where
+  pub passed : Passed true text from (r .at)
+  pub sum : r .line ≡ line + sumOf text from (r .at - from)
+  pub few : r .line ≤ line + look * (r .at - from)
+
+-- .. up to where it stops, or to the text's end
+pub record CountedTo (text : List ℕ) (from line : ℕ) (r : Reach) : Type 0 where
+  pub counted : Counted text from line r
+  pub stop : r .at < length text → stopOf true (getD text (r .at) 0) < look → ⊥
 
 -- the last place before another, and no sooner than a third, where no byte stands that only follows others; the third where there is none
 pub record Backed (text : List ℕ) (from to r : ℕ) : Type 0 where

@@ -21,7 +21,7 @@ ghost use Rattle.grammar.specs.Reading.{maxText};
 ghost use Rattle.hashtag.specs.Sign.{isSign};
 ghost use Rattle.hashtag.specs.Find.{runOf, hashtagsOf};
 ghost use Rattle.hashtag.specs.Listed.{spansWords, hashtagListOf, hashtagListWords, listedBy, countedThrough, closedBy};
-ghost use Rattle.hashtag.specs.Seek.{continuesFirst, freeAt, stopOf, StopsOf, Passed, Skipped, Backed, signOf, Sought};
+ghost use Rattle.hashtag.specs.Seek.{continuesFirst, freeAt, stopOf, StopsOf, Skipped, sumOf, Counted, CountedTo, Backed, signOf, Sought};
 use image::Answer;
 use refusal::Refusal;
 use scan::MAX_TEXT;
@@ -40,6 +40,9 @@ const FULLWIDTH_NUMBER_SIGN: u32 = 0xFF03;
 // The first byte of the last two.
 const WIDE_SIGNS: u8 = 0xEF;
 
+// What a table of bytes has where a search stops.
+const STOP: u8 = line::LOOK;
+
 // How many hashtags, or why not.
 pub enum Listed {
     Refused(Refusal),
@@ -55,6 +58,12 @@ pub struct Sign {
 // A sign, and the line of its first byte; where there is none, the line of that place.
 pub struct Found {
     pub sign: Sign,
+    pub line: u32,
+}
+
+// A place that a search has reached, and the line there.
+pub struct Reach {
+    pub at: usize,
     pub line: u32,
 }
 
@@ -128,16 +137,17 @@ fn find_end<'a>(image: &'a [u8], table: &'a [u8; 128], text: &'a [u8], from: usi
     at
 }
 
-// What a table of bytes has for a byte: 0 where a search goes on over it. The first bytes of the signs stop it; in a text that is known to be
-// well-formed those of line ends too, in another every byte that isn't a character by itself.
+// What a table of bytes has for a byte: STOP where a search stops, else how many line ends it passes over there. The first bytes of the signs
+// stop it; in a text that is known to be well-formed those whose line end is to be looked at too, in another every byte that isn't a
+// character by itself.
 fn stop_at(b: usize, known: bool) -> u8
     ensures { λ r. ⌜ r ≡ stopOf known b ⌝ }
 {
     if b == NUMBER_SIGN as usize {
-        return 1;
+        return STOP;
     }
     if b == WIDE_SIGNS as usize {
-        return 1;
+        return STOP;
     }
     if known {
         return line::tell_end(b);
@@ -145,7 +155,7 @@ fn stop_at(b: usize, known: bool) -> u8
     if b < 0x80 {
         return 0;
     }
-    1
+    STOP
 }
 
 // The table of bytes.
@@ -175,7 +185,7 @@ fn skip<'a>(stops: &'a [u8; 256], text: &'a [u8], from: usize) -> usize
 {
     let mut at = from;
     while at < text.len() {
-        if look(stops, text[at]) != 0 {
+        if STOP <= look(stops, text[at]) {
             return at;
         }
         at += 1;
@@ -187,25 +197,49 @@ fn skip<'a>(stops: &'a [u8; 256], text: &'a [u8], from: usize) -> usize
 fn look_four<'a>(stops: &'a [u8; 256], s: &'a [u8]) -> u8
     requires { ⌜ StopsOf true (now stops) ⌝ }
     requires { ⌜ 4 ≤ length (now s) ⌝ }
-    ensures { λ r. ⌜ (r ≡ 0 → (i : ℕ) → i < 4 → stopOf true (getD (now (s .entry)) i 0) ≡ 0) ⌝ }
+    ensures { λ r. ⌜ r ≡ sumOf (now (s .entry)) 0 4 ⌝ }
 {
     look(stops, s[0]) + look(stops, s[1]) + look(stops, s[2]) + look(stops, s[3])
 }
 
-// A place up to which a search in a text that is known to be well-formed stops nowhere: four bytes at a time.
-fn skip_fours<'a>(stops: &'a [u8; 256], text: &'a [u8], from: usize) -> usize
+// A place up to which a search in a text that is known to be well-formed stops nowhere, from a place on this line: four bytes at a time.
+fn count_fours<'a>(stops: &'a [u8; 256], text: &'a [u8], from: usize, first: u32) -> Reach
     requires { ⌜ StopsOf true (now stops) ⌝ }
-    requires { ⌜ from ≤ length (now text) ⌝ }
-    ensures { λ r. ⌜ Passed true (now (text .entry)) from r ⌝ }
+    requires { ⌜ (from ≤ length (now text)) × (length (now text) ≤ maxText) ⌝ }
+    requires { ⌜ first ≤ 16 * maxText ⌝ }
+    ensures { λ r. ⌜ Counted (now (text .entry)) from first r ⌝ }
 {
     let mut at = from;
+    let mut line = first;
     while 4 <= text.len() - at {
-        if look_four(stops, &text[at..]) != 0 {
-            return at;
+        let ends = look_four(stops, &text[at..]);
+        if STOP <= ends {
+            return Reach { at, line };
         }
+        line += ends as u32;
         at += 4;
     }
-    at
+    Reach { at, line }
+}
+
+// The first place from a place on this line where such a search stops, or the text's end.
+fn count_bytes<'a>(stops: &'a [u8; 256], text: &'a [u8], from: usize, first: u32) -> Reach
+    requires { ⌜ StopsOf true (now stops) ⌝ }
+    requires { ⌜ (from ≤ length (now text)) × (length (now text) ≤ maxText) ⌝ }
+    requires { ⌜ first ≤ 16 * maxText ⌝ }
+    ensures { λ r. ⌜ CountedTo (now (text .entry)) from first r ⌝ }
+{
+    let mut at = from;
+    let mut line = first;
+    while at < text.len() {
+        let end = look(stops, text[at]);
+        if STOP <= end {
+            return Reach { at, line };
+        }
+        line += end as u32;
+        at += 1;
+    }
+    Reach { at, line }
 }
 
 // Whether the sequence at a place is that of a sign.
@@ -324,8 +358,8 @@ fn step_back(text: &[u8], from: usize, to: usize) -> usize
     at
 }
 
-// As `seek`, in a text that is well-formed from the place on, which has this line: bytes that begin neither a sign nor a line end are passed
-// over, whatever character they are of.
+// As `seek`, in a text that is well-formed from the place on, which has this line: bytes at which it doesn't stop are passed over, whatever
+// character they are of.
 fn seek_known<'a>(
     image: &'a [u8],
     table: &'a [u8; 128],
@@ -345,8 +379,10 @@ fn seek_known<'a>(
 {
     let mut at = from;
     while at < text.len() {
-        let near = skip_fours(stops, text, at);
-        at = skip(stops, text, near);
+        let near = count_fours(stops, text, at, line);
+        let stop = count_bytes(stops, text, near.at, near.line);
+        at = stop.at;
+        line = stop.line;
         if text.len() <= at {
             break;
         }

@@ -7,7 +7,7 @@ use native.Mathlib.Omega.{arith}
 use native.Mathlib.Decide.{decLt}
 use lib.ListN.{length, getD, drop}
 use lib.Seq.{getD-drop}
-use lib.Dec.{leb, eqb}
+use lib.Dec.{leb, ltb, eqb}
 use borrow.Author.Tests.{eq-eqb, ne-eqb, eqb-true, lt-ltb, le-ltb, le-leb, lt-leb}
 use Rattle.lists.proofs.BoolLaws.{impossible}
 use Rattle.utf8.specs.declared.Step.{Step}
@@ -18,7 +18,7 @@ use Rattle.utf8.proofs.SequenceLaws.{ill-at}
 use Rattle.utf8.proofs.EncodedLaws.{AllWide}
 use Rattle.utf8.proofs.TextLaws.{first-byte, decode-ill, decode-end, characters-few, characters-wide, ascii-at, characters-step, characters-end, width-append}
 use Rattle.line.specs.Line.{isLineEnd, feeds, endsLine, one, lineEnds, before, lineOf, LineAt}
-use Rattle.line.specs.Ends.{endOf, endAt}
+use Rattle.line.specs.Ends.{look, endOf, endAt}
 
 -- the code points that end a line, by ranges
 pub data LineEnd (x : ℕ) : Type 0 where
@@ -58,6 +58,18 @@ is-line-end x (separator h l) = go (decLt x 0x2029)
 small : (b : Bool) → one b ≤ 1
 small true = omega arith
 small false = omega arith
+
+-- what a byte tells, but for those whose code point is to be looked at
+end-small : (b : ℕ) → endOf b < look → endOf b ≤ 1
+end-small b = go (ltb b 0x0A) (ltb b 0x0D) (eqb b 0x0D) (eqb b 0xC2) (eqb b 0xE2)
+  where
+    go : (p q t u v : Bool) → cond p 0 (cond q 1 (cond t look (cond u look (cond v look 0)))) < look → cond p 0 (cond q 1 (cond t look (cond u look (cond v look 0)))) ≤ 1
+    go true q t u v h = omega arith
+    go false true t u v h = omega arith
+    go false false true u v h = absurd (omega arith)
+    go false false false true v h = absurd (omega arith)
+    go false false false false true h = absurd (omega arith)
+    go false false false false false h = omega arith
 
 -- whether a line ends with a code point
 module _ (x : ℕ) (r : List Character) where
@@ -115,7 +127,7 @@ module _ (text : List ℕ) where
 
         lies : (k : ℕ) → 0x0A ≤ k → k ≤ 0x0D → endOf k ≡ 0 → Dec (k < 0x0D) → ⊥
         lies k h l q (yes m) = let w : _≡_ {A = ℕ} 1 0 = sym (rw (le-ltb k 0x0A h, lt-ltb k 0x0D m)) ∙ q in omega arith
-        lies k h l q (no m) = let w : _≡_ {A = ℕ} 2 0 = sym (rw (le-ltb k 0x0A h, le-ltb k 0x0D (omega arith), eq-eqb k 0x0D (omega arith))) ∙ q in omega arith
+        lies k h l q (no m) = let w : look ≡ 0 = sym (rw (le-ltb k 0x0A h, le-ltb k 0x0D (omega arith), eq-eqb k 0x0D (omega arith))) ∙ q in omega arith
 
         none : LineEnd x → ⊥
         none (low h l) = lies x h l (first x (first-byte (drop at text) x n e .ascii (omega arith))) (decLt x 0x0D)
@@ -130,7 +142,7 @@ module _ (text : List ℕ) where
     one-range : endOf b ≡ 1 → (0x0A ≤ b) × (b < 0x0D)
     one-range z = go (decLt b 0x0A) (decLt b 0x0D)
       where
-        others : (c d f : Bool) → _≡_ {A = ℕ} (cond c 2 (cond d 2 (cond f 2 0))) 1 → ⊥
+        others : (c d f : Bool) → cond c look (cond d look (cond f look 0)) ≡ 1 → ⊥
         others true d f q = absurd (omega arith)
         others false true f q = absurd (omega arith)
         others false false true q = absurd (omega arith)
@@ -141,7 +153,7 @@ module _ (text : List ℕ) where
         go (no h) (yes l) = (omega arith, l)
         go (no h) (no l) = absurd (others (eqb b 0x0D) (eqb b 0xC2) (eqb b 0xE2) (sym (rw (le-ltb b 0x0A (omega arith), le-ltb b 0x0D (omega arith))) ∙ z))
 
-    pub told : at < length text → (v : ℕ) → v ≡ endOf b → v < 2 → (r : List Character) → v ≡ one (endsLine x r)
+    pub told : at < length text → (v : ℕ) → v ≡ endOf b → v < look → (r : List Character) → v ≡ one (endsLine x r)
     told h zero q l r = sym (ends-not x r (told-none (sym q)))
     told h (suc zero) q l r =
         let i = one-range (sym q) in
@@ -150,7 +162,7 @@ module _ (text : List ℕ) where
         let u = i .0 in
         let w = i .1 in
         sym (ends-here x r (is-line-end x (low (omega arith) (omega arith))) (λ k. absurd (omega arith)))
-    told h (suc (suc v)) q l r = absurd (omega arith)
+    told h (suc (suc v)) q l r = let z = end-small b (let m = l in omega arith) in absurd (omega arith)
 
     pub end-at : endAt text at ≡ one (endsLine x (charactersAt text (at + n)))
     unfolding endAt

@@ -11,9 +11,13 @@ use Rattle.utf8.specs.Head.{stepOf}
 use Rattle.utf8.specs.Text.{charactersAt}
 use Rattle.line.specs.Line.{one, endsLine}
 
--- no line ends with the character, 0; one does, 1; its code point is to be looked at, 2
+-- the code point is to be looked at
+abbrev pub look : ℕ
+look = 8
+
+-- no line ends with the character, 0; one does, 1; or `look`
 abbrev pub endOf : ℕ → ℕ
-endOf b = cond (ltb b 0x0A) 0 (cond (ltb b 0x0D) 1 (cond (eqb b 0x0D) 2 (cond (eqb b 0xC2) 2 (cond (eqb b 0xE2) 2 0))))
+endOf b = cond (ltb b 0x0A) 0 (cond (ltb b 0x0D) 1 (cond (eqb b 0x0D) look (cond (eqb b 0xC2) look (cond (eqb b 0xE2) look 0))))
 
 -- the table of all bytes
 abbrev pub EndsOf : List ℕ → Type 0

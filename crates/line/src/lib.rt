@@ -23,8 +23,8 @@ const FIRST_OF_TWO: usize = 0xC2;
 
 const FIRST_OF_THREE: usize = 0xE2;
 
-// What the table of bytes has where the code point is to be looked at.
-const LOOK: u8 = 2;
+// What the table of bytes has where the code point is to be looked at: more than some bytes that tell of a line end add up to.
+pub const LOOK: u8 = 8;
 
 // Whether a code point ends a line.
 fn is_line_end(code: u32) -> bool

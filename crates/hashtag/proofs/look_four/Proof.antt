@@ -3,7 +3,8 @@ use mathlib.Core.Bool.{true}
 use native.Mathlib.Omega.{arith}
 use borrow.Author.Needs.{needs}
 use lib.ListN.{getD}
-use Rattle.hashtag.proofs.SeekLaws.{small, four-pass}
+use Rattle.hashtag.proofs.SeekLaws.{small}
+use Rattle.hashtag.proofs.CountedLaws.{sum-four}
 use Rattle.hashtag.proofs.look_four.Statement.{statement}
 use Rattle.hashtag.proofs.look_four.Tie as tie
 
@@ -37,10 +38,10 @@ add-result-3 c =
     )
 
 returns : tie.Need-returns
-returns c z =
+returns c =
     let k = c .before .before .before .before .before .before .before .before .before in
     let t = k .pre .0 in
-    four-pass true (k .args .s .now) _ _ _ _ (c .before .before .before .before .before .before .look .ensures true t) (c .before .before .before .before .look2 .ensures true t) (c .before .before .look3 .ensures true t) (c .look4 .ensures true t) z
+    sum-four (k .args .s .now) _ _ _ _ (c .before .before .before .before .before .before .look .ensures true t) (c .before .before .before .before .look2 .ensures true t) (c .before .before .look3 .ensures true t) (c .look4 .ensures true t)
 
 pub look-four-spec : {M : Type 1} → statement M
 look-four-spec =

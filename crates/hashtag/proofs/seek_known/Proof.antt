@@ -1,12 +1,13 @@
 -- `hashtag::seek_known` meets its contract. The loop's invariant: no hashtag begins in what was passed over, and the place is where a
 -- character begins, on this line. Assumes nothing.
 use Prim.Native.Nat.{_-_}
-use mathlib.Core.Bool.{true}
 use mathlib.Core.Logic.{⊎-elim}
 use mathlib.Core.Path.{sym, _∙_}
 use native.Mathlib.Omega.{arith}
 use lib.ListN.{length}
-use Rattle.hashtag.proofs.SeekLaws.{Stands, skipped-on}
+use Rattle.line.proofs.LineLaws.{line-few}
+use Rattle.hashtag.proofs.SeekLaws.{Stands}
+use Rattle.hashtag.proofs.CountedLaws.{counted-on}
 use Rattle.hashtag.proofs.KnownLaws.{Walked, walked-begins, walked-bytes, stands-here, known-end, known-some, known-over, known-passes, line-fits}
 use Rattle.hashtag.proofs.seek_known.Statement.{statement}
 use Rattle.hashtag.proofs.seek_known.Tie as tie
@@ -20,20 +21,27 @@ abbrev μ-loop : tie.MeasureT-loop
 loop-holds : tie.Need-loop-holds Inv-loop μ-loop
 loop-holds c = let p = c .before .before .pre .1 .1 .1 .1 in walked-begins _ _ (p .0 .0) (p .1)
 
-skip-fours-requires : tie.Need-skip-fours-requires Inv-loop μ-loop
-skip-fours-requires c κs = (c .before .before .before .before .pre .1 .1 .0, c .before .loop .inv .seeking .within)
+count-fours-requires : tie.Need-count-fours-requires Inv-loop μ-loop
+count-fours-requires c κs =
+    let p = c .before .before .before .before .pre .1 .1 in
+    let i = c .before .loop .inv in
+    (p .0, ((i .seeking .within, p .1 .0), omega (arith, line-few (i .lined), p .1 .0)))
 
-skip-requires : tie.Need-skip-requires Inv-loop μ-loop
-skip-requires c κs = c .skip-fours .ensures .within
+count-bytes-requires : tie.Need-count-bytes-requires Inv-loop μ-loop
+count-bytes-requires c κs =
+    let p = c .before .before .before .before .before .pre .1 .1 in
+    let n = c .count-fours .ensures in
+    (p .0, ((n .passed .within, p .1 .0), omega (arith, line-few (c .before .before .loop .inv .lined), n .few, n .passed .above, n .passed .within, p .1 .0)))
 
 -- what was passed over
 walked :
-    (c : tie.After-skip Inv-loop μ-loop)
+    (c : tie.After-count-bytes Inv-loop μ-loop)
     → let a = c .before .before .before .before .before .before .args in
-    Walked (a .image .now) (a .text .now) (a .from) (c .skip .result) (c .before .before .before .loop .line)
+    Walked (a .image .now) (a .text .now) (a .from) (c .count-bytes .result .at) (c .count-bytes .result .line)
 walked c =
-    let p = c .before .before .before .before .before .before .pre .1 .1 in
-    walked-bytes _ _ _ (p .1 .1 .0 .1) (c .before .before .before .loop .inv) (skipped-on (c .before .skip-fours .ensures) (c .skip .ensures true (p .0)))
+    let w = c .count-bytes .ensures in
+    walked-bytes _ _ _ (c .before .before .before .before .before .before .pre .1 .1 .1 .1 .0 .1) (c .before .before .before .loop .inv)
+    (counted-on (c .before .count-fours .ensures) (w .counted)) (w .stop)
 
 read-byte : tie.Need-shared-slice-read-measure-known Inv-loop μ-loop
 read-byte c = c .before .if1 .left
@@ -42,7 +50,7 @@ read-byte c = c .before .if1 .left
 standing :
     (c : tie.After-measure-known Inv-loop μ-loop)
     → let a = c .before .before .before .before .before .before .before .before .before .args in
-    Stands (a .image .now) (a .text .now) (c .before .before .before .skip .result) (c .measure-known .result)
+    Stands (a .image .now) (a .text .now) (c .before .before .before .count-bytes .result .at) (c .measure-known .result)
 standing c =
     let b = c .before .before .before in
     stands-here _ _ _ (b .before .before .before .before .before .before .pre .1 .1 .1 .1 .0 .1) _ (walked b) (c .before .before .if1 .left) (c .measure-known .ensures)
@@ -82,8 +90,7 @@ loop-less : tie.Need-loop-less Inv-loop μ-loop
 loop-less c =
     let d = c .before .before .before in
     let h = standing d .here in
-    let p = d .before .before .before .before .before .before .before .before .before .pre .1 .1 .0 in
-    omega (arith, h .some-bytes, h .within, d .before .before .before .skip .ensures true p .passed .above, d .before .before .before .before .skip-fours .ensures .above)
+    omega (arith, h .some-bytes, h .within, d .before .before .before .count-bytes .ensures .counted .passed .above, d .before .before .before .before .count-fours .ensures .passed .above)
 
 loop-again : tie.Need-loop-again Inv-loop μ-loop
 loop-again c =
@@ -108,8 +115,8 @@ seek-known-spec =
     Inv-loop
     μ-loop
     loop-holds
-    skip-fours-requires
-    skip-requires
+    count-fours-requires
+    count-bytes-requires
     read-byte
     (λ c κs. tt)
     add-next

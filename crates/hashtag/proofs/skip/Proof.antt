@@ -1,7 +1,6 @@
 -- `hashtag::skip` meets its contract. Assumes nothing.
 use Prim.Native.Nat.{_-_}
 use mathlib.Core.Bool.{Bool}
-use mathlib.Core.Path.{sym, _∙_}
 use native.Mathlib.Omega.{arith}
 use lib.ListN.{length}
 use Rattle.hashtag.specs.Seek.{StopsOf, Passed}
@@ -22,7 +21,7 @@ read-byte : tie.Need-shared-slice-read-look Inv-loop μ-loop
 read-byte c = c .before .loop-test .taken
 
 returns : tie.Need-returns Inv-loop μ-loop
-returns c known t = record { passed = c .before .before .before .before .loop .inv known t; stop = λ h e. c .if1 .taken (c .before .look .ensures known t ∙ e) }
+returns c known t = record { passed = c .before .before .before .before .loop .inv known t; stop = λ h e. omega (arith, c .if1 .taken, c .before .look .ensures known t) }
 
 add-at : tie.Need-add-at Inv-loop μ-loop
 add-at c = omega (arith, c .before .before .before .loop-test .taken, c .before .before .before .before .before .before)
@@ -32,7 +31,7 @@ loop-less c = omega (arith, c .before .before .before .loop-test .taken)
 
 loop-again : tie.Need-loop-again Inv-loop μ-loop
 loop-again c known t =
-    passed-more (c .before .before .before .before .loop .inv known t) (c .before .before .before .loop-test .taken) (sym (c .before .look .ensures known t) ∙ c .if1 .left)
+    passed-more (c .before .before .before .before .loop .inv known t) (c .before .before .before .loop-test .taken) (omega (arith, c .if1 .left, c .before .look .ensures known t))
 
 returns-2 : tie.Need-returns-2 Inv-loop μ-loop
 returns-2 c known t = record { passed = c .before .loop .inv known t; stop = λ h. absurd (omega (arith, c .loop-test .left)) }
