@@ -191,7 +191,7 @@ uint32_t luffinarc_count(const uint8_t *image, size_t image_len,
  *
  * 0: answer[0] is their number; the words past the list stay as they were.
  * Refusals: 1 to 4, 5, 6 with place and length, 7, then 8 where words_len / LUFFINARC_RECORD_WORDS, rounded down, is
- * below the number of tokens. words is left as it was.
+ * below the number of tokens, with that number. words is left as it was.
  */
 uint32_t luffinarc_list(const uint8_t *image, size_t image_len,
                         const uint8_t *text, size_t text_len,

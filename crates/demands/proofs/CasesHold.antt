@@ -17,14 +17,14 @@ use Rattle.grammar.specs.Reading.{meaningOf, readingOf, lengthRefusal, outcomeO
 use Rattle.hashtag.specs.Sign.{isSign, isHashtagContinue}
 use Rattle.hashtag.specs.Find.{runOf, hashtagsFrom, hashtagsOf}
 use Rattle.hashtag.specs.Listed.{hashtagsThrough, hashtagsFound}
-use Rattle.demands.specs.Cases.{Case, M, M2, P, N, K, K1, K2, cases, lineCases, hashtagCases, numbersOf, hashtagNumbersOf}
+use Rattle.demands.specs.Cases.{Case, M, M2, P, N, K, K1, K2, K3, cases, lineCases, hashtagCases, numbersOf, hashtagNumbersOf}
 
 pub cases-hold : map (λ (c : Case). numbersOf (c .text) (outcomeOf (c .image) (c .text))) cases ≡ map (λ (c : Case). c .answer) cases
 unfolding firstFrom firstWhere isScalar subpartOf stepOf decodeIn decode textOf wordAt lengthRight headerRight rangeAt goodAlone follows goodRange firstBadRange classIn pointAt roleAt goodEntryAlone goodEntry firstBadEntry roleBy afterRole isMedial recordsRefusal refusalOf rangeClass entryRole classOf medialOf walk meaningOf readingOf lengthRefusal outcomeOf isLineEnd endsLine lineEnds lineOf M M2 P cases
 cases-hold = refl
 
 pub line-cases-hold : map (λ (c : Case). numbersOf (c .text) (outcomeOf (c .image) (c .text))) lineCases ≡ map (λ (c : Case). c .answer) lineCases
-unfolding firstFrom firstWhere isScalar subpartOf stepOf decodeIn decode textOf wordAt lengthRight headerRight rangeAt goodAlone follows goodRange firstBadRange classIn pointAt roleAt goodEntryAlone goodEntry firstBadEntry roleBy afterRole isMedial recordsRefusal refusalOf rangeClass entryRole classOf medialOf walk meaningOf readingOf lengthRefusal outcomeOf isLineEnd endsLine lineEnds lineOf K K1 K2 lineCases
+unfolding firstFrom firstWhere isScalar subpartOf stepOf decodeIn decode textOf wordAt lengthRight headerRight rangeAt goodAlone follows goodRange firstBadRange classIn pointAt roleAt goodEntryAlone goodEntry firstBadEntry roleBy afterRole isMedial recordsRefusal refusalOf rangeClass entryRole classOf medialOf walk meaningOf readingOf lengthRefusal outcomeOf isLineEnd endsLine lineEnds lineOf K K1 K2 K3 lineCases
 line-cases-hold = refl
 
 pub hashtag-cases-hold :

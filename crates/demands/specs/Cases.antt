@@ -1,4 +1,4 @@
--- The small images M, M2, P and K, and the marked cases of docs/RULES.md, "Small image M and its readings".
+-- The small images, and the marked cases of docs/RULES.md, "Small image M and its readings".
 use Prim.Native.Nat.{ℕ, _+_, _*_, _/_, _%_}
 use mathlib.Core.List.{List, [], _∷_, _++_}
 use lib.ListN.{length}
@@ -93,6 +93,13 @@ K1 = withLines [] [] (0x0A ∷ 1 ∷ [])
 unfoldable pub K2 : List ℕ
 K2 = withLines (0x85 ∷ 0x85 ∷ 3 ∷ []) (0x2028 ∷ 0x2029 ∷ 3 ∷ []) []
 
+-- 20 and 0A-0D White, and Start: a-z and the code points next to line ends, 00-09, 0E-1F, 84-86, 2027-202A and FEFF
+unfoldable pub K3 : List ℕ
+K3 =
+    imageOf
+    (0x00 ∷ 0x09 ∷ 1 ∷ 0x0A ∷ 0x0D ∷ 4 ∷ 0x0E ∷ 0x1F ∷ 1 ∷ 0x20 ∷ 0x20 ∷ 4 ∷ 0x61 ∷ 0x7A ∷ 1 ∷ 0x84 ∷ 0x86 ∷ 1 ∷ 0x2027 ∷ 0x202A ∷ 1 ∷ 0xFEFF ∷ 0xFEFF ∷ 1 ∷ [])
+    []
+
 pub record Case : Type 0 where
   pub image : List ℕ
   pub text : List ℕ
@@ -129,6 +136,11 @@ lineCases =
     ∷ on K1 (0x0D ∷ 0x0A ∷ 0x62 ∷ 0x20 ∷ []) (words (3 ∷ 0 ∷ 1 ∷ 1 ∷ 1 ∷ 1 ∷ 3 ∷ 1 ∷ 3 ∷ 3 ∷ 4 ∷ 2 ∷ []))
     ∷ on K1 (0x61 ∷ 0x0A ∷ 0x62 ∷ 0x20 ∷ []) (words (1 ∷ 0 ∷ 3 ∷ 1 ∷ 3 ∷ 3 ∷ 4 ∷ 2 ∷ []))
     ∷ on K2 (0xE2 ∷ 0x80 ∷ 0xA8 ∷ 0x61 ∷ []) (words (2 ∷ 0 ∷ 3 ∷ 1 ∷ 1 ∷ 3 ∷ 4 ∷ 2 ∷ []))
+    ∷ on K (0x0B ∷ 0x0A ∷ 0x0C ∷ 0x0A ∷ 0x0A ∷ 0x61 ∷ []) (words (3 ∷ 0 ∷ 5 ∷ 1 ∷ 1 ∷ 5 ∷ 6 ∷ 6 ∷ []))
+    ∷ on K2 (0x0D ∷ 0xC2 ∷ 0x85 ∷ 0x0A ∷ 0xE2 ∷ 0x80 ∷ 0xA8 ∷ 0x0A ∷ [])
+    (words (3 ∷ 0 ∷ 1 ∷ 1 ∷ 2 ∷ 1 ∷ 3 ∷ 2 ∷ 3 ∷ 3 ∷ 4 ∷ 3 ∷ 2 ∷ 4 ∷ 7 ∷ 4 ∷ 3 ∷ 7 ∷ 8 ∷ 5 ∷ []))
+    ∷ on K3 (0x00 ∷ 0x09 ∷ 0x0E ∷ 0x1C ∷ 0x1D ∷ 0x1E ∷ 0x1F ∷ 0xC2 ∷ 0x84 ∷ 0xC2 ∷ 0x86 ∷ 0xE2 ∷ 0x80 ∷ 0xA7 ∷ 0xE2 ∷ 0x80 ∷ 0xAA ∷ 0xEF ∷ 0xBB ∷ 0xBF ∷ 0x20 ∷ [])
+    (words (1 ∷ 0 ∷ 20 ∷ 1 ∷ 3 ∷ 20 ∷ 21 ∷ 1 ∷ []))
     ∷ on K2 (0xC2 ∷ 0x85 ∷ 0x61 ∷ 0xE2 ∷ 0x80 ∷ 0xA9 ∷ 0x62 ∷ []) (words (2 ∷ 0 ∷ 2 ∷ 1 ∷ 1 ∷ 2 ∷ 3 ∷ 2 ∷ 2 ∷ 3 ∷ 6 ∷ 2 ∷ 1 ∷ 6 ∷ 7 ∷ 3 ∷ []))
     ∷ []
 

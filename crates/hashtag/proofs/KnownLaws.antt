@@ -13,7 +13,7 @@ use Rattle.lists.proofs.BoolLaws.{impossible}
 use Rattle.utf8.specs.declared.Text.the-variants.{WellFormed}
 use Rattle.utf8.specs.Lead.{knownLength, isTrail}
 use Rattle.utf8.specs.Text.{charactersAt, textOf}
-use Rattle.utf8.proofs.TextLaws.{first-byte}
+use Rattle.utf8.proofs.TextLaws.{first-byte, first-at}
 use Rattle.line.specs.Line.{endsLine, one, LineAt}
 use Rattle.line.specs.Ends.{look, endAt}
 use Rattle.line.proofs.LineLaws.{told, end-at, line-counted, counted-few, line-passes}
@@ -57,8 +57,7 @@ module _ (s text : List ℕ) where
 
   first-is : {at n : ℕ} → Stands s text at n → isTrail (getD text at 0) ≡ false
   first-is {at} {n} h =
-      let q : at + 0 ≡ at = omega arith in
-      ap isTrail (sym (byte-at at 0 ∙ ap (λ (k : ℕ). getD text k 0) q)) ∙ first-byte (drop at text) (h .code) n (h .step) .first
+      ap isTrail (sym (first-at text at)) ∙ first-byte (drop at text) (h .code) n (h .step) .first
 
   others-are : {at n : ℕ} → Stands s text at n → (i : ℕ) → at < i → i < at + n → isTrail (getD text i 0) ≡ true
   others-are {at} {n} h i l u =

@@ -10,13 +10,12 @@ use native.Mathlib.Omega.{arith}
 use borrow.Author.Tests.{eqb-true, ne-eqb, not-true}
 use lib.Dec.{leb, eqb}
 use lib.ListN.{length, getD, drop}
-use lib.Seq.{getD-drop}
 use Rattle.lists.proofs.BoolLaws.{and-left, or-cases}
 use Rattle.utf8.specs.declared.Step.{Step}
 use Rattle.utf8.specs.declared.Step.the-variants.{Scalar, IllFormed, End}
 use Rattle.utf8.specs.Head.{stepOf}
 use Rattle.utf8.specs.Lead.{packed}
-use Rattle.utf8.proofs.TextLaws.{step-bounds, first-byte, ascii-at}
+use Rattle.utf8.proofs.TextLaws.{first-at, step-bounds, first-byte, ascii-at}
 use Rattle.line.specs.Line.{isLineEnd}
 use Rattle.line.proofs.LineLaws.{LineEnd, low, next, separator, no-line-end}
 use Rattle.image.specs.Class.{classNamed}
@@ -88,13 +87,10 @@ sign-ends-none x e = no-line-end x (λ l. none l (one-of x e))
 pub no-sign-here : (text : List ℕ) (at : ℕ) → (getD text at 0 ≡ 0x23 → ⊥) → (getD text at 0 ≡ 0xEF → ⊥) → false ≡ signOf (stepOf (drop at text))
 no-sign-here text at h k = sym (go (stepOf (drop at text)) refl)
   where
-    zero-th : getD (drop at text) 0 0 ≡ getD text at 0
-    zero-th = getD-drop at text 0 0 ∙ ap (λ (i : ℕ). getD text i 0) (let q : at + 0 ≡ at = omega arith in q)
-
     none : (x n : ℕ) → stepOf (drop at text) ≡ Scalar x n → (x ≡ 0x23) ⊎ ((x ≡ 0xFE5F) ⊎ (x ≡ 0xFF03)) → ⊥
-    none x n e (inl f) = h (sym zero-th ∙ first-byte (drop at text) x n e .ascii (omega arith) ∙ f)
-    none x n e (inr (inl f)) = k (omega (arith, zero-th, first-byte (drop at text) x n e .three (omega arith) (omega arith)))
-    none x n e (inr (inr f)) = k (omega (arith, zero-th, first-byte (drop at text) x n e .three (omega arith) (omega arith)))
+    none x n e (inl f) = h (sym (first-at text at) ∙ first-byte (drop at text) x n e .ascii (omega arith) ∙ f)
+    none x n e (inr (inl f)) = k (omega (arith, (first-at text at), first-byte (drop at text) x n e .three (omega arith) (omega arith)))
+    none x n e (inr (inr f)) = k (omega (arith, (first-at text at), first-byte (drop at text) x n e .three (omega arith) (omega arith)))
 
     by : (x n : ℕ) → stepOf (drop at text) ≡ Scalar x n → (b : Bool) → isSign x ≡ b → b ≡ false
     by x n e true f = absurd (none x n e (one-of x f))

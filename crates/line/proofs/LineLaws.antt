@@ -6,7 +6,6 @@ use mathlib.Core.List.{List, [], _∷_, _++_, append-assoc}
 use native.Mathlib.Omega.{arith}
 use native.Mathlib.Decide.{decLt}
 use lib.ListN.{length, getD, drop}
-use lib.Seq.{getD-drop}
 use lib.Dec.{leb, ltb, eqb}
 use borrow.Author.Tests.{eq-eqb, ne-eqb, eqb-true, lt-ltb, le-ltb, le-leb, lt-leb}
 use Rattle.lists.proofs.BoolLaws.{impossible}
@@ -16,8 +15,8 @@ use Rattle.utf8.specs.Head.{stepOf, IllHead}
 use Rattle.utf8.specs.Text.{Character, decode, charactersAt, widthOf}
 use Rattle.utf8.proofs.SequenceLaws.{ill-at}
 use Rattle.utf8.proofs.EncodedLaws.{AllWide}
-use Rattle.utf8.proofs.TextLaws.{first-byte, decode-ill, decode-end, characters-few, characters-wide, ascii-at, characters-step, characters-end, width-append}
-use Rattle.line.specs.Line.{isLineEnd, feeds, endsLine, one, lineEnds, before, lineOf, LineAt}
+use Rattle.utf8.proofs.TextLaws.{first-byte, decode-end, characters-few, characters-wide, first-at, ascii-at, characters-step, characters-ill, characters-end, width-append}
+use Rattle.line.specs.Line.{isLineEnd, feedFirst, endsLine, one, lineEnds, before, lineOf, LineAt}
 use Rattle.line.specs.Ends.{look, endOf, endAt}
 
 -- the code points that end a line, by ranges
@@ -81,36 +80,33 @@ module _ (x : ℕ) (r : List Character) where
   unfolding endsLine
   ends-here e n = rw (e, ne-eqb x 0x0D n)
 
-  pub return-fed : x ≡ 0x0D → feeds r ≡ true → one (endsLine x r) ≡ 0
+  pub return-before-feed : x ≡ 0x0D → feedFirst r ≡ true → one (endsLine x r) ≡ 0
   unfolding endsLine
-  return-fed e f = rw (is-line-end x (low (omega arith) (omega arith)), eq-eqb x 0x0D e, f)
+  return-before-feed e f = rw (is-line-end x (low (omega arith) (omega arith)), eq-eqb x 0x0D e, f)
 
-  pub return-alone : x ≡ 0x0D → feeds r ≡ false → one (endsLine x r) ≡ 1
+  pub return-alone : x ≡ 0x0D → feedFirst r ≡ false → one (endsLine x r) ≡ 1
   unfolding endsLine
   return-alone e f = rw (is-line-end x (low (omega arith) (omega arith)), eq-eqb x 0x0D e, f)
 
 module _ (text : List ℕ) where
-  first-at : (at : ℕ) → getD (drop at text) 0 0 ≡ getD text at 0
-  first-at at = getD-drop at text 0 0 ∙ ap (λ (k : ℕ). getD text k 0) (let q : at + 0 ≡ at = omega arith in q)
-
   -- LINE FEED is one byte
-  pub feeds-end : (at : ℕ) → length text ≤ at → feeds (charactersAt text at) ≡ false
-  feeds-end at h = ap feeds (characters-end text at h)
+  pub feed-end : (at : ℕ) → length text ≤ at → feedFirst (charactersAt text at) ≡ false
+  feed-end at h = ap feedFirst (characters-end text at h)
 
-  pub feeds-byte : (at : ℕ) → at < length text → feeds (charactersAt text at) ≡ eqb (getD text at 0) 0x0A
-  feeds-byte at h = go (eqb (getD text at 0) 0x0A) refl
+  pub feed-byte : (at : ℕ) → at < length text → feedFirst (charactersAt text at) ≡ eqb (getD text at 0) 0x0A
+  feed-byte at h = go (eqb (getD text at 0) 0x0A) refl
     where
-      by : (getD text at 0 ≡ 0x0A → ⊥) → (t : Step) → stepOf (drop at text) ≡ t → feeds (charactersAt text at) ≡ false
+      by : (getD text at 0 ≡ 0x0A → ⊥) → (t : Step) → stepOf (drop at text) ≡ t → feedFirst (charactersAt text at) ≡ false
       by n (Scalar x k) e =
-          ap feeds (characters-step text at x k e)
-          ∙ ne-eqb x 0x0A (λ q. n (sym (first-at at) ∙ first-byte (drop at text) x k e .ascii (omega arith) ∙ q))
-      by n (IllFormed k) e = ap (λ d. feeds (d .characters)) (decode-ill (drop at text) (ill-at (drop at text) k e))
-      by n End e = ap (λ d. feeds (d .characters)) (decode-end (drop at text) e)
+          ap feedFirst (characters-step text at x k e)
+          ∙ ne-eqb x 0x0A (λ q. n (sym (first-at text at) ∙ first-byte (drop at text) x k e .ascii (omega arith) ∙ q))
+      by n (IllFormed k) e = ap feedFirst (characters-ill text at (ill-at (drop at text) k e))
+      by n End e = ap (λ d. feedFirst (d .characters)) (decode-end (drop at text) e)
 
-      go : (b : Bool) → eqb (getD text at 0) 0x0A ≡ b → feeds (charactersAt text at) ≡ eqb (getD text at 0) 0x0A
+      go : (b : Bool) → eqb (getD text at 0) 0x0A ≡ b → feedFirst (charactersAt text at) ≡ eqb (getD text at 0) 0x0A
       go true e =
           let b = eqb-true (getD text at 0) 0x0A e in
-          ap feeds (characters-step text at (getD text at 0) 1 (ascii-at text at h (omega arith)))
+          ap feedFirst (characters-step text at (getD text at 0) 1 (ascii-at text at h (omega arith)))
       go false e = by (λ q. impossible (cc (eq-eqb (getD text at 0) 0x0A q))) (stepOf (drop at text)) refl ∙ sym e
 
   -- what the first byte of a character tells
@@ -123,7 +119,7 @@ module _ (text : List ℕ) where
     told-none z = no-line-end x none
       where
         first : (k : ℕ) → getD (drop at text) 0 0 ≡ k → endOf k ≡ 0
-        first k q = ap endOf (sym (sym (first-at at) ∙ q)) ∙ z
+        first k q = ap endOf (sym (sym (first-at text at) ∙ q)) ∙ z
 
         lies : (k : ℕ) → 0x0A ≤ k → k ≤ 0x0D → endOf k ≡ 0 → Dec (k < 0x0D) → ⊥
         lies k h l q (yes m) = let w : _≡_ {A = ℕ} 1 0 = sym (rw (le-ltb k 0x0A h, lt-ltb k 0x0D m)) ∙ q in omega arith
@@ -172,7 +168,7 @@ module _ (text : List ℕ) where
   unfolding endAt
   end-none at e = rw e
 
--- of characters that begin at byte p or after a place, no line end has its last byte before that place
+-- characters that begin at byte p have no line end before byte p, nor before an earlier one
 ends-later : (p q : ℕ) (cs : List Character) → AllWide cs → q ≤ p → before q (lineEnds p cs) ≡ 0
 unfolding lineEnds
 ends-later p q [] a h = refl

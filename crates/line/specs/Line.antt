@@ -12,14 +12,14 @@ unfoldable pub isLineEnd : ℕ → Bool
 isLineEnd x = eqb x 0x0A || (eqb x 0x0B || (eqb x 0x0C || (eqb x 0x0D || (eqb x 0x85 || (eqb x 0x2028 || eqb x 0x2029)))))
 
 -- whether LINE FEED is the first of characters
-abbrev pub feeds : List Character → Bool
-feeds [] = false
-feeds (c ∷ r) = eqb (c .code) 0x0A
+abbrev pub feedFirst : List Character → Bool
+feedFirst [] = false
+feedFirst (c ∷ r) = eqb (c .code) 0x0A
 
 -- whether a line ends with the code point x, where the characters r follow it: with CARRIAGE RETURN it doesn't if LINE FEED is right
 -- after it, since the line ends with that
 unfoldable pub endsLine : ℕ → List Character → Bool
-endsLine x r = isLineEnd x && not (eqb x 0x0D && feeds r)
+endsLine x r = isLineEnd x && not (eqb x 0x0D && feedFirst r)
 
 abbrev pub one : Bool → ℕ
 one true = 1

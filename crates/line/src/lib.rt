@@ -5,7 +5,7 @@ ghost use lib.ListN.{length, drop};
 ghost use Rattle.utf8.specs.declared.Step.the-variants.{Scalar};
 ghost use Rattle.utf8.specs.Head.{stepOf};
 ghost use Rattle.utf8.specs.Text.{charactersAt};
-ghost use Rattle.line.specs.Line.{isLineEnd, feeds, endsLine, one};
+ghost use Rattle.line.specs.Line.{isLineEnd, feedFirst, endsLine, one};
 ghost use Rattle.line.specs.Ends.{endOf, EndsOf, endAt};
 
 const LINE_FEED: u32 = 0x0A;
@@ -46,8 +46,8 @@ fn is_line_end(code: u32) -> bool
 }
 
 // Whether LINE FEED stands at a place.
-fn feeds_at(text: &[u8], at: usize) -> bool
-    ensures { λ r. ⌜ r ≡ feeds (charactersAt (now (text .entry)) at) ⌝ }
+fn is_feed_at(text: &[u8], at: usize) -> bool
+    ensures { λ r. ⌜ r ≡ feedFirst (charactersAt (now (text .entry)) at) ⌝ }
 {
     if text.len() <= at {
         return false;
@@ -65,7 +65,7 @@ fn look(text: &[u8], code: u32, next: usize) -> u32
     if code != CARRIAGE_RETURN {
         return 1;
     }
-    if feeds_at(text, next) {
+    if is_feed_at(text, next) {
         return 0; // the line ends with the LINE FEED
     }
     1

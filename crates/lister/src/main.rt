@@ -25,7 +25,7 @@ fn print_kind(kind: u32) {
     printing::print_text(b"whitespace");
 }
 
-// A token's kind, places and line, of the token whose words begin at word `at`.
+// The kind, the places and the line of the token whose words begin at word `at`.
 fn print_token(words: &[u32], at: usize)
     requires { ⌜ at + recordSize ≤ length (now words) ⌝ }
 {

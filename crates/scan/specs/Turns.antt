@@ -44,7 +44,7 @@ begunBy r none = 4
 begunBy r (some k) = r
 
 -- the turn of a character: no token is complete, 0; the one under way is, and another begins, 1; a medial waits, 2;
--- the one that waits is settled, and the character comes again, 3; no token begins, 4
+-- the one that waits is settled, and the character has another turn after that, 3; no token begins, 4
 abbrev pub turnBy : {A : Type 0} → Meaning A → Phase → A → ℕ
 turnBy m nothing c = begunBy 0 (kindOf m c)
 turnBy m (within k) c = cond (goesWith m k c) 0 (cond (linksWith m k c) 2 (begunBy 1 (kindOf m c)))

@@ -31,8 +31,8 @@ const IDENTIFIER: u32 = 1;
 const WAITING: u32 = 4;
 
 // What a character does, by the state and its traits. No token is complete, since the one under way goes on or the first begins: GOES_ON.
-// The one under way is complete, and another begins: BEGINS. A medial waits: WAITS. The one that waits is settled, and the character comes
-// again: SETTLES. No token begins: any other.
+// The one under way is complete, and another begins: BEGINS. A medial waits: WAITS. The one that waits is settled, and the character
+// has another turn after that: SETTLES. No token begins: any other.
 const TURNS: [u8; 128] = [
     4,
     0,
@@ -332,18 +332,18 @@ fn pick_start(turn: usize, start: usize, at: usize) -> usize
 }
 
 // The line on which that token began.
-fn pick_line(turn: usize, first: u32, line: u32) -> u32
-    ensures { λ r. ⌜ r ≡ startBy turn first line ⌝ }
+fn pick_line(turn: usize, start: u32, line: u32) -> u32
+    ensures { λ r. ⌜ r ≡ startBy turn start line ⌝ }
 {
     if turn == GOES_ON {
-        return first;
+        return start;
     }
     line
 }
 
 // The words of all tokens up to where no token begins or the text is ill-formed. `w` is the first word after the tokens that are complete.
 // After each character the record of the token that it is in is written there, up to that character: the loop has no test for where
-// tokens end. `first` is the line of `start`, `mid_line` that of `mid`, `line` that of `at`.
+// tokens end. `start_line` is the line of `start`, `mid_line` that of `mid`, `line` that of `at`.
 pub fn write_tokens<'a>(image: &'a [u8], table: &'a [u8; 128], text: &'a [u8], out: &mut [u32])
     requires { ⌜ refusalOf (now image) ≡ none ⌝ }
     requires { ⌜ TokenTableOf (now image) (now table) ⌝ }
@@ -358,7 +358,7 @@ pub fn write_tokens<'a>(image: &'a [u8], table: &'a [u8; 128], text: &'a [u8], o
     let mut memo = character::no_memo();
     let mut state = NOTHING;
     let mut start = 0;
-    let mut first = 1;
+    let mut start_line = 1;
     let mut mid = 0;
     let mut mid_line = 1;
     let mut at = 0;
@@ -378,18 +378,18 @@ pub fn write_tokens<'a>(image: &'a [u8], table: &'a [u8; 128], text: &'a [u8], o
             }
             state -= WAITING;
             start = mid;
-            first = mid_line;
+            start_line = mid_line;
             w += RECORD_WORDS;
-            put_record(&mut out[w..], state, start, at, first);
+            put_record(&mut out[w..], state, start, at, start_line);
             turn = find_turn(&turns, state, c.traits);
         }
         let next = at + len;
         if turn <= BEGINS {
             state = state_after(&after, c.traits);
             start = pick_start(turn, start, at);
-            first = pick_line(turn, first, line);
+            start_line = pick_line(turn, start_line, line);
             w += RECORD_WORDS * turn;
-            put_record(&mut out[w..], state, start, next, first);
+            put_record(&mut out[w..], state, start, next, start_line);
             line += line::count_end(&ends, text, at, c.code, len);
             at = next;
             continue;

@@ -321,11 +321,15 @@ turn s at x n h e =
           ∙ shift-shift at n (textOf (drop (at + n) s));
     }
 
+-- the first byte from a place on
+pub first-at : (s : List ℕ) (at : ℕ) → getD (drop at s) 0 0 ≡ getD s at 0
+first-at s at = getD-drop at s 0 0 ∙ ap (λ (k : ℕ). getD s k 0) (let q : at + 0 ≡ at = omega arith in q)
+
 -- a byte below 80 is its own code point
 pub ascii-at : (s : List ℕ) (at : ℕ) → at < length s → getD s at 0 < 0x80 → stepOf (drop at s) ≡ Scalar (getD s at 0) 1
 ascii-at s at h b =
     let l = length-drop at s in
-    let z : getD (drop at s) 0 0 ≡ getD s at 0 = getD-drop at s 0 0 ∙ ap (λ (k : ℕ). getD s k 0) (let q : at + 0 ≡ at = omega arith in q) in
+    let z = first-at s at in
     sym (ascii (drop at s) (omega arith) (omega arith)) ∙ ap (λ (x : ℕ). Scalar x 1) z
 
 pub ascii-turn : (s : List ℕ) (at : ℕ) → at < length s → getD s at 0 < 0x80 → Turn s at 1

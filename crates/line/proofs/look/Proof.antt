@@ -2,7 +2,7 @@
 use mathlib.Core.Path.{sym, _∙_}
 use borrow.Author.Needs.{needs}
 use borrow.Author.Tests.{not-true, not-false}
-use Rattle.line.proofs.LineLaws.{ends-not, ends-here, return-fed, return-alone}
+use Rattle.line.proofs.LineLaws.{ends-not, ends-here, return-before-feed, return-alone}
 use Rattle.line.proofs.look.Statement.{statement}
 use Rattle.line.proofs.look.Tie as tie
 
@@ -13,10 +13,10 @@ returns-2 : tie.Need-returns-2
 returns-2 c = sym (ends-here _ _ (sym (c .before .before .is-line-end .ensures) ∙ not-false _ (c .before .if1 .left)) (c .if2 .taken))
 
 returns-3 : tie.Need-returns-3
-returns-3 c = sym (return-fed _ _ (c .before .before .if2 .left) (sym (c .before .feeds-at .ensures) ∙ c .if3 .taken))
+returns-3 c = sym (return-before-feed _ _ (c .before .before .if2 .left) (sym (c .before .is-feed-at .ensures) ∙ c .if3 .taken))
 
 returns-4 : tie.Need-returns-4
-returns-4 c = sym (return-alone _ _ (c .before .before .if2 .left) (sym (c .before .feeds-at .ensures) ∙ c .if3 .left))
+returns-4 c = sym (return-alone _ _ (c .before .before .if2 .left) (sym (c .before .is-feed-at .ensures) ∙ c .if3 .left))
 
 pub look-spec : {M : Type 1} → statement M
 look-spec = tie.close (tie.spec (λ c κs. search needs) returns returns-2 (λ c κs. search needs) returns-3 returns-4)

@@ -43,11 +43,11 @@ use Rattle.scan.proofs.write_tokens.Statement.{statement}
 use Rattle.scan.proofs.write_tokens.Tie as tie
 
 abbrev Inv-loop : tie.InvT-loop
-Inv-loop image table text out₀ turns after held ends memo₀ state₀ start₀ first₀ mid₀ midLine₀ at₀ line₀ w₀ out memo state start first mid midLine at line w =
-    Writing image text out₀ out state start mid at w × Lined text start first mid midLine at line × MemoOf image memo
+Inv-loop image table text out₀ turns after held ends memo₀ state₀ start₀ startLine₀ mid₀ midLine₀ at₀ line₀ w₀ out memo state start startLine mid midLine at line w =
+    Writing image text out₀ out state start mid at w × Lined text start startLine mid midLine at line × MemoOf image memo
 
 abbrev μ-loop : tie.MeasureT-loop
-μ-loop image table text out₀ turns after held ends memo₀ state₀ start₀ first₀ mid₀ midLine₀ at₀ line₀ w₀ out memo state start first mid midLine at line w =
+μ-loop image table text out₀ turns after held ends memo₀ state₀ start₀ startLine₀ mid₀ midLine₀ at₀ line₀ w₀ out memo state start startLine mid midLine at line w =
     length text - at
 
 -- the character that was read stands at the place
@@ -84,7 +84,7 @@ ready :
     let l = c .before .before .before .before .before .before .before .loop in
     let r = c .before .before .before .before .before .read-for-tokens .result in
     let j = c .if2 in
-    Ready (a .image .now) (a .text .now) (a .out .now) (j .out) (j .state) (j .start) (j .first) (l .mid) (l .at) (j .w) (r .len) (r .traits) (j .turn)
+    Ready (a .image .now) (a .text .now) (a .out .now) (j .out) (j .state) (j .start) (j .start-line) (l .mid) (l .at) (j .w) (r .len) (r .traits) (j .turn)
 ready c =
     let f = looked (c .before) in
     let i = c .before .before .before .before .before .before .before .loop .inv in
@@ -114,7 +114,7 @@ turned-line :
 turned-line c =
     let l = c .before .before .before .before .before .before .before .before .before .before .before .before .loop in
     let j = c .before .before .before .before .before .if2 in
-    lined-turn _ (j .start) (j .first) (l .at) (l .line) (j .turn) (ready (c .before .before .before .before .before) .began) (l .inv .1 .here .same) _ _ (c .before .pick-start .ensures) (c .pick-line .ensures)
+    lined-turn _ (j .start) (j .start-line) (l .at) (l .line) (j .turn) (ready (c .before .before .before .before .before) .began) (l .inv .1 .here .same) _ _ (c .before .pick-start .ensures) (c .pick-line .ensures)
 
 -- the sequence at the place, and the line after it
 sequence :
