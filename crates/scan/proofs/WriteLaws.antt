@@ -119,8 +119,8 @@ module _ (s text out₀ : List ℕ) where
     pub same : out ≡ laid out₀ 0 (listedWords text tokens ++ old)
 
 -- the lines of the places where the token under way began, where the medial stands that waits, and that is reached
-pub record Lined (text : List ℕ) (start first mid midLine at line : ℕ) : Type 0 where
-  pub began : first ≡ lineOf text start
+pub record Lined (text : List ℕ) (start startLine mid midLine at line : ℕ) : Type 0 where
+  pub began : startLine ≡ lineOf text start
   pub medial : midLine ≡ lineOf text mid
   pub here : LineAt text at line
 
@@ -128,10 +128,10 @@ pub lined-begins : (text : List ℕ) → Lined text 0 1 0 1 0 1
 lined-begins text = let l = line-begins text in record { began = l .same; medial = l .same; here = l }
 
 -- .. and of the token under way after a turn
-pub lined-turn : (text : List ℕ) (start first at line turn : ℕ) → first ≡ lineOf text start → line ≡ lineOf text at →
-    (p l : ℕ) → p ≡ startBy turn start at → l ≡ startBy turn first line → l ≡ lineOf text p
-lined-turn text start first at line zero e f p l g h = h ∙ e ∙ ap (lineOf text) (sym g)
-lined-turn text start first at line (suc r) e f p l g h = h ∙ f ∙ ap (lineOf text) (sym g)
+pub lined-turn : (text : List ℕ) (start startLine at line turn : ℕ) → startLine ≡ lineOf text start → line ≡ lineOf text at →
+    (p l : ℕ) → p ≡ startBy turn start at → l ≡ startBy turn startLine line → l ≡ lineOf text p
+lined-turn text start startLine at line zero e f p l g h = h ∙ e ∙ ap (lineOf text) (sym g)
+lined-turn text start startLine at line (suc r) e f p l g h = h ∙ f ∙ ap (lineOf text) (sym g)
 
 pub writing-begins : (s text out : List ℕ) → Writing s text out out 0 0 0 0 0
 writing-begins s text out = record { tokens = []; under-way = idle; reached = reached-begins s text; began = refl; placed = refl; long = refl; same = sym (laid-none out 0) }
@@ -265,20 +265,20 @@ module _ {s text out₀ out : List ℕ} {state start mid at w : ℕ} (i : Writin
     writes-stop h = all-shown (sym (ap (λ x. x .tokens) (left-here (i .reached) k h .1)))
 
 -- what waited is settled, and the turn of the character at the place is known
-pub record Ready (s text out₀ out : List ℕ) (state start first mid at w len traits turn : ℕ) : Type 0 where
+pub record Ready (s text out₀ out : List ℕ) (state start startLine mid at w len traits turn : ℕ) : Type 0 where
   pub writing : Writing s text out₀ out state start mid at w
-  pub began : first ≡ lineOf text start
+  pub began : startLine ≡ lineOf text start
   pub look : Look s text state at len traits turn
   pub settled : turn ≡ 3 → ⊥
 
-pub ready-after : {s text out₀ out : List ℕ} {state start first mid at w len traits state₀ turn₀ turn : ℕ} → Writing s text out₀ out state start mid at w →
-    state < waiting → first ≡ lineOf text start → Look s text state₀ at len traits turn₀ → turn ≡ turnOf state traits →
-    Ready s text out₀ out state start first mid at w len traits turn
+pub ready-after : {s text out₀ out : List ℕ} {state start startLine mid at w len traits state₀ turn₀ turn : ℕ} → Writing s text out₀ out state start mid at w →
+    state < waiting → startLine ≡ lineOf text start → Look s text state₀ at len traits turn₀ → turn ≡ turnOf state traits →
+    Ready s text out₀ out state start startLine mid at w len traits turn
 ready-after {s} {text} {state = state} {at = at} {len = len} {traits = traits} {turn = turn} i l e f k =
     let g : Look s text state at len traits turn = record { accepted = f .accepted; here = f .here; known = k } in
     record { writing = i; began = e; look = g; settled = λ q. omega (arith, waits-here i g q .0) }
 
-pub ready-by : {s text out₀ out out′ : List ℕ} {state start first mid at w len traits turn state′ start′ first′ w′ turn′ : ℕ} →
-    Ready s text out₀ out state start first mid at w len traits turn →
-    out′ ≡ out → state′ ≡ state → start′ ≡ start → first′ ≡ first → w′ ≡ w → turn′ ≡ turn → Ready s text out₀ out′ state′ start′ first′ mid at w′ len traits turn′
+pub ready-by : {s text out₀ out out′ : List ℕ} {state start startLine mid at w len traits turn state′ start′ startLine′ w′ turn′ : ℕ} →
+    Ready s text out₀ out state start startLine mid at w len traits turn →
+    out′ ≡ out → state′ ≡ state → start′ ≡ start → startLine′ ≡ startLine → w′ ≡ w → turn′ ≡ turn → Ready s text out₀ out′ state′ start′ startLine′ mid at w′ len traits turn′
 ready-by r e f g h k t = rw (e, f, g, h, k, t) r
