@@ -1,5 +1,5 @@
--- Looking for the next hashtag in a text that is well-formed: bytes that begin neither a sign nor a line end are passed over, lines are
--- counted, and the character before a sign is found by stepping back. Assumes nothing.
+-- Looking for the next hashtag in a text that is well-formed: bytes are passed over up to where the search stops, the line grows by the
+-- line ends among them, and the character before a sign is found by stepping back. Assumes nothing.
 use Prim.Native.Nat.{ℕ, zero, suc, _+_, _-_, _≤_, _<_}
 use mathlib.Core.Path.{_≡_, refl, sym, ap, subst, _∙_}
 use mathlib.Core.Bool.{Bool, true, false, _&&_}
