@@ -10,16 +10,22 @@ use std::str::Utf8Error;
 const START: u8 = 1;
 const CONTINUE: u8 = 2;
 const SYNTAX: u8 = 4;
-const WHITE: u8 = 8;
+const BLANK: u8 = 8;
 const MEDIAL: u8 = 16;
 /// Hashtag Continue.
 const TAG: u8 = 32;
+/// White that ends a line, and white that is a direction mark: they are no blanks.
+const LINE_END: u8 = 64;
+const MARK: u8 = 128;
 
 /// The signs that begin a hashtag.
 pub const SIGNS: [char; 3] = ['#', '\u{FE5F}', '\u{FF03}'];
 
 /// The characters that end a line.
 const LINE_ENDS: [char; 7] = ['\n', '\x0B', '\x0C', '\r', '\u{85}', '\u{2028}', '\u{2029}'];
+
+/// The direction marks.
+const MARKS: [char; 2] = ['\u{200E}', '\u{200F}'];
 
 /// Why a text is refused.
 #[derive(Clone, Copy, Debug, PartialEq, Eq)]
@@ -33,11 +39,13 @@ pub enum Refused {
     Characters(usize),
     /// The records needed.
     Room(usize),
+    /// The first mark that parts a token.
+    Mark(usize),
 }
 
 /// The flags of every code point: a block index and blocks of 256, and the
 /// first block again by byte, empty from 80 on; and whether a line end may
-/// be in a token that is not white space.
+/// be in a token that is not of line ends.
 pub struct Tables {
     bytes: [u8; 256],
     index: Vec<u16>,
@@ -52,7 +60,7 @@ fn flags(class: Class, medial: bool) -> u8 {
         Class::Start => START | CONTINUE | TAG,
         Class::Nonstart => CONTINUE | TAG,
         Class::Syntax => SYNTAX | medial,
-        Class::White => WHITE | medial,
+        Class::White => BLANK | medial,
         Class::Unassigned | Class::Other => medial,
     }
 }
@@ -75,6 +83,12 @@ fn flat(ranges: &[Range], profile: &[(u32, Role)]) -> Vec<u8> {
     }
     for sign in SIGNS {
         all[sign as usize] &= !TAG;
+    }
+    let others = LINE_ENDS.map(|end| (end, LINE_END)).into_iter();
+    for (c, flag) in others.chain(MARKS.map(|mark| (mark, MARK))) {
+        if all[c as usize] & BLANK != 0 {
+            all[c as usize] ^= BLANK | flag;
+        }
     }
     all
 }
@@ -233,26 +247,42 @@ impl Tables {
         end
     }
 
-    /// The end of the white space from the byte on; its line ends are added.
+    /// The end of the line ends from the byte on, which are added; of CR LF the LF is one.
     #[inline(always)]
-    fn white(&self, text: &[u8], mut at: usize, line: &mut u32) -> usize {
+    fn line_ends(&self, text: &[u8], mut at: usize, line: &mut u32) -> usize {
         loop {
-            while at < text.len() && self.bytes[text[at] as usize] & WHITE != 0 {
-                if text[at] < b' ' {
-                    *line += u32::from(ends_line(text, at));
-                }
+            while at < text.len() && self.bytes[text[at] as usize] & LINE_END != 0 {
+                *line += u32::from(text[at] != b'\r' || text.get(at + 1) != Some(&b'\n'));
                 at += 1;
             }
             if at >= text.len() || text[at] < 0x80 {
                 return at;
             }
             let (found, length) = self.look(text, at);
-            if found & WHITE == 0 {
+            if found & LINE_END == 0 {
                 return at;
             }
-            *line += u32::from(ends_line(text, at));
+            *line += 1;
             at += length;
         }
+    }
+
+    /// Whether marks, from a byte to before another, part a token; the last identifier before them ends at `name`.
+    #[cold]
+    fn parts(&self, text: &[u8], name: usize, at: usize, end: usize) -> bool {
+        if name > at || end == text.len() {
+            return false;
+        }
+        let joins = |flags: u8| flags & (SYNTAX | MEDIAL) == SYNTAX | MEDIAL;
+        let (after, length) = self.look(text, end);
+        if name < at {
+            // A medial may stand between the identifier and the marks.
+            let (before, length) = self.look(text, name);
+            return joins(before) && name + length == at && after & START != 0;
+        }
+        let next = end + length;
+        after & START != 0
+            || joins(after) && next < text.len() && self.look(text, next).0 & CONTINUE != 0
     }
 
     /// Hands each token's kind, start, end and line, if lines are counted, to the taker.
@@ -264,27 +294,37 @@ impl Tables {
     ) -> Result<(), Refused> {
         check_text(text)?;
         let (mut at, mut line) = (0, 1);
+        let (mut name, mut parting) = (usize::MAX, None);
         while at < text.len() {
             let (found, length) = self.look(text, at);
             let mut next = line;
             let (kind, end) = if found & START != 0 {
-                (Kind::Identifier, self.identifier(text, at + length))
-            } else if found & WHITE != 0 && LINES {
-                (Kind::Whitespace, self.white(text, at, &mut next))
-            } else if found & WHITE != 0 {
-                (Kind::Whitespace, self.run(text, at + length, WHITE))
+                name = self.identifier(text, at + length);
+                (Kind::Identifier, name)
+            } else if found & BLANK != 0 {
+                (Kind::Blank, self.run(text, at + length, BLANK))
             } else if found & SYNTAX != 0 {
                 (Kind::Syntax, at + length)
+            } else if found & LINE_END != 0 && LINES {
+                (Kind::LineEnd, self.line_ends(text, at, &mut next))
+            } else if found & LINE_END != 0 {
+                (Kind::LineEnd, self.run(text, at + length, LINE_END))
+            } else if found & MARK != 0 {
+                let end = self.run(text, at + length, MARK);
+                if parting.is_none() && self.parts(text, name, at, end) {
+                    parting = Some(at);
+                }
+                (Kind::Mark, end)
             } else {
                 return Err(Refused::Characters(at));
             };
-            if LINES && self.ends_in_others && kind != Kind::Whitespace {
+            if LINES && self.ends_in_others && kind != Kind::LineEnd {
                 next += line_ends(text, at, end);
             }
             take(kind, at as u32, end as u32, line);
             (at, line) = (end, next);
         }
-        Ok(())
+        parting.map_or(Ok(()), |at| Err(Refused::Mark(at)))
     }
 
     /// Counts the text's tokens.
@@ -295,7 +335,7 @@ impl Tables {
     }
 
     /// Lists the text's tokens, four words each, in place of what the list
-    /// held; after a refusal it holds the tokens before the place.
+    /// held; after a refusal it holds the tokens found before it was known.
     pub fn list(&self, text: &[u8], list: &mut Vec<u32>) -> Result<usize, Refused> {
         list.clear();
         self.lex::<true>(text, |kind, start, end, line| {

@@ -140,7 +140,7 @@ static void tokens(const uint8_t *m, size_t m_len)
 {
     static const uint8_t text[] = {'a', 'b', '.', 'c', '1', ' ', '.'};
     static const uint32_t list[] = {
-        LUFFINARC_KIND_IDENTIFIER, 0, 5, 1, LUFFINARC_KIND_WHITESPACE, 5, 6, 1, LUFFINARC_KIND_SYNTAX, 6, 7, 1,
+        LUFFINARC_KIND_IDENTIFIER, 0, 5, 1, LUFFINARC_KIND_BLANK, 5, 6, 1, LUFFINARC_KIND_SYNTAX, 6, 7, 1,
     };
     uint32_t words[13];
     memset(words, 0xFF, sizeof words);
@@ -154,7 +154,7 @@ static void tokens(const uint8_t *m, size_t m_len)
     memset(words, 0xFF, sizeof words);
     CHECK(luffinarc_list_checked(m, m_len, text, 7, words, 12, answer) == 0 && gave(3, 0, 0));
     CHECK(memcmp(words, list, sizeof list) == 0 && words[12] == UINT32_MAX);
-    CHECK(luffinarc_token(m, m_len, text, 7, 5, answer) == 0 && gave(LUFFINARC_KIND_WHITESPACE, 5, 6));
+    CHECK(luffinarc_token(m, m_len, text, 7, 5, answer) == 0 && gave(LUFFINARC_KIND_BLANK, 5, 6));
     CHECK(luffinarc_token(m, m_len, text, 7, 4, answer) == LUFFINARC_CHARACTERS && gave(4, 0, 0));
     CHECK(luffinarc_token_checked(m, m_len, text, 7, 7, answer) == LUFFINARC_DONE && gave(0, 0, 0));
     CHECK(luffinarc_part(text, 7, 2, 5, answer) == 0 && gave(2, 3, 0));
@@ -208,8 +208,8 @@ static void lines(void)
     };
     static const uint8_t text[] = "a\r\nb\xE2\x80\xA8" "c\r";
     static const uint32_t list[] = {
-        LUFFINARC_KIND_IDENTIFIER, 0, 1, 1, LUFFINARC_KIND_WHITESPACE, 1, 2, 1, LUFFINARC_KIND_SYNTAX, 2, 3, 1,
-        LUFFINARC_KIND_IDENTIFIER, 3, 8, 2, LUFFINARC_KIND_WHITESPACE, 8, 9, 3,
+        LUFFINARC_KIND_IDENTIFIER, 0, 1, 1, LUFFINARC_KIND_LINE_END, 1, 2, 1, LUFFINARC_KIND_SYNTAX, 2, 3, 1,
+        LUFFINARC_KIND_IDENTIFIER, 3, 8, 2, LUFFINARC_KIND_LINE_END, 8, 9, 3,
     };
     uint32_t words[5 * LUFFINARC_TOKEN_WORDS];
     uint8_t image[80];
@@ -218,6 +218,41 @@ static void lines(void)
     CHECK(luffinarc_list(image, 80, text, 9, words, 20, answer) == 0 && gave(5, 0, 0));
     CHECK(memcmp(words, list, sizeof list) == 0);
     CHECK(luffinarc_token(image, 80, text, 9, 3, answer) == 0 && gave(LUFFINARC_KIND_IDENTIFIER, 3, 8));
+}
+
+/* Marks: a list with all kinds of white space, a mark that parts a name, and what comes before and after refusal 14. */
+static void marks(void)
+{
+    static const uint32_t ranges[] = {
+        0x0A, 0x0A, LUFFINARC_CLASS_WHITE, 0x20, 0x20, LUFFINARC_CLASS_WHITE,
+        0x2E, 0x2E, LUFFINARC_CLASS_SYNTAX, 0x61, 0x7A, LUFFINARC_CLASS_START,
+        0x200E, 0x200F, LUFFINARC_CLASS_WHITE,
+    };
+    static const uint8_t text[] = " \n\xE2\x80\x8F" "a.\xE2\x80\x8E\xE2\x80\x8F" "b%";
+    static const uint32_t list[] = {
+        LUFFINARC_KIND_BLANK, 0, 1, 1, LUFFINARC_KIND_LINE_END, 1, 2, 1, LUFFINARC_KIND_MARK, 2, 5, 2,
+        LUFFINARC_KIND_IDENTIFIER, 5, 6, 2, LUFFINARC_KIND_SYNTAX, 6, 7, 2, LUFFINARC_KIND_MARK, 7, 13, 2,
+        LUFFINARC_KIND_IDENTIFIER, 13, 14, 2,
+    };
+    uint32_t words[7 * LUFFINARC_RECORD_WORDS];
+    uint8_t plain[92], medial[100];
+    points[0] = 0x2E, roles[0] = LUFFINARC_ROLE_MEDIAL;
+    CHECK(luffinarc_write(1, ranges, 15, points, roles, 0, plain, 92, answer) == 0 && gave(92, 0, 0));
+    CHECK(luffinarc_write(1, ranges, 15, points, roles, 1, medial, 100, answer) == 0 && gave(100, 0, 0));
+    CHECK(luffinarc_count(plain, 92, text, 14, answer) == 0 && gave(7, 0, 0));
+    CHECK(luffinarc_list(plain, 92, text, 14, words, 28, answer) == 0 && gave(7, 0, 0));
+    CHECK(memcmp(words, list, sizeof list) == 0);
+    memset(words, 0xFF, sizeof words);
+    CHECK(luffinarc_count(medial, 100, text, 14, answer) == LUFFINARC_MARK && gave(7, 0, 0));
+    CHECK(luffinarc_count_checked(medial, 100, text, 14, answer) == LUFFINARC_MARK && gave(7, 0, 0));
+    CHECK(luffinarc_list(medial, 100, text, 14, words, 28, answer) == LUFFINARC_MARK && gave(7, 0, 0));
+    CHECK(luffinarc_list_checked(medial, 100, text, 14, NULL, 0, answer) == LUFFINARC_MARK && gave(7, 0, 0));
+    CHECK(luffinarc_count(medial, 100, text, 15, answer) == LUFFINARC_CHARACTERS && gave(14, 0, 0));
+    CHECK(luffinarc_count(medial, 100, text, 12, answer) == LUFFINARC_ILL_FORMED && gave(10, 2, 0));
+    CHECK(words[0] == UINT32_MAX);
+    CHECK(luffinarc_list(medial, 100, text, 13, words, 20, answer) == LUFFINARC_ROOM && gave(6, 0, 0));
+    CHECK(luffinarc_token(medial, 100, text, 14, 7, answer) == 0 && gave(LUFFINARC_KIND_MARK, 7, 13));
+    CHECK(luffinarc_token_checked(medial, 100, text, 14, 10, answer) == 0 && gave(LUFFINARC_KIND_MARK, 10, 13));
 }
 
 /* Ill-formed texts: the place, and the length of the maximal subpart there. */
@@ -256,6 +291,7 @@ int main(int argc, char **argv)
     tokens(m, m_len);
     hashtags(m, m_len);
     lines();
+    marks();
     ill_formed(m, m_len);
     printf("%d passed, %d failed\n", passed, failed);
     return failed != 0;

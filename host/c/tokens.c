@@ -41,6 +41,7 @@ static void print_refusal(uint32_t refusal, const uint64_t *answer)
     case LUFFINARC_RANGE:
     case LUFFINARC_ENTRY:
     case LUFFINARC_CHARACTERS:
+    case LUFFINARC_MARK:
         printf("refused %" PRIu32 " %" PRIu64 "\n", refusal, answer[0]);
         break;
     case LUFFINARC_ILL_FORMED: /* the place, and the length of the maximal subpart there */
@@ -58,6 +59,10 @@ static const char *kind_name(uint32_t kind)
         return "identifier";
     case LUFFINARC_KIND_SYNTAX:
         return "syntax";
+    case LUFFINARC_KIND_LINE_END:
+        return "lineend";
+    case LUFFINARC_KIND_MARK:
+        return "mark";
     default:
         return "whitespace";
     }

@@ -5,7 +5,7 @@
  * `_checked`: for all images that luffinarc_check accepts); they use no heap, keep no state, and may be called from
  * several threads at once.
  *
- * Result. 0: no refusal. 1 to 13: the number of the refusal (enum luffinarc_refusal). luffinarc_token may also give
+ * Result. 0: no refusal. 1 to 14: the number of the refusal (enum luffinarc_refusal). luffinarc_token may also give
  * LUFFINARC_DONE. The first refusal in number order that applies is given, save where a function says otherwise.
  *
  * Answer. Each function writes all four numbers of `answer`. After the result 0 they are the values that the function
@@ -56,7 +56,7 @@ extern "C" {
 /* luffinarc_token: the place is the text's end. */
 #define LUFFINARC_DONE 255
 
-/* The refusals. 3, 4, 6 to 10 and 12 carry a number, at answer[0]; 6 alone carries a second, at answer[1].
+/* The refusals. 3, 4, 6 to 10, 12 and 14 carry a number, at answer[0]; 6 alone carries a second, at answer[1].
  *
  * That second number is the length of the maximal subpart at the place (the Unicode Standard, section 3.9, D93b): the
  * most bytes from there on that some well-formed sequence begins with, or else 1. So it is 1, 2 or 3, and place + length
@@ -76,8 +76,11 @@ enum luffinarc_refusal {
     LUFFINARC_CHANGE = 10,     /* a forbidden change; the smallest code point with one */
     LUFFINARC_PROFILES = 11,   /* the profile sections are unequal */
     LUFFINARC_BUFFER = 12,     /* the buffer for an image is too short; the bytes needed */
-    LUFFINARC_SHAPE = 13       /* a list of words is no multiple of its record's words, or a place lies past the
+    LUFFINARC_SHAPE = 13,      /* a list of words is no multiple of its record's words, or a place lies past the
                                 * text's end, or a start after an end */
+    LUFFINARC_MARK = 14        /* the direction mark at this byte place, the first such, parts a token: it stands
+                                * between two tokens that are no white space, and with it taken out of the text no
+                                * token would end where it stood */
 };
 
 /* Classes of code points. */
@@ -100,11 +103,15 @@ enum luffinarc_role {
     LUFFINARC_ROLE_HASHTAG = 5
 };
 
-/* Kinds of tokens, and the kind in the record of a hashtag, which no token has. */
+/* Kinds of tokens, and the kind in the record of a hashtag, which no token has. White space is cut into longest runs of
+ * one kind: line ends are U+000A, U+000B, U+000C, U+000D, U+0085, U+2028 and U+2029 of class White, marks U+200E and
+ * U+200F of class White, blanks all others of that class. */
 enum luffinarc_kind {
     LUFFINARC_KIND_IDENTIFIER = 1,
     LUFFINARC_KIND_SYNTAX = 2,
-    LUFFINARC_KIND_WHITESPACE = 3,
+    LUFFINARC_KIND_BLANK = 3,
+    LUFFINARC_KIND_LINE_END = 4,
+    LUFFINARC_KIND_MARK = 5,
     LUFFINARC_KIND_HASHTAG = 6
 };
 
@@ -177,7 +184,7 @@ uint32_t luffinarc_changes(const uint8_t *older, size_t older_len,
 /* Counts the tokens of a text.
  *
  * 0: answer[0] is their number.
- * Refusals: 1 to 4, 5, 6 with place and length, 7.
+ * Refusals: 1 to 4, 5, 6 with place and length, 7, 14.
  */
 uint32_t luffinarc_count(const uint8_t *image, size_t image_len,
                          const uint8_t *text, size_t text_len, uint64_t *answer);
@@ -190,8 +197,8 @@ uint32_t luffinarc_count(const uint8_t *image, size_t image_len,
  * and inside an identifier too; but U+000D with U+000A right after it ends one line, at the U+000A.
  *
  * 0: answer[0] is their number; the words past the list stay as they were.
- * Refusals: 1 to 4, 5, 6 with place and length, 7, then 8 where words_len / LUFFINARC_RECORD_WORDS, rounded down, is
- * below the number of tokens, with that number. words is left as it was.
+ * Refusals, in this order: 1 to 4, 5, 6 with place and length, 7, 14, then 8 where words_len / LUFFINARC_RECORD_WORDS,
+ * rounded down, is below the number of tokens, with that number. words is left as it was.
  */
 uint32_t luffinarc_list(const uint8_t *image, size_t image_len,
                         const uint8_t *text, size_t text_len,
@@ -202,7 +209,7 @@ uint32_t luffinarc_list(const uint8_t *image, size_t image_len,
  * 0: answer is the token's kind, its first byte, which is the place, and one past its last byte.
  * LUFFINARC_DONE: the place is the text's end; answer is zeros.
  * Refusals: 1 to 4, 5, 13 where the place is past the text's end, 6 and 7 at the place. 6 carries the place and the
- * length of the maximal subpart there, 7 the place.
+ * length of the maximal subpart there, 7 the place. 14 is not given.
  */
 uint32_t luffinarc_token(const uint8_t *image, size_t image_len,
                          const uint8_t *text, size_t text_len,

@@ -13,28 +13,30 @@ use Rattle.lists.proofs.FilledLaws.{filled-more}
 use Rattle.image.specs.Profile.{afterRole, isMedial, isHashtag}
 use Rattle.image.specs.Check.{refusalOf, hashtagOf}
 use Rattle.image.specs.declared.Range.{Range}
+use Rattle.image.proofs.RoleLaws.{after-known}
 use Rattle.lookup.specs.declared.Section.{Section}
 use Rattle.lookup.specs.declared.Section.the-variants.{Ranges, Entries}
 use Rattle.lookup.specs.Records.{recordAt, recordCount, sectionClass}
 use Rattle.lookup.proofs.RisingLaws.{class-held, class-gap}
-use Rattle.lookup.proofs.RecordLaws.{records-rise, class-by-sections, medial-by-sections, hashtag-by-sections}
+use Rattle.lookup.proofs.RecordLaws.{records-rise, range-known, class-by-sections, medial-by-sections, hashtag-by-sections}
 use Rattle.utf8.specs.declared.Step.the-variants.{Scalar}
-use Rattle.character.specs.Traits.{medialPart, hashtagPart, tokenTraits, traitsOf}
+use Rattle.character.specs.Traits.{classPart, medialPart, hashtagPart, tokenTraits, traitsOf}
 use Rattle.utf8.proofs.TextLaws.{Unpacked, ascii-at}
-use Rattle.character.specs.Stretch.{StretchOf}
+use Rattle.character.specs.Stretch.{StretchOf, WhiteStretchOf, Shared}
 use Rattle.character.specs.Read.{MemoOf, MemoAt, Settled, asciiCharacter, ReadBy, ReadAs}
 use Rattle.character.specs.declared.Character.{Character}
 use Rattle.character.specs.declared.Memo.{Memo}
 use Rattle.character.specs.declared.Stretch.{Stretch}
-use Rattle.character.proofs.TraitLaws.{token-small, token-traits}
+use Rattle.character.proofs.TraitLaws.{part-other, part-white, token-small, token-traits}
 
--- traits by the classes in the two sections
+-- traits by the class part and the role
 abbrev joined : ℕ → ℕ → ℕ
-joined role class = afterRole role class + medialPart (isMedial role) + hashtagPart (isHashtag role)
+joined part role = part + medialPart (isMedial role) + hashtagPart (isHashtag role)
 
-traits-by : (s : List ℕ) (x : ℕ) → traitsOf s x ≡ joined (sectionClass s Entries x) (sectionClass s Ranges x)
+traits-by : (s : List ℕ) (x : ℕ) →
+    traitsOf s x ≡ joined (classPart (afterRole (sectionClass s Entries x) (sectionClass s Ranges x)) x) (sectionClass s Entries x)
 unfolding traitsOf tokenTraits
-traits-by s x = λ i. class-by-sections s x i + medialPart (medial-by-sections s x i) + hashtagPart (hashtag-by-sections s x i)
+traits-by s x = λ i. classPart (class-by-sections s x i) x + medialPart (medial-by-sections s x i) + hashtagPart (hashtag-by-sections s x i)
 
 module _ (s : List ℕ) (x : ℕ) (a : refusalOf s ≡ none) where
   -- traits fit a byte
@@ -45,6 +47,12 @@ module _ (s : List ℕ) (x : ℕ) (a : refusalOf s ≡ none) where
       go : (h : Bool) → tokenTraits s x + hashtagPart h < 32
       go true = omega (arith, token-small s x a)
       go false = omega (arith, token-small s x a)
+
+  -- .. and the class after the profile a part of them
+  pub after-small : (c : Stretch) (role k : ℕ) → StretchOf s Ranges x c → k ≡ afterRole role (c .class) → k ≤ 7
+  after-small c role k f e =
+      let h : c .class ≤ 5 = omega (arith, f .same x (f .from) (f .to), range-known s a x) in
+      omega (arith, after-known role (c .class) h)
 
   module _ (section : Section) (i : ℕ) where
     -- the stretch of x between neighbours, and the one of the record that holds it
@@ -63,20 +71,51 @@ module _ (s : List ℕ) (x : ℕ) (a : refusalOf s ≡ none) where
         → StretchOf s section x (record { first = r .first; last = r .last; class = r .class })
     stretch-record r e n l u = rw e (record { from = rw e at l; to = u; same = λ y b c. class-held _ _ (records-rise s a section) i y n b c })
 
--- around x the traits are those of both stretches
-pub memo-of :
-    (s : List ℕ) (x : ℕ) (c r : Stretch) (m : Memo) → StretchOf s Ranges x c → StretchOf s Entries x r
-    → (c .first ≤ m .first) × (r .first ≤ m .first) × (m .first ≤ x) → (m .last ≤ c .last) × (m .last ≤ r .last) × (x ≤ m .last)
-    → m .traits ≡ joined (r .class) (c .class) → MemoAt s x m
-memo-of s x c r m f g h l e =
-    record {
-      from = h .2;
-      to = l .2;
-      all = λ y a b.
-          let p = f .same y (omega (arith, h .0)) (omega (arith, l .0)) in
-          let q = g .same y (omega (arith, h .1)) (omega (arith, l .1)) in
-          traits-by s y ∙ (λ i. joined (q i) (p i)) ∙ sym e;
-    }
+pub joined-small : (part role : ℕ) {t : ℕ} → t ≡ joined part role → t ≤ part + 24
+joined-small part role e = omega (arith, go (isMedial role) (isHashtag role))
+  where
+    go : (m h : Bool) → part + medialPart m + hashtagPart h ≤ part + 24
+    go true true = omega arith
+    go true false = omega arith
+    go false true = omega arith
+    go false false = omega arith
+
+-- the part of White in traits, in place of the class
+pub white-joined : (k w role : ℕ) {t : ℕ} → k ≡ 4 → t ≡ joined k role → t - 4 + w ≡ joined w role
+white-joined k w role e f = omega arith
+
+-- what the two stretches of x share: one class k after the profile
+module _ (s : List ℕ) (x : ℕ) (c r b : Stretch) (k t : ℕ) (f : StretchOf s Ranges x c) (g : StretchOf s Entries x r) (h : Shared c r b)
+    (e : k ≡ afterRole (r .class) (c .class)) where
+  traits-in : (y : ℕ) → b .first ≤ y → y ≤ b .last → traitsOf s y ≡ joined (classPart k y) (r .class)
+  traits-in y l u =
+      let i = h .in-both y l u in
+      let p = f .same y (i .0) (i .1) in
+      let q = g .same y (i .2) (i .3) in
+      traits-by s y ∙ (λ j. joined (classPart (afterRole (q j) (p j)) y) (q j)) ∙ ap (λ (a : ℕ). joined (classPart a y) (r .class)) (sym e)
+
+  -- and one class part, if it is not White
+  pub memo-other : (k ≡ 4 → ⊥) → t ≡ joined k (r .class) → MemoAt s x (record { first = b .first; last = b .last; traits = t })
+  memo-other n q =
+      record {
+        from = h .from x (f .from) (g .from);
+        to = h .to x (f .to) (g .to);
+        all = λ y l u. traits-in y l u ∙ ap (λ (p : ℕ). joined p (r .class)) (part-other k y n) ∙ sym q;
+      }
+
+  -- and the part that they share with the kind of White
+  pub memo-white :
+      (w a : Stretch) → k ≡ 4 → WhiteStretchOf x w → Shared b w a → t ≡ joined (a .class) (r .class)
+      → MemoAt s x (record { first = a .first; last = a .last; traits = t })
+  memo-white w a z v m q =
+      record {
+        from = m .from x (h .from x (f .from) (g .from)) (v .from);
+        to = m .to x (h .to x (f .to) (g .to)) (v .to);
+        all = λ y l u.
+            let i = m .in-both y l u in
+            let o = part-white k y z ∙ v .same y (i .2) (i .3) ∙ sym (m .class) in
+            traits-in y (i .0) (i .1) ∙ ap (λ (p : ℕ). joined p (r .class)) o ∙ sym q;
+      }
 
 -- the table while what the token rules know takes the place of the traits: before k it has
 pub record Cut (s t : List ℕ) (k : ℕ) : Type 0 where

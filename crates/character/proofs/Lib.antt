@@ -1,3 +1,4 @@
 pub mod TraitLaws
+pub mod WhiteLaws
 pub mod CharacterLaws
 pub mod PlaceLaws

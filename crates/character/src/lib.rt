@@ -6,14 +6,31 @@ ghost use Prim.Native.Nat.{ℕ, _+_, _-_, _/_, _%_, _≤_, _<_};
 ghost use lib.ListN.{length};
 ghost use mathlib.Core.Bool.{_&&_};
 ghost use lib.Dec.{leb};
-ghost use Rattle.image.specs.Profile.{afterRole, isMedial, isHashtag};
+ghost use Rattle.image.specs.Profile.{isMedial, isHashtag};
 ghost use Rattle.image.specs.Check.{refusalOf};
 ghost use Rattle.lookup.specs.Records.{recordAt, recordCount};
 ghost use Rattle.lookup.specs.Placed.{Passed, Placed};
+ghost use Rattle.grammar.specs.White.{isMark};
 ghost use Rattle.character.specs.Traits.{medialPart, hashtagPart};
-ghost use Rattle.character.specs.Stretch.{StretchOf};
+ghost use Rattle.character.specs.Stretch.{StretchOf, WhiteStretchOf, Shared};
 ghost use Rattle.character.specs.Read.{MemoOf, MemoAt, TableOf, TokenTableOf, Settled, asciiCharacter, ReadAs, ReadTokenAs};
 use lookup::Section;
+
+// The class White; in traits its number is that of blanks, and line ends and marks have one each.
+const WHITE: u32 = 4;
+
+const LINE_ENDS: u32 = 6;
+
+const MARKS: u32 = 7;
+
+// The line ends of ASCII are the code points from LINE FEED to CARRIAGE RETURN.
+const LINE_FEED: u32 = 0x0A;
+
+const CARRIAGE_RETURN: u32 = 0x0D;
+
+const LEFT_TO_RIGHT_MARK: u32 = 0x200E;
+
+const RIGHT_TO_LEFT_MARK: u32 = 0x200F;
 
 // What traits have more for a medial, and for role 5.
 const MEDIAL: u32 = 8;
@@ -27,8 +44,8 @@ pub struct Stretch {
     pub class: u32,
 }
 
-// Code points from `first` to `last` that have the same traits: the class after the profile, `MEDIAL` more for a medial, and `HASHTAG`
-// more for role 5.
+// Code points from `first` to `last` that have the same traits: the class after the profile and kind of White, `MEDIAL` more for a
+// medial, and `HASHTAG` more for role 5.
 pub struct Memo {
     pub first: u32,
     pub last: u32,
@@ -54,22 +71,82 @@ pub fn no_memo() -> Memo
     }
 }
 
-// The traits of a code point with a role and a class in the ranges.
-fn join_traits(role: u32, class: u32) -> u32
-    requires { ⌜ class ≤ 5 ⌝ }
-    ensures { λ r. ⌜ r ≡ afterRole role class + medialPart (isMedial role) + hashtagPart (isHashtag role) ⌝ }
+// Whether a code point is a direction mark.
+fn is_mark(code: u32) -> bool
+    ensures { λ r. ⌜ r ≡ isMark code ⌝ }
 {
-    let after = lookup::after_role(role, class);
-    if lookup::is_medial(role) {
-        return after + MEDIAL;
+    if code == LEFT_TO_RIGHT_MARK {
+        return true;
     }
-    if lookup::is_hashtag(role) {
-        return after + HASHTAG;
-    }
-    after
+    code == RIGHT_TO_LEFT_MARK
 }
 
-// What the token rules know, of a code point's traits: the class, and whether it is a medial.
+// The code points around `x` that have its kind of White, and what traits have for it: the line ends of ASCII together, any other alone.
+fn white_stretch(x: u32) -> Stretch
+    ensures { λ r. ⌜ WhiteStretchOf x r ⌝ }
+{
+    if line::is_line_end(x) {
+        if x <= CARRIAGE_RETURN {
+            return Stretch {
+                first: LINE_FEED,
+                last: CARRIAGE_RETURN,
+                class: LINE_ENDS,
+            };
+        }
+        return Stretch {
+            first: x,
+            last: x,
+            class: LINE_ENDS,
+        };
+    }
+    if is_mark(x) {
+        return Stretch {
+            first: x,
+            last: x,
+            class: MARKS,
+        };
+    }
+    Stretch {
+        first: x,
+        last: x,
+        class: WHITE,
+    }
+}
+
+// The part of two stretches that they share, with the class of the second.
+fn share(a: Stretch, b: Stretch) -> Stretch
+    ensures { λ r. ⌜ Shared a b r ⌝ }
+{
+    let mut first = a.first;
+    if first < b.first {
+        first = b.first;
+    }
+    let mut last = a.last;
+    if b.last < last {
+        last = b.last;
+    }
+    Stretch {
+        first,
+        last,
+        class: b.class,
+    }
+}
+
+// The traits of a code point with a role, whose class after the profile is told by `part`.
+fn join_traits(role: u32, part: u32) -> u32
+    requires { ⌜ part ≤ 7 ⌝ }
+    ensures { λ r. ⌜ r ≡ part + medialPart (isMedial role) + hashtagPart (isHashtag role) ⌝ }
+{
+    if lookup::is_medial(role) {
+        return part + MEDIAL;
+    }
+    if lookup::is_hashtag(role) {
+        return part + HASHTAG;
+    }
+    part
+}
+
+// What the token rules know, of a code point's traits: the class, the kind of White, and whether it is a medial.
 pub fn token_traits(traits: u32) -> u32
     ensures { λ r. ⌜ r ≡ traits % 16 ⌝ }
 {
@@ -145,25 +222,28 @@ fn find_stretch(image: &[u8], section: Section, x: u32) -> Stretch
     stretch_at(image, section, i, x)
 }
 
-// The code points around `x` that have its class in the ranges and its role.
+// The code points around `x` that have its class in the ranges, its role and, where it is White after the profile, its kind of White.
 fn search(image: &[u8], x: u32) -> Memo
     requires { ⌜ refusalOf (now image) ≡ none ⌝ }
     ensures { λ r. ⌜ MemoAt (now (image .entry)) x r ⌝ }
 {
     let class = find_stretch(image, Section::Ranges, x);
     let role = find_stretch(image, Section::Entries, x);
-    let mut first = class.first;
-    if first < role.first {
-        first = role.first;
-    }
-    let mut last = class.last;
-    if role.last < last {
-        last = role.last;
+    let both = share(class, role);
+    let after = lookup::after_role(role.class, class.class);
+    let traits = join_traits(role.class, after);
+    if after == WHITE {
+        let all = share(both, white_stretch(x));
+        return Memo {
+            first: all.first,
+            last: all.last,
+            traits: traits - WHITE + all.class,
+        };
     }
     Memo {
-        first,
-        last,
-        traits: join_traits(role.class, class.class),
+        first: both.first,
+        last: both.last,
+        traits,
     }
 }
 

@@ -12,20 +12,26 @@ use Rattle.image.specs.Header.{lengthRight, headerRight}
 use Rattle.image.specs.Ranges.{rangeAt, goodAlone, follows, goodRange, firstBadRange, classIn}
 use Rattle.image.specs.Profile.{pointAt, roleAt, goodEntryAlone, goodEntry, firstBadEntry, roleBy, afterRole, isMedial, isHashtag}
 use Rattle.image.specs.Check.{recordsRefusal, refusalOf, rangeClass, entryRole, classOf, medialOf, hashtagOf}
+use Rattle.grammar.specs.White.{isMark, whiteOf}
 use Rattle.grammar.specs.Scan.{walk}
-use Rattle.grammar.specs.Reading.{meaningOf, readingOf, lengthRefusal, outcomeOf}
+use Rattle.grammar.specs.Second.{partsStill, refusesMark, firstRefused}
+use Rattle.grammar.specs.Reading.{meaningOf, readingOf, lengthRefusal, markRefusal, outcomeOf}
 use Rattle.hashtag.specs.Sign.{isSign, isHashtagContinue}
 use Rattle.hashtag.specs.Find.{runOf, hashtagsFrom, hashtagsOf}
 use Rattle.hashtag.specs.Listed.{hashtagsThrough, hashtagsFound}
-use Rattle.demands.specs.Cases.{Case, M, M2, P, N, K, K1, K2, K3, cases, lineCases, hashtagCases, numbersOf, hashtagNumbersOf}
+use Rattle.demands.specs.Cases.{Case, M, M2, P, N, K, K1, K2, K3, K4, K5, K6, K7, K8, cases, lineCases, markCases, hashtagCases, numbersOf, hashtagNumbersOf}
 
 pub cases-hold : map (λ (c : Case). numbersOf (c .text) (outcomeOf (c .image) (c .text))) cases ≡ map (λ (c : Case). c .answer) cases
-unfolding firstFrom firstWhere isScalar subpartOf stepOf decodeIn decode textOf wordAt lengthRight headerRight rangeAt goodAlone follows goodRange firstBadRange classIn pointAt roleAt goodEntryAlone goodEntry firstBadEntry roleBy afterRole isMedial recordsRefusal refusalOf rangeClass entryRole classOf medialOf walk meaningOf readingOf lengthRefusal outcomeOf isLineEnd endsLine lineEnds lineOf M M2 P cases
+unfolding firstFrom firstWhere isScalar subpartOf stepOf decodeIn decode textOf wordAt lengthRight headerRight rangeAt goodAlone follows goodRange firstBadRange classIn pointAt roleAt goodEntryAlone goodEntry firstBadEntry roleBy afterRole isMedial recordsRefusal refusalOf rangeClass entryRole classOf medialOf isMark whiteOf walk partsStill refusesMark firstRefused meaningOf readingOf lengthRefusal markRefusal outcomeOf isLineEnd endsLine lineEnds lineOf M M2 P cases
 cases-hold = refl
 
 pub line-cases-hold : map (λ (c : Case). numbersOf (c .text) (outcomeOf (c .image) (c .text))) lineCases ≡ map (λ (c : Case). c .answer) lineCases
-unfolding firstFrom firstWhere isScalar subpartOf stepOf decodeIn decode textOf wordAt lengthRight headerRight rangeAt goodAlone follows goodRange firstBadRange classIn pointAt roleAt goodEntryAlone goodEntry firstBadEntry roleBy afterRole isMedial recordsRefusal refusalOf rangeClass entryRole classOf medialOf walk meaningOf readingOf lengthRefusal outcomeOf isLineEnd endsLine lineEnds lineOf K K1 K2 K3 lineCases
+unfolding firstFrom firstWhere isScalar subpartOf stepOf decodeIn decode textOf wordAt lengthRight headerRight rangeAt goodAlone follows goodRange firstBadRange classIn pointAt roleAt goodEntryAlone goodEntry firstBadEntry roleBy afterRole isMedial recordsRefusal refusalOf rangeClass entryRole classOf medialOf isMark whiteOf walk partsStill refusesMark firstRefused meaningOf readingOf lengthRefusal markRefusal outcomeOf isLineEnd endsLine lineEnds lineOf K K1 K2 K3 lineCases
 line-cases-hold = refl
+
+pub mark-cases-hold : map (λ (c : Case). numbersOf (c .text) (outcomeOf (c .image) (c .text))) markCases ≡ map (λ (c : Case). c .answer) markCases
+unfolding firstFrom firstWhere isScalar subpartOf stepOf decodeIn decode textOf wordAt lengthRight headerRight rangeAt goodAlone follows goodRange firstBadRange classIn pointAt roleAt goodEntryAlone goodEntry firstBadEntry roleBy afterRole isMedial recordsRefusal refusalOf rangeClass entryRole classOf medialOf isMark whiteOf walk partsStill refusesMark firstRefused meaningOf readingOf lengthRefusal markRefusal outcomeOf isLineEnd endsLine lineEnds lineOf K K4 K5 K6 K7 K8 markCases
+mark-cases-hold = refl
 
 pub hashtag-cases-hold :
     map (λ (c : Case). hashtagNumbersOf (c .text) (hashtagsFound (c .image) (c .text))) hashtagCases ≡ map (λ (c : Case). c .answer) hashtagCases

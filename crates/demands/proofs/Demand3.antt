@@ -1,10 +1,10 @@
 -- Demand 3: what counting and writing the list answer under an older image and under a newer one. Assumes nothing.
 use Prim.Native.Nat.{ℕ, _+_, _*_}
-use mathlib.Core.Path.{_≡_, refl, sym, ap, _∙_}
+use mathlib.Core.Path.{_≡_, refl, sym, ap, subst, _∙_}
 use mathlib.Core.Bool.{true}
 use mathlib.Core.List.{List, [], _∷_}
 use mathlib.Core.Logic.{_⊎_, inl, inr, ⊎-map}
-use mathlib.Core.Option.{some}
+use mathlib.Core.Option.{Option, none, some}
 use lib.ListN.{length, drop}
 use lib.Seq.{drop-drop, take-at}
 use Rattle.lists.specs.Laid.{laid}
@@ -29,16 +29,20 @@ use Rattle.pair.proofs.PairLaws.{permitted-means, means-pair}
 use Rattle.grammar.specs.All.{All}
 use Rattle.grammar.specs.Scan.{Tok}
 use Rattle.grammar.specs.Grammar.{Kind}
+use Rattle.grammar.specs.Second.{firstRefused}
+use Rattle.grammar.specs.Beside.{other}
 use Rattle.grammar.specs.Record.{recordSize, roomOf, listedWords}
 use Rattle.grammar.specs.Reading.{meaningOf, countOf, listOf, listWords}
 use Rattle.grammar.proofs.RecordLaws.{length-listed}
-use Rattle.demands.specs.Demand2.{Divided, Stopped}
-use Rattle.demands.specs.Means.{Refuses, of-image, too-long, ill-formed, no-token, CountMeans, counts, count-refuses, ListMeans, lists, no-room, list-refuses}
+use Rattle.grammar.proofs.BesideLaws.{placeOf, beside-second}
+use Rattle.demands.specs.Demand2.{Divided, Stopped, FirstMark, NoMark}
+use Rattle.demands.specs.Means.{Refuses, of-image, too-long, ill-formed, no-token, mark, CountMeans, counts, count-refuses, ListMeans, lists, no-room, list-refuses}
 use Rattle.demands.specs.Firm.{Allowed, Firm, Changed, Touched}
 use Rattle.demands.specs.Demand3.{Later, SaysYes, StandsAt, AnotherClass, NextChanged, Excepted, Promise, listIn, Demand3}
-use Rattle.demands.proofs.Stability.{firm-or-touched, division-stable}
-use Rattle.demands.proofs.DividedLaws.{divided-unique, left-encoded}
-use Rattle.demands.proofs.MeansLaws.{count-means, means-count, list-means, means-list, list-written}
+use Rattle.demands.proofs.Stability.{firm-or-touched, division-stable, refused-stable}
+use Rattle.demands.proofs.DividedLaws.{divided-unique, left-encoded, own-division}
+use Rattle.demands.proofs.MarkedLaws.{Marked, marks, marked-some, marked-none}
+use Rattle.demands.proofs.MeansLaws.{refuses-stopped, count-means, means-count, list-means, means-list, list-written}
 
 stands : {s rest : List ℕ} {c : Character} {r : List Character} → Encoded s (c ∷ r) rest → StandsAt s 0 (c .code) (c .width)
 stands (takes q r e f d) = sequence q r e f refl refl
@@ -55,7 +59,7 @@ module _ (older newer text : List ℕ) (L : Later older newer) where
   unfolding meaningOf
   allowed c h =
       let x = c .code in
-      record { permitted = permitted-after older newer (L .profiles) x (L .permitted x h); medial = medial-same older newer (L .profiles) x }
+      record { permitted = permitted-after older newer (L .profiles) x (L .permitted x h); white = refl; medial = medial-same older newer (L .profiles) x }
 
   all-allowed : {s rest : List ℕ} {cs : List Character} → Encoded s cs rest → All (Allowed (meaningOf older) (meaningOf newer)) cs
   all-allowed (ends n) = tt
@@ -69,6 +73,23 @@ module _ (older newer text : List ℕ) (L : Later older newer) where
         readable = record { image = L .newerAccepted; short = h .short; wellFormed = h .wellFormed };
         division = division-stable (meaningOf older) (meaningOf newer) (all-allowed (h .wellFormed)) g (d .division);
       }
+
+  -- the local test finds the same mark
+  same-mark : {ts : List (Tok Character Kind)} → Divided older text ts [] → placeOf (firstRefused (meaningOf newer) [] ts) ≡ placeOf (firstRefused (meaningOf older) [] ts)
+  unfolding meaningOf
+  same-mark {ts} d =
+      sym (beside-second (meaningOf newer) ts (own-division (divided-stable tt d)))
+      ∙ refused-stable (meaningOf older) (meaningOf newer) (λ c. medial-same older newer (L .profiles) (c .code)) other 0 ts
+      ∙ beside-second (meaningOf older) ts (own-division d)
+
+  marks-stable : {ts : List (Tok Character Kind)} (o : Option ℕ) → Divided older text ts [] → placeOf (firstRefused (meaningOf older) [] ts) ≡ o → Marked newer text o
+  marks-stable o d e = subst (Marked newer text) (same-mark d ∙ e) (marks (divided-stable tt d))
+
+  marked : {p : ℕ} → FirstMark older text p → FirstMark newer text p
+  marked {p} f = let d = f .mark .divided in marks-stable (some p) d (marked-some _ (marks d) f)
+
+  unmarked : {ts : List (Tok Character Kind)} → Divided older text ts [] → NoMark older text → NoMark newer text
+  unmarked d n = marks-stable none d (marked-none _ (marks d) n)
 
   -- a character of another class after the profile, as a number
   another : (c : Character) (r : List Character) → Changed (meaningOf older) (meaningOf newer) (c ∷ r) → AnotherClass older newer (c .code)
@@ -96,14 +117,14 @@ module _ (older newer text : List ℕ) (L : Later older newer) where
 
   -- the refusals, whatever the room
   refused-characters : {p : ℕ} → Refuses older text (Characters p) → Refuses newer text (Characters p) ⊎ Excepted older newer text p
-  refused-characters (of-image m) = absurd (no-refusal (L .olderAccepted) m)
-  refused-characters (no-token t) = ⊎-map no-token (λ x. x) (stopped t)
+  refused-characters x = ⊎-map no-token (λ x. x) (stopped (refuses-stopped x))
 
   refused-other : {r : Refusal} → ((p : ℕ) → r ≡ Characters p → ⊥) → Refuses older text r → Refuses newer text r
   refused-other n (of-image m) = absurd (no-refusal (L .olderAccepted) m)
   refused-other n (too-long a l) = too-long (L .newerAccepted) l
   refused-other n (ill-formed a l m) = ill-formed (L .newerAccepted) l m
   refused-other n (no-token {p} t) = absurd (n p refl)
+  refused-other n (mark f) = mark (marked f)
 
   counting : Promise older newer text (countOf older text) (countOf newer text)
   counting =
@@ -114,7 +135,7 @@ module _ (older newer text : List ℕ) (L : Later older newer) where
       }
     where
       accepted : {n : ℕ} → CountMeans older text (given n) → CountMeans newer text (given n)
-      accepted (counts d n) = counts (divided-stable tt d) n
+      accepted (counts d m n) = counts (divided-stable tt d) (unmarked d m) n
 
       characters : {p : ℕ} → CountMeans older text (refused (Characters p)) → Refuses newer text (Characters p) ⊎ Excepted older newer text p
       characters (count-refuses x) = refused-characters x
@@ -132,13 +153,13 @@ module _ (older newer text : List ℕ) (L : Later older newer) where
         }
       where
         accepted : {n : ℕ} → ListMeans older text (length out) (given n) → ListMeans newer text (length newOut) (given n)
-        accepted (lists d n h) = lists (divided-stable tt d) n (rw room h)
+        accepted (lists d m n h) = lists (divided-stable tt d) (unmarked d m) n (rw room h)
 
         characters : {p : ℕ} → ListMeans older text (length out) (refused (Characters p)) → Refuses newer text (Characters p) ⊎ Excepted older newer text p
         characters (list-refuses x) = refused-characters x
 
         others : {r : Refusal} → ((p : ℕ) → r ≡ Characters p → ⊥) → ListMeans older text (length out) (refused r) → ListMeans newer text (length newOut) (refused r)
-        others n (no-room d k h) = no-room (divided-stable tt d) k (rw room h)
+        others n (no-room d m k h) = no-room (divided-stable tt d) (unmarked d m) k (rw room h)
         others n (list-refuses x) = list-refuses (refused-other n x)
 
     -- the front of a buffer into which the tokens were written
@@ -158,6 +179,8 @@ demand-3 older newer L text out newOut room =
     record {
       division = λ ts d. divided-stable older newer text L tt d;
       stopped = λ p t. stopped older newer text L t;
+      marked = λ p f. marked older newer text L f;
+      unmarked = λ ts d n. unmarked older newer text L d n;
       counting = counting older newer text L;
       writing = writing older newer text L out newOut room;
       sameList = same-list older newer text L out newOut room;

@@ -8,6 +8,7 @@ use Rattle.utf8.specs.Text.{Character, Encoded, decode, widthOf}
 use Rattle.utf8.proofs.TextLaws.{means-decode, decode-covers}
 use Rattle.utf8.proofs.EncodedLaws.{encoded-from}
 use Rattle.grammar.specs.Scan.{Tok, unitsOf}
+use Rattle.grammar.specs.Division.{Division}
 use Rattle.grammar.specs.Grammar.{Kind, Token}
 use Rattle.grammar.specs.Record.{tokensWidth}
 use Rattle.grammar.specs.Reading.{meaningOf, readingOf}
@@ -35,12 +36,18 @@ module _ {s text : List ℕ} where
   left-encoded {ts} {left} d =
       rw (tokens-width ts) (encoded-from (unitsOf ts) left (rw (division-covers (Token (meaningOf s)) (d .division)) at (d .readable .wellFormed)))
 
+  -- a division to the end is one of its tokens' characters
+  covers-all : {ts : List (Tok Character Kind)} (d : Divided s text ts []) → d .characters ≡ unitsOf ts
+  covers-all {ts} d = division-covers (Token (meaningOf s)) (d .division) ∙ append-nil (unitsOf ts)
+
+  pub own-division : {ts : List (Tok Character Kind)} → Divided s text ts [] → Division (Token (meaningOf s)) (unitsOf ts) ts []
+  own-division d = rw (covers-all d) at (d .division)
+
   -- the list covers the text from byte 0 to its end
   pub divided-covers : {ts : List (Tok Character Kind)} → Divided s text ts [] → tokensWidth ts ≡ length text
   divided-covers {ts} d =
       let c = rw (means-decode (d .readable .wellFormed)) at (decode-covers text) in
-      let u : d .characters ≡ unitsOf ts = division-covers (Token (meaningOf s)) (d .division) ∙ append-nil (unitsOf ts) in
-      let w : tokensWidth ts ≡ widthOf (d .characters) = tokens-width ts ∙ ap widthOf (sym u) in
+      let w : tokensWidth ts ≡ widthOf (d .characters) = tokens-width ts ∙ ap widthOf (sym (covers-all d)) in
       let l = length-drop (widthOf (d .characters)) text in
       let n : length (drop (widthOf (d .characters)) text) ≡ 0 = ap length (c .after) in
       omega (arith, c .within)

@@ -1,6 +1,6 @@
 -- A newer meaning of the units keeps the older division of a text, unless that ended at a unit that changed, or at a medial before one.
--- Over the tokens of the grammar: no reader is known here. Assumes nothing.
-use Prim.Native.Nat.{ℕ, _≤_, _<_}
+-- Over the tokens of the grammar: no reader is known here, but the local test of marks, whose answer stays. Assumes nothing.
+use Prim.Native.Nat.{ℕ, _+_, _≤_, _<_}
 use mathlib.Core.Path.{_≡_, refl, sym, ap, subst, _∙_}
 use mathlib.Core.Bool.{Bool, true, false, true≢false}
 use mathlib.Core.List.{List, [], _∷_, _++_, append-assoc}
@@ -10,6 +10,7 @@ use native.Mathlib.Omega.{arith}
 use native.Mathlib.Decide.{decLt}
 use lib.ListN.{length, length-append}
 use Rattle.lists.proofs.BoolLaws.{impossible}
+use Rattle.utf8.specs.Text.{Character}
 use Rattle.image.specs.Class.{Class, White, class-discrete}
 use Rattle.image.specs.Permitted.{
   Permitted,
@@ -24,9 +25,12 @@ use Rattle.image.specs.Permitted.{
 use Rattle.grammar.specs.All.{All}
 use Rattle.grammar.specs.Scan.{Tok}
 use Rattle.grammar.specs.Division.{Longest, NoToken, Division, ends, takes}
+use Rattle.grammar.specs.White.{WhiteKind, blank}
 use Rattle.grammar.specs.Meaning.{Meaning}
 use Rattle.grammar.specs.Grammar.{Kind, identifier, syntax, whitespace, Continue, IsContinue, IsMedial, IsWhite, Identifier, Token}
-use Rattle.grammar.specs.Kinds.{kindOfClass}
+use Rattle.grammar.specs.Kinds.{kindBy, kindOf}
+use Rattle.grammar.specs.Record.{tokenWidth}
+use Rattle.grammar.specs.Beside.{View, nextView, refusedBy, either, medialFirst, viewNext, refusedFrom}
 use Rattle.grammar.proofs.GrammarLaws.{first-class, fits, tokens-divide}
 use Rattle.grammar.proofs.TailLaws.{Tail, no-more, continued, linked, identifier-begun, tail-identifier, tail-append, tail-from}
 use Rattle.demands.specs.Firm.{Allowed, Settled, Changed, Firm, Touched}
@@ -42,14 +46,14 @@ keeps-continue other-start e = inl refl
 keeps-continue other-nonstart e = inr refl
 keeps-continue nonstart-start e = inl refl
 
-keeps-first : {a b : Class} → Permitted a b → (k : Kind) → kindOfClass a ≡ some k → b ≡ a
-keeps-first (same p) k e = sym p
-keeps-first unassigned-start k e = cc
-keeps-first unassigned-nonstart k e = cc
-keeps-first unassigned-other k e = cc
-keeps-first other-start k e = cc
-keeps-first other-nonstart k e = cc
-keeps-first nonstart-start k e = cc
+keeps-first : {a b : Class} → Permitted a b → (w : WhiteKind) (k : Kind) → kindBy w a ≡ some k → b ≡ a
+keeps-first (same p) w k e = sym p
+keeps-first unassigned-start w k e = cc
+keeps-first unassigned-nonstart w k e = cc
+keeps-first unassigned-other w k e = cc
+keeps-first other-start w k e = cc
+keeps-first other-nonstart w k e = cc
+keeps-first nonstart-start w k e = cc
 
 was-white : {a b : Class} → Permitted a b → b ≡ White → a ≡ White
 was-white (same p) e = p ∙ e
@@ -120,17 +124,17 @@ module _ {A : Type 0} (older newer : Meaning A) where
   token-stays identifier u a t =
       let i = identifier-begun older t in
       let b : AllAllowed (i .first ∷ i .after) = rw (i .whole) at a in
-      rw (i .whole) (tail-identifier newer (keeps-first (b .0 .permitted) identifier (ap kindOfClass (i .start)) ∙ i .start) (tail-stays (b .1) (i .tail)))
+      rw (i .whole) (tail-identifier newer (keeps-first (b .0 .permitted) blank identifier (ap (kindBy blank) (i .start)) ∙ i .start) (tail-stays (b .1) (i .tail)))
   token-stays syntax u a t =
       let c : AllAllowed (t .only ∷ []) = rw (t .whole) at a in
-      record { only = t .only; whole = t .whole; class = keeps-first (c .0 .permitted) syntax (ap kindOfClass (t .class)) ∙ t .class }
-  token-stays whitespace u a t =
+      record { only = t .only; whole = t .whole; class = keeps-first (c .0 .permitted) blank syntax (ap (kindBy blank) (t .class)) ∙ t .class }
+  token-stays (whitespace w) u a t =
       let c : AllAllowed (t .first ∷ t .others) = rw (t .whole) at a in
       record {
         first = t .first;
         others = t .others;
         whole = t .whole;
-        white = all-map (λ d p e. keeps-first (p .permitted) whitespace (ap kindOfClass e) ∙ e) (t .first ∷ t .others) c (t .white);
+        white = all-map (λ d p e. (keeps-first (p .permitted) w (whitespace w) (ap (kindBy w) (e .0)) ∙ e .0, p .white ∙ e .1)) (t .first ∷ t .others) c (t .white);
       }
 
   -- the first unit of a text that begins with a token has the class that it had
@@ -138,7 +142,7 @@ module _ {A : Type 0} (older newer : Meaning A) where
   token-settled k u r a t =
       let (c, v, e, f) = fits older .starts k u t in
       let b : AllAllowed (c ∷ (v ++ r)) = rw e at a in
-      rw e (keeps-first (b .0 .permitted) k f)
+      rw e (keeps-first (b .0 .permitted) (older .white c) k f)
 
   -- at least n tokens follow, or firm units
   data Sure (n : ℕ) (ts : List (Tok A Kind)) (left : List A) : Type 0 where
@@ -169,20 +173,20 @@ module _ {A : Type 0} (older newer : Meaning A) where
   next-settled a n m (ends x) (firm g) = g .1 m
   next-settled {c} {r} {left} a n m (takes {k = k} {u = u} {rest = rest} {ts = ts} L d) g = go k (L .token) (L .whole)
     where
-      after : (x : A) (v : List A) → c ∷ r ≡ x ∷ (v ++ rest) → All (IsWhite older) v → Settled older newer r
-      after x [] e w = let f : r ≡ rest = cc in rw f (settled (rw f at (a .1)) d (after-one g))
-      after x (y ∷ v) e w =
+      after : (w : WhiteKind) (x : A) (v : List A) → c ∷ r ≡ x ∷ (v ++ rest) → All (IsWhite older w) v → Settled older newer r
+      after w x [] e h = let f : r ≡ rest = cc in rw f (settled (rw f at (a .1)) d (after-one g))
+      after w x (y ∷ v) e h =
           let f : r ≡ y ∷ (v ++ rest) = cc in
           let b : AllAllowed (y ∷ (v ++ rest)) = rw f at (a .1) in
-          rw f (keeps-first (b .0 .permitted) whitespace (ap kindOfClass (w .0)))
+          rw f (keeps-first (b .0 .permitted) w (whitespace w) (ap (kindBy w) (h .0 .0)))
 
       go : (j : Kind) → Token older j u → c ∷ r ≡ u ++ rest → Settled older newer r
       go identifier t e =
           let i = identifier-begun older t in
           let h : c ≡ i .first = let z = ap (λ y. y ++ rest) (i .whole) in cc in
           absurd (n (inl (ap (older .class) h ∙ i .start)))
-      go syntax t e = after (t .only) [] (e ∙ ap (λ x. x ++ rest) (t .whole)) tt
-      go whitespace t e = after (t .first) (t .others) (e ∙ ap (λ x. x ++ rest) (t .whole)) (t .white .1)
+      go syntax t e = after blank (t .only) [] (e ∙ ap (λ x. x ++ rest) (t .whole)) tt
+      go (whitespace w) t e = after w (t .first) (t .others) (e ∙ ap (λ x. x ++ rest) (t .whole)) (t .white .1)
 
   -- an identifier that is the longest is followed by no tail
   grows : {s u rest : List A} → Longest (Token older) s identifier u rest → (x y : List A) → rest ≡ x ++ y → Tail older x → length x ≤ 0
@@ -231,7 +235,7 @@ module _ {A : Type 0} (older newer : Meaning A) where
           let i = identifier-begun newer t in
           let y : i .first ≡ c = let z = i .whole in let q = ap (λ l. l ++ rest) p in let r = L .whole in cc in
           let o : Settled older newer (c ∷ (x ++ rest)) = rw p at (token-settled k u rest b (L .token)) in
-          let j : identifier ≡ k = let z = ap kindOfClass (sym o ∙ ap (newer .class) (sym y) ∙ i .start) in cc in
+          let j : identifier ≡ k = let z = ap (kindBy (older .white c)) (sym o ∙ ap (newer .class) (sym y) ∙ i .start) in cc in
           identifier-bound a (rw (← j) at L) d g v w e t h
 
       bound : (j : Kind) (v w : List A) → s ≡ v ++ w → Token newer j v → length v ≤ length u
@@ -244,27 +248,28 @@ module _ {A : Type 0} (older newer : Meaning A) where
           let l = ap length (fits older .starts k u (L .token) .2) in
           let m = ap length (t .whole) in
           omega arith
-      bound whitespace v w e t =
+      bound (whitespace j) v w e t =
           let c : AllAllowed (t .first ∷ t .others) = rw (t .whole) at (all-split (Allowed older newer) v w (rw e at a) .0) in
-          L .longest whitespace v w e
-          (record { first = t .first; others = t .others; whole = t .whole; white = all-map (λ x p q. was-white (p .permitted) q) (t .first ∷ t .others) c (t .white) })
+          L .longest (whitespace j) v w e
+          (record { first = t .first; others = t .others; whole = t .whole; white = all-map (λ x p q. (was-white (p .permitted) (q .0), sym (p .white) ∙ q .1)) (t .first ∷ t .others) c (t .white) })
 
   -- one unit of a class that begins a token is one
-  single : (k : Kind) (c : A) → kindOfClass (older .class c) ≡ some k → Token older k (c ∷ [])
-  single identifier c f = tail-identifier older (first-class (older .class c) identifier f) no-more
-  single syntax c f = record { only = c; whole = refl; class = first-class (older .class c) syntax f }
-  single whitespace c f = record { first = c; others = []; whole = refl; white = (first-class (older .class c) whitespace f, tt) }
+  single : (k : Kind) (c : A) → kindOf older c ≡ some k → Token older k (c ∷ [])
+  single identifier c f = tail-identifier older (first-class (older .class c) (older .white c) identifier f) no-more
+  single syntax c f = record { only = c; whole = refl; class = first-class (older .class c) (older .white c) syntax f }
+  single (whitespace w) c f = record { first = c; others = []; whole = refl; white = (first-class (older .class c) (older .white c) (whitespace w) f, tt) }
 
-  none-begins : (s : List A) → Firm older newer s → NoToken (Token older) s → NoToken (Token newer) s
-  none-begins s g n j v w e t =
+  none-begins : (s : List A) → AllAllowed s → Firm older newer s → NoToken (Token older) s → NoToken (Token newer) s
+  none-begins s a g n j v w e t =
       let (c, x, p, f) = fits newer .starts j v t in
       let q : s ≡ c ∷ (x ++ w) = rw p at e in
       let h : Firm older newer (c ∷ (x ++ w)) = rw q at g in
-      n j (c ∷ []) (x ++ w) q (single j c (ap kindOfClass (sym (h .0)) ∙ f))
+      let b : AllAllowed (c ∷ (x ++ w)) = rw q at a in
+      n j (c ∷ []) (x ++ w) q (single j c (sym (λ i. kindBy (b .0 .white i) (h .0 i)) ∙ f))
 
   -- tokens and what is left stay, where firm units are left
   pub division-stable : {s left : List A} {ts : List (Tok A Kind)} → AllAllowed s → Firm older newer left → Division (Token older) s ts left → Division (Token newer) s ts left
-  division-stable {s} a g (ends n) = ends (none-begins s g n)
+  division-stable {s} a g (ends n) = ends (none-begins s a g n)
   division-stable a g (takes {u = u} {rest = rest} L d) =
       takes (keeps a L d (firm g)) (division-stable (all-split (Allowed older newer) u rest (rw (L .whole) at a) .1) g d)
 
@@ -280,3 +285,16 @@ module _ {A : Type 0} (older newer : Meaning A) where
       go [] d ih = (_, _, tokens-divide newer s)
       go (t ∷ []) d ih = (_, _, tokens-divide newer s)
       go (t ∷ t′ ∷ ts) d ih = (ih .0, ih .1, takes (keeps a L d (enough (omega arith))) (ih .2))
+
+-- the local test of marks looks at kinds and medials alone
+module _ (older newer : Meaning Character) (same : (c : Character) → newer .medial c ≡ older .medial c) where
+  first-same : (u : List Character) → medialFirst newer u ≡ medialFirst older u
+  first-same [] = refl
+  first-same (c ∷ r) = same c
+
+  pub refused-stable : (v : View) (p : ℕ) (ts : List (Tok Character Kind)) → refusedFrom newer v p ts ≡ refusedFrom older v p ts
+  refused-stable v p [] = refl
+  refused-stable v p (t ∷ ts) =
+      let q = p + tokenWidth t in
+      ap (either (refusedBy v (t .kind)))
+      (refused-stable (viewNext newer v p t) q ts ∙ ap (λ (b : Bool). refusedFrom older (nextView v p (t .kind) b) q ts) (first-same (t .units)))

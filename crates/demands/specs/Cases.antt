@@ -82,6 +82,10 @@ N = withEntries (0x23 ∷ 2 ∷ 0x2E ∷ 3 ∷ [])
 abbrev withLines : List ℕ → List ℕ → List ℕ → List ℕ
 withLines next last entries = imageOf (0x0A ∷ 0x0D ∷ 4 ∷ rangesOfM ++ next ++ (0x200E ∷ 0x200F ∷ 4 ∷ last)) (entries ++ (0x2E ∷ 3 ∷ []))
 
+-- M with the ranges 0A-0D White and 200E-200F of a class, and with these entries after its own
+abbrev withMarks : ℕ → List ℕ → List ℕ
+withMarks class entries = imageOf (0x0A ∷ 0x0D ∷ 4 ∷ rangesOfM ++ (0x200E ∷ 0x200F ∷ class ∷ [])) (0x2E ∷ 3 ∷ entries)
+
 unfoldable pub K : List ℕ
 K = withLines [] [] []
 
@@ -98,6 +102,29 @@ unfoldable pub K3 : List ℕ
 K3 =
     imageOf
     (0x00 ∷ 0x09 ∷ 1 ∷ 0x0A ∷ 0x0D ∷ 4 ∷ 0x0E ∷ 0x1F ∷ 1 ∷ 0x20 ∷ 0x20 ∷ 4 ∷ 0x61 ∷ 0x7A ∷ 1 ∷ 0x84 ∷ 0x86 ∷ 1 ∷ 0x2027 ∷ 0x202A ∷ 1 ∷ 0xFEFF ∷ 0xFEFF ∷ 1 ∷ [])
+    []
+
+-- K with 200E role 3
+unfoldable pub K4 : List ℕ
+K4 = withMarks 4 (0x200E ∷ 3 ∷ [])
+
+-- K with 200E-200F Syntax
+unfoldable pub K5 : List ℕ
+K5 = withMarks 3 []
+
+-- Start a-z, and White: the line ends and the marks with the code points next to them, 09-0E, 84-86, 200D-2010 and 2027-202A
+unfoldable pub K6 : List ℕ
+K6 = imageOf (0x09 ∷ 0x0E ∷ 4 ∷ 0x61 ∷ 0x7A ∷ 1 ∷ 0x84 ∷ 0x86 ∷ 4 ∷ 0x200D ∷ 0x2010 ∷ 4 ∷ 0x2027 ∷ 0x202A ∷ 4 ∷ []) []
+
+-- K with 0A and 20 role 3
+unfoldable pub K7 : List ℕ
+K7 = withLines [] [] (0x0A ∷ 3 ∷ 0x20 ∷ 3 ∷ [])
+
+-- White, and neither line ends nor marks: 08, 1C, A0, 61C, 180E, 2007, 200B-200C, 202E, 2060, 2066, 2069, 3000 and FEFF
+unfoldable pub K8 : List ℕ
+K8 =
+    imageOf
+    (0x08 ∷ 0x08 ∷ 4 ∷ 0x1C ∷ 0x1C ∷ 4 ∷ 0xA0 ∷ 0xA0 ∷ 4 ∷ 0x61C ∷ 0x61C ∷ 4 ∷ 0x180E ∷ 0x180E ∷ 4 ∷ 0x2007 ∷ 0x2007 ∷ 4 ∷ 0x200B ∷ 0x200C ∷ 4 ∷ 0x202E ∷ 0x202E ∷ 4 ∷ 0x2060 ∷ 0x2060 ∷ 4 ∷ 0x2066 ∷ 0x2066 ∷ 4 ∷ 0x2069 ∷ 0x2069 ∷ 4 ∷ 0x3000 ∷ 0x3000 ∷ 4 ∷ 0xFEFF ∷ 0xFEFF ∷ 4 ∷ [])
     []
 
 pub record Case : Type 0 where
@@ -129,19 +156,65 @@ cases =
 -- of lines
 unfoldable pub lineCases : List Case
 lineCases =
-    on K (0x61 ∷ 0x0D ∷ 0x0A ∷ 0x62 ∷ []) (words (1 ∷ 0 ∷ 1 ∷ 1 ∷ 3 ∷ 1 ∷ 3 ∷ 1 ∷ 1 ∷ 3 ∷ 4 ∷ 2 ∷ []))
-    ∷ on K (0x0D ∷ 0x0D ∷ 0x0A ∷ 0x61 ∷ []) (words (3 ∷ 0 ∷ 3 ∷ 1 ∷ 1 ∷ 3 ∷ 4 ∷ 3 ∷ []))
-    ∷ on K (0x0A ∷ 0x0D ∷ 0x61 ∷ []) (words (3 ∷ 0 ∷ 2 ∷ 1 ∷ 1 ∷ 2 ∷ 3 ∷ 3 ∷ []))
-    ∷ on K (0x0B ∷ 0x61 ∷ 0x0C ∷ 0x62 ∷ 0x0D ∷ []) (words (3 ∷ 0 ∷ 1 ∷ 1 ∷ 1 ∷ 1 ∷ 2 ∷ 2 ∷ 3 ∷ 2 ∷ 3 ∷ 2 ∷ 1 ∷ 3 ∷ 4 ∷ 3 ∷ 3 ∷ 4 ∷ 5 ∷ 3 ∷ []))
-    ∷ on K1 (0x0D ∷ 0x0A ∷ 0x62 ∷ 0x20 ∷ []) (words (3 ∷ 0 ∷ 1 ∷ 1 ∷ 1 ∷ 1 ∷ 3 ∷ 1 ∷ 3 ∷ 3 ∷ 4 ∷ 2 ∷ []))
+    on K (0x61 ∷ 0x0D ∷ 0x0A ∷ 0x62 ∷ []) (words (1 ∷ 0 ∷ 1 ∷ 1 ∷ 4 ∷ 1 ∷ 3 ∷ 1 ∷ 1 ∷ 3 ∷ 4 ∷ 2 ∷ []))
+    ∷ on K (0x0D ∷ 0x0D ∷ 0x0A ∷ 0x61 ∷ []) (words (4 ∷ 0 ∷ 3 ∷ 1 ∷ 1 ∷ 3 ∷ 4 ∷ 3 ∷ []))
+    ∷ on K (0x0A ∷ 0x0D ∷ 0x61 ∷ []) (words (4 ∷ 0 ∷ 2 ∷ 1 ∷ 1 ∷ 2 ∷ 3 ∷ 3 ∷ []))
+    ∷ on K (0x0B ∷ 0x61 ∷ 0x0C ∷ 0x62 ∷ 0x0D ∷ []) (words (4 ∷ 0 ∷ 1 ∷ 1 ∷ 1 ∷ 1 ∷ 2 ∷ 2 ∷ 4 ∷ 2 ∷ 3 ∷ 2 ∷ 1 ∷ 3 ∷ 4 ∷ 3 ∷ 4 ∷ 4 ∷ 5 ∷ 3 ∷ []))
+    ∷ on K1 (0x0D ∷ 0x0A ∷ 0x62 ∷ 0x20 ∷ []) (words (4 ∷ 0 ∷ 1 ∷ 1 ∷ 1 ∷ 1 ∷ 3 ∷ 1 ∷ 3 ∷ 3 ∷ 4 ∷ 2 ∷ []))
     ∷ on K1 (0x61 ∷ 0x0A ∷ 0x62 ∷ 0x20 ∷ []) (words (1 ∷ 0 ∷ 3 ∷ 1 ∷ 3 ∷ 3 ∷ 4 ∷ 2 ∷ []))
     ∷ on K2 (0xE2 ∷ 0x80 ∷ 0xA8 ∷ 0x61 ∷ []) (words (2 ∷ 0 ∷ 3 ∷ 1 ∷ 1 ∷ 3 ∷ 4 ∷ 2 ∷ []))
-    ∷ on K (0x0B ∷ 0x0A ∷ 0x0C ∷ 0x0A ∷ 0x0A ∷ 0x61 ∷ []) (words (3 ∷ 0 ∷ 5 ∷ 1 ∷ 1 ∷ 5 ∷ 6 ∷ 6 ∷ []))
+    ∷ on K (0x0B ∷ 0x0A ∷ 0x0C ∷ 0x0A ∷ 0x0A ∷ 0x61 ∷ []) (words (4 ∷ 0 ∷ 5 ∷ 1 ∷ 1 ∷ 5 ∷ 6 ∷ 6 ∷ []))
     ∷ on K2 (0x0D ∷ 0xC2 ∷ 0x85 ∷ 0x0A ∷ 0xE2 ∷ 0x80 ∷ 0xA8 ∷ 0x0A ∷ [])
-    (words (3 ∷ 0 ∷ 1 ∷ 1 ∷ 2 ∷ 1 ∷ 3 ∷ 2 ∷ 3 ∷ 3 ∷ 4 ∷ 3 ∷ 2 ∷ 4 ∷ 7 ∷ 4 ∷ 3 ∷ 7 ∷ 8 ∷ 5 ∷ []))
+    (words (4 ∷ 0 ∷ 1 ∷ 1 ∷ 2 ∷ 1 ∷ 3 ∷ 2 ∷ 4 ∷ 3 ∷ 4 ∷ 3 ∷ 2 ∷ 4 ∷ 7 ∷ 4 ∷ 4 ∷ 7 ∷ 8 ∷ 5 ∷ []))
     ∷ on K3 (0x00 ∷ 0x09 ∷ 0x0E ∷ 0x1C ∷ 0x1D ∷ 0x1E ∷ 0x1F ∷ 0xC2 ∷ 0x84 ∷ 0xC2 ∷ 0x86 ∷ 0xE2 ∷ 0x80 ∷ 0xA7 ∷ 0xE2 ∷ 0x80 ∷ 0xAA ∷ 0xEF ∷ 0xBB ∷ 0xBF ∷ 0x20 ∷ [])
     (words (1 ∷ 0 ∷ 20 ∷ 1 ∷ 3 ∷ 20 ∷ 21 ∷ 1 ∷ []))
     ∷ on K2 (0xC2 ∷ 0x85 ∷ 0x61 ∷ 0xE2 ∷ 0x80 ∷ 0xA9 ∷ 0x62 ∷ []) (words (2 ∷ 0 ∷ 2 ∷ 1 ∷ 1 ∷ 2 ∷ 3 ∷ 2 ∷ 2 ∷ 3 ∷ 6 ∷ 2 ∷ 1 ∷ 6 ∷ 7 ∷ 3 ∷ []))
+    ∷ []
+
+-- the bytes of the two marks before a text
+abbrev left : List ℕ → List ℕ
+left text = 0xE2 ∷ 0x80 ∷ 0x8E ∷ text
+
+abbrev right : List ℕ → List ℕ
+right text = 0xE2 ∷ 0x80 ∷ 0x8F ∷ text
+
+-- of the kinds of White, and of direction marks
+unfoldable pub markCases : List Case
+markCases =
+    on K (0x61 ∷ left (0x62 ∷ [])) (refusal 14 (1 ∷ []))
+    ∷ on K (0x61 ∷ left (right (0x62 ∷ []))) (refusal 14 (1 ∷ []))
+    ∷ on K (0x61 ∷ left (0x2E ∷ 0x62 ∷ [])) (refusal 14 (1 ∷ []))
+    ∷ on K (0x61 ∷ 0x2E ∷ left (0x62 ∷ [])) (refusal 14 (2 ∷ []))
+    ∷ on K (0x2E ∷ left (0x62 ∷ [])) (words (2 ∷ 0 ∷ 1 ∷ 1 ∷ 5 ∷ 1 ∷ 4 ∷ 1 ∷ 1 ∷ 4 ∷ 5 ∷ 1 ∷ []))
+    ∷ on K (0x61 ∷ left (0x2E ∷ [])) (words (1 ∷ 0 ∷ 1 ∷ 1 ∷ 5 ∷ 1 ∷ 4 ∷ 1 ∷ 2 ∷ 4 ∷ 5 ∷ 1 ∷ []))
+    ∷ on K (left (0x61 ∷ left [])) (words (5 ∷ 0 ∷ 3 ∷ 1 ∷ 1 ∷ 3 ∷ 4 ∷ 1 ∷ 5 ∷ 4 ∷ 7 ∷ 1 ∷ []))
+    ∷ on K (0x61 ∷ 0x20 ∷ left (0x62 ∷ [])) (words (1 ∷ 0 ∷ 1 ∷ 1 ∷ 3 ∷ 1 ∷ 2 ∷ 1 ∷ 5 ∷ 2 ∷ 5 ∷ 1 ∷ 1 ∷ 5 ∷ 6 ∷ 1 ∷ []))
+    ∷ on K (0x61 ∷ left (0x2E ∷ left (0x62 ∷ []))) (words (1 ∷ 0 ∷ 1 ∷ 1 ∷ 5 ∷ 1 ∷ 4 ∷ 1 ∷ 2 ∷ 4 ∷ 5 ∷ 1 ∷ 5 ∷ 5 ∷ 8 ∷ 1 ∷ 1 ∷ 8 ∷ 9 ∷ 1 ∷ []))
+    ∷ on K (0x61 ∷ 0x2E ∷ 0x2E ∷ left (0x62 ∷ [])) (words (1 ∷ 0 ∷ 1 ∷ 1 ∷ 2 ∷ 1 ∷ 2 ∷ 1 ∷ 2 ∷ 2 ∷ 3 ∷ 1 ∷ 5 ∷ 3 ∷ 6 ∷ 1 ∷ 1 ∷ 6 ∷ 7 ∷ 1 ∷ []))
+    ∷ on K (0x61 ∷ 0x0A ∷ left (0x62 ∷ [])) (words (1 ∷ 0 ∷ 1 ∷ 1 ∷ 4 ∷ 1 ∷ 2 ∷ 1 ∷ 5 ∷ 2 ∷ 5 ∷ 2 ∷ 1 ∷ 5 ∷ 6 ∷ 2 ∷ []))
+    ∷ on K (0x61 ∷ left (0x0A ∷ 0x62 ∷ [])) (words (1 ∷ 0 ∷ 1 ∷ 1 ∷ 5 ∷ 1 ∷ 4 ∷ 1 ∷ 4 ∷ 4 ∷ 5 ∷ 1 ∷ 1 ∷ 5 ∷ 6 ∷ 2 ∷ []))
+    ∷ on K (0x20 ∷ 0x0A ∷ left (0x20 ∷ [])) (words (3 ∷ 0 ∷ 1 ∷ 1 ∷ 4 ∷ 1 ∷ 2 ∷ 1 ∷ 5 ∷ 2 ∷ 5 ∷ 2 ∷ 3 ∷ 5 ∷ 6 ∷ 2 ∷ []))
+    ∷ on K (0x2E ∷ left (0x61 ∷ left (0x62 ∷ left (0x63 ∷ [])))) (refusal 14 (5 ∷ []))
+    ∷ on K (0x61 ∷ left (0x31 ∷ [])) (refusal 7 (4 ∷ []))
+    ∷ on K (0x61 ∷ left (0x2E ∷ 0x31 ∷ [])) (refusal 7 (5 ∷ []))
+    ∷ on K (0x61 ∷ left (0x62 ∷ 0x25 ∷ [])) (refusal 7 (5 ∷ []))
+    ∷ on K (0x61 ∷ left (0x62 ∷ 0xC0 ∷ [])) (refusal 6 (5 ∷ 1 ∷ []))
+    ∷ on K (0x0A ∷ left (0x0A ∷ [])) (words (4 ∷ 0 ∷ 1 ∷ 1 ∷ 5 ∷ 1 ∷ 4 ∷ 2 ∷ 4 ∷ 4 ∷ 5 ∷ 2 ∷ []))
+    ∷ on K7 (0x61 ∷ 0x20 ∷ left (0x62 ∷ [])) (words (1 ∷ 0 ∷ 1 ∷ 1 ∷ 3 ∷ 1 ∷ 2 ∷ 1 ∷ 5 ∷ 2 ∷ 5 ∷ 1 ∷ 1 ∷ 5 ∷ 6 ∷ 1 ∷ []))
+    ∷ on K7 (0x61 ∷ left (0x20 ∷ 0x62 ∷ [])) (words (1 ∷ 0 ∷ 1 ∷ 1 ∷ 5 ∷ 1 ∷ 4 ∷ 1 ∷ 3 ∷ 4 ∷ 5 ∷ 1 ∷ 1 ∷ 5 ∷ 6 ∷ 1 ∷ []))
+    ∷ on K7 (0x61 ∷ 0x0A ∷ left (0x62 ∷ [])) (words (1 ∷ 0 ∷ 1 ∷ 1 ∷ 4 ∷ 1 ∷ 2 ∷ 1 ∷ 5 ∷ 2 ∷ 5 ∷ 2 ∷ 1 ∷ 5 ∷ 6 ∷ 2 ∷ []))
+    ∷ on K7 (0x61 ∷ left (0x0A ∷ 0x62 ∷ [])) (words (1 ∷ 0 ∷ 1 ∷ 1 ∷ 5 ∷ 1 ∷ 4 ∷ 1 ∷ 4 ∷ 4 ∷ 5 ∷ 1 ∷ 1 ∷ 5 ∷ 6 ∷ 2 ∷ []))
+    ∷ on K4 (0x61 ∷ left (0x62 ∷ [])) (words (1 ∷ 0 ∷ 5 ∷ 1 ∷ []))
+    ∷ on K4 (0x61 ∷ left (left (0x62 ∷ []))) (refusal 14 (1 ∷ []))
+    ∷ on K5 (0x61 ∷ left (0x62 ∷ [])) (words (1 ∷ 0 ∷ 1 ∷ 1 ∷ 2 ∷ 1 ∷ 4 ∷ 1 ∷ 1 ∷ 4 ∷ 5 ∷ 1 ∷ []))
+    ∷ on K6 (0xE2 ∷ 0x80 ∷ 0x8D ∷ left (right (0xE2 ∷ 0x80 ∷ 0x90 ∷ []))) (words (3 ∷ 0 ∷ 3 ∷ 1 ∷ 5 ∷ 3 ∷ 9 ∷ 1 ∷ 3 ∷ 9 ∷ 12 ∷ 1 ∷ []))
+    ∷ on K6 (0x61 ∷ 0xE2 ∷ 0x80 ∷ 0x8D ∷ 0x62 ∷ []) (words (1 ∷ 0 ∷ 1 ∷ 1 ∷ 3 ∷ 1 ∷ 4 ∷ 1 ∷ 1 ∷ 4 ∷ 5 ∷ 1 ∷ []))
+    ∷ on K6 (0x09 ∷ 0x0A ∷ 0x0D ∷ 0x0E ∷ []) (words (3 ∷ 0 ∷ 1 ∷ 1 ∷ 4 ∷ 1 ∷ 3 ∷ 1 ∷ 3 ∷ 3 ∷ 4 ∷ 3 ∷ []))
+    ∷ on K6 (0xC2 ∷ 0x84 ∷ 0xC2 ∷ 0x85 ∷ 0xC2 ∷ 0x86 ∷ []) (words (3 ∷ 0 ∷ 2 ∷ 1 ∷ 4 ∷ 2 ∷ 4 ∷ 1 ∷ 3 ∷ 4 ∷ 6 ∷ 2 ∷ []))
+    ∷ on K6 (0xE2 ∷ 0x80 ∷ 0xA7 ∷ 0xE2 ∷ 0x80 ∷ 0xA8 ∷ 0xE2 ∷ 0x80 ∷ 0xA9 ∷ 0xE2 ∷ 0x80 ∷ 0xAA ∷ []) (words (3 ∷ 0 ∷ 3 ∷ 1 ∷ 4 ∷ 3 ∷ 9 ∷ 1 ∷ 3 ∷ 9 ∷ 12 ∷ 3 ∷ []))
+    ∷ on K8
+    (0x08 ∷ 0x1C ∷ 0xC2 ∷ 0xA0 ∷ 0xD8 ∷ 0x9C ∷ 0xE1 ∷ 0xA0 ∷ 0x8E ∷ 0xE2 ∷ 0x80 ∷ 0x87 ∷ 0xE2 ∷ 0x80 ∷ 0x8B ∷ 0xE2 ∷ 0x80 ∷ 0x8C ∷ 0xE2 ∷ 0x80 ∷ 0xAE ∷ 0xE2 ∷ 0x81 ∷ 0xA0 ∷ 0xE2 ∷ 0x81 ∷ 0xA6 ∷ 0xE2 ∷ 0x81 ∷ 0xA9 ∷ 0xE3 ∷ 0x80 ∷ 0x80 ∷ 0xEF ∷ 0xBB ∷ 0xBF ∷ [])
+    (words (3 ∷ 0 ∷ 36 ∷ 1 ∷ []))
     ∷ []
 
 -- of hashtags

@@ -1,13 +1,15 @@
--- The tokens of a text by demand 2: longest tokens of the annex's kinds under an image, one after the other from byte 0.
+-- The tokens of a text by demand 2: longest tokens of the annex's kinds under an image, one after the other from byte 0; and the direction
+-- marks among them that are refused.
 use Prim.Native.Nat.{ℕ, _≤_}
 use mathlib.Core.Path.{_≡_}
-use mathlib.Core.List.{List, [], _∷_}
+use mathlib.Core.List.{List, [], _∷_, _++_}
 use lib.ListN.{length}
 use Rattle.utf8.specs.Text.{Character, Encoded}
 use Rattle.image.specs.Accepted.{Accepted}
 use Rattle.grammar.specs.Scan.{Tok}
 use Rattle.grammar.specs.Division.{Division}
 use Rattle.grammar.specs.Grammar.{Kind, Token}
+use Rattle.grammar.specs.Marks.{RefusedMark}
 use Rattle.grammar.specs.Record.{tokensWidth}
 use Rattle.grammar.specs.Reading.{maxText, meaningOf}
 
@@ -34,3 +36,21 @@ pub record Stopped (s text : List ℕ) (p : ℕ) : Type 0 where
 -- no run of longest tokens reaches the text's end
 abbrev pub NoDivision : List ℕ → List ℕ → Type 0
 NoDivision s text = (ts : List (Tok Character Kind)) → Divided s text ts [] → ⊥
+
+-- the token at byte p of the text's division is a mark that is refused (docs/RULES.md, "Direction marks"; demand 2)
+pub record MarkRefused (s text : List ℕ) (p : ℕ) : Type 0 where
+  pub before : List (Tok Character Kind)
+  pub mark : Tok Character Kind
+  pub after : List (Tok Character Kind)
+  pub divided : Divided s text (before ++ mark ∷ after) []
+  pub refused : RefusedMark (meaningOf s) before mark after
+  pub place : p ≡ tokensWidth before
+
+-- "the byte place of the first such token" (docs/RULES.md, "Direction marks"; demand 2)
+pub record FirstMark (s text : List ℕ) (p : ℕ) : Type 0 where
+  pub mark : MarkRefused s text p
+  pub first : (q : ℕ) → MarkRefused s text q → p ≤ q
+
+-- no mark is refused (docs/RULES.md, "Direction marks"; demand 2)
+abbrev pub NoMark : List ℕ → List ℕ → Type 0
+NoMark s text = (p : ℕ) → MarkRefused s text p → ⊥

@@ -22,7 +22,7 @@ use Rattle.grammar.specs.Scan.{Tok}
 use Rattle.grammar.specs.Grammar.{Kind}
 use Rattle.grammar.specs.Record.{recordSize}
 use Rattle.grammar.specs.Reading.{countOf, listOf, listWords}
-use Rattle.demands.specs.Demand2.{Divided, Stopped}
+use Rattle.demands.specs.Demand2.{Divided, Stopped, FirstMark, NoMark}
 
 -- "any two accepted images with equal profiles, where the newer differs from the older only by changes that Table 1 of the annex permits":
 -- at every scalar value the two classes in the ranges are equal, or the change is permitted
@@ -66,7 +66,8 @@ module _ (older newer text : List ℕ) where
     pub accepted : (n : ℕ) → a ≡ given n → b ≡ given n
     -- "where the older refuses a text for its characters, the newer gives the same refusal at the same place, unless" a character changed
     pub characters : (p : ℕ) → a ≡ refused (refusal.Characters p) → (b ≡ refused (refusal.Characters p)) ⊎ Excepted p
-    -- "every other refusal that the older gives a text, the newer gives too, and it carries the same; of 6 that is the place and the length"
+    -- "every other refusal that the older gives a text, the newer gives too, and it carries the same; of 6 that is the place and the length",
+    -- of 14 the place
     pub others : (r : Refusal) → a ≡ refused r → ((p : ℕ) → r ≡ refusal.Characters p → ⊥) → b ≡ refused r
 
 -- the words of n records in a buffer's front
@@ -78,6 +79,9 @@ pub record Demand3 (older newer text out newOut : List ℕ) : Type 0 where
   -- of demand 2's division itself
   pub division : (ts : List (Tok Character Kind)) → Divided older text ts [] → Divided newer text ts []
   pub stopped : (p : ℕ) → Stopped older text p → Stopped newer text p ⊎ Excepted older newer text p
+  -- of the marks in it: the first that is refused, or that none is
+  pub marked : (p : ℕ) → FirstMark older text p → FirstMark newer text p
+  pub unmarked : (ts : List (Tok Character Kind)) → Divided older text ts [] → NoMark older text → NoMark newer text
   -- of the answers, and "word for word, the same list"
   pub counting : Promise older newer text (countOf older text) (countOf newer text)
   pub writing : Promise older newer text (listOf older text (length out)) (listOf newer text (length newOut))

@@ -7,9 +7,10 @@ use Rattle.grammar.specs.Meaning.{Meaning}
 use Rattle.image.specs.Permitted.{Permitted}
 
 module _ {A : Type 0} (older newer : Meaning A) where
-  -- the unit's class changes as is permitted, and it is a medial in both or in none
+  -- the unit's class changes as is permitted, its kind of White is the same, and it is a medial in both or in none
   pub record Allowed (c : A) : Type 0 where
     pub permitted : Permitted (older .class c) (newer .class c)
+    pub white : newer .white c ≡ older .white c
     pub medial : newer .medial c ≡ older .medial c
 
   -- the first unit, if there is one, has the class that it had

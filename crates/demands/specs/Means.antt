@@ -16,7 +16,7 @@ use Rattle.grammar.specs.Scan.{Tok}
 use Rattle.grammar.specs.Grammar.{Kind}
 use Rattle.grammar.specs.Record.{roomOf}
 use Rattle.grammar.specs.Reading.{maxText}
-use Rattle.demands.specs.Demand2.{Divided, Stopped}
+use Rattle.demands.specs.Demand2.{Divided, Stopped, FirstMark, NoMark}
 
 module _ (s text : List ℕ) where
   -- the refusals of an image and a text, whatever the room
@@ -29,14 +29,16 @@ module _ (s text : List ℕ) where
     ill-formed : {p n : ℕ} → Accepted s → length text ≤ maxText → TextMeans text (form.IllFormed p n) → Refuses (refusal.IllFormed p n)
     -- 7: the longest run of tokens from byte 0 ends at p, and no token begins there
     no-token : {p : ℕ} → Stopped s text p → Refuses (refusal.Characters p)
+    -- 14: the text has a division, and the first mark in it that is refused stands at p
+    mark : {p : ℕ} → FirstMark s text p → Refuses (refusal.Mark p)
 
-  -- counting: the tokens of the division, or a refusal
+  -- counting: the tokens of the division, where no mark is refused, or a refusal
   pub data CountMeans : Outcome ℕ → Type 0 where
-    counts : {n : ℕ} {ts : List (Tok Character Kind)} → Divided s text ts [] → length ts ≡ n → CountMeans (given n)
+    counts : {n : ℕ} {ts : List (Tok Character Kind)} → Divided s text ts [] → NoMark s text → length ts ≡ n → CountMeans (given n)
     count-refuses : {r : Refusal} → Refuses r → CountMeans (refused r)
 
   -- writing the list into a buffer of so many words: the same where there is room for the tokens, else 8 with the records needed
   pub data ListMeans (words : ℕ) : Outcome ℕ → Type 0 where
-    lists : {n : ℕ} {ts : List (Tok Character Kind)} → Divided s text ts [] → length ts ≡ n → n ≤ roomOf words → ListMeans words (given n)
-    no-room : {n : ℕ} {ts : List (Tok Character Kind)} → Divided s text ts [] → length ts ≡ n → roomOf words < n → ListMeans words (refused (refusal.Room n))
+    lists : {n : ℕ} {ts : List (Tok Character Kind)} → Divided s text ts [] → NoMark s text → length ts ≡ n → n ≤ roomOf words → ListMeans words (given n)
+    no-room : {n : ℕ} {ts : List (Tok Character Kind)} → Divided s text ts [] → NoMark s text → length ts ≡ n → roomOf words < n → ListMeans words (refused (refusal.Room n))
     list-refuses : {r : Refusal} → Refuses r → ListMeans words (refused r)

@@ -7,11 +7,12 @@ use Prim.Native.Nat.{suc, _≤_}
 use native.Mathlib.Omega.{arith}
 use lib.ListN.{length}
 use Rattle.lists.proofs.BoolLaws.{impossible}
+use Rattle.grammar.specs.All.{All}
 use Rattle.grammar.specs.Scan.{Rules, Tok, Reading, unitsOf, goes, walk, reading}
 use Rattle.grammar.specs.Division.{Longest, NoToken, Division, ends, takes}
 use Rattle.grammar.proofs.ScanLaws.{walk-nil, walk-more, walk-stop, walk-open, run-none}
 
-append-same : {A : Type 0} (u v r s : List A) → u ++ r ≡ v ++ s → length u ≡ length v → (u ≡ v) × (r ≡ s)
+pub append-same : {A : Type 0} (u v r s : List A) → u ++ r ≡ v ++ s → length u ≡ length v → (u ≡ v) × (r ≡ s)
 append-same [] [] r s e h = (refl, e)
 append-same [] (y ∷ v) r s e h = absurd (omega arith)
 append-same (x ∷ u) [] r s e h = absurd (omega arith)
@@ -61,7 +62,7 @@ module _ {A K : Type 0} (Token : K → List A → Type 0) where
         let p = F .starts j v t in
         (p .0, p .1, p .2, e ∙ ap (λ x. x ++ w) (p .2), p .3)
 
-    none-at-end : NoToken Token []
+    pub none-at-end : NoToken Token []
     none-at-end j v w e t =
         let q = begins j v w e t .3 in
         impossible (cc)
@@ -121,3 +122,18 @@ module _ {A K : Type 0} (Token : K → List A → Type 0) where
   pub division-ends : {s left : List A} {ts : List (Tok A K)} → Division Token s ts left → NoToken Token left
   division-ends (ends n) = n
   division-ends (takes L d) = division-ends d
+
+  -- each token is one
+  pub division-tokens : {s left : List A} {ts : List (Tok A K)} → Division Token s ts left → All (λ t. Token (t .kind) (t .units)) ts
+  division-tokens (ends n) = tt
+  division-tokens (takes L d) = (L .token, division-tokens d)
+
+  -- the tokens before one are the division of the units before it
+  pub division-front : NoToken Token [] → (us ts : List (Tok A K)) {s left : List A} (r : List A) → s ≡ unitsOf us ++ r →
+      Division Token s (us ++ ts) left → Division Token (unitsOf us) us []
+  division-front n [] ts r e d = ends n
+  division-front n (t ∷ us) ts r e (takes {k = k} {u = u} {rest = rest} L d) =
+      let f : rest ≡ unitsOf us ++ r = append-same u u rest (unitsOf us ++ r) (sym (L .whole) ∙ e ∙ append-assoc u (unitsOf us) r) refl .1 in
+      let longest : (j : K) (v w : List A) → u ++ unitsOf us ≡ v ++ w → Token j v → length v ≤ length u =
+      λ j v w g h. L .longest j v (w ++ r) (e ∙ ap (λ x. x ++ r) g ∙ append-assoc v w r) h in
+      takes (record { whole = refl; token = L .token; longest = longest }) (division-front n us ts r f d)

@@ -23,8 +23,9 @@ use Rattle.grammar.specs.Division.{Division}
 use Rattle.grammar.specs.Division as division
 use Rattle.grammar.specs.Meaning.{Meaning}
 use Rattle.grammar.specs.Grammar.{Kind, identifier, syntax, whitespace, Token}
+use Rattle.grammar.specs.Second.{firstRefused}
 use Rattle.grammar.specs.Record.{roomOf}
-use Rattle.grammar.specs.Reading.{maxText, meaningOf, readingOf, tokensOf, lengthRefusal, formRefusalBy, judged, outcomeOf, roomed, writtenOf, listOf}
+use Rattle.grammar.specs.Reading.{maxText, meaningOf, readingOf, tokensOf, lengthRefusal, formRefusalBy, markRefusalBy, markRefusal, judged, outcomeOf, roomed, writtenOf, listOf}
 use Rattle.grammar.proofs.GrammarLaws.{tokens-divide}
 use Rattle.grammar.proofs.AnswerLaws.{counts-given, roomed-in, roomed-given}
 
@@ -32,7 +33,7 @@ use Rattle.grammar.proofs.AnswerLaws.{counts-given, roomed-in, roomed-g
 token-some : {A : Type 0} (m : Meaning A) (k : Kind) (u : List A) → Token m k u → 0 < length u
 token-some m identifier u t = let l = ap length (t .whole) in omega arith
 token-some m syntax u t = let l = ap length (t .whole) in omega arith
-token-some m whitespace u t = let l = ap length (t .whole) in omega arith
+token-some m (whitespace w) u t = let l = ap length (t .whole) in omega arith
 
 few-divided : {A : Type 0} (m : Meaning A) {s left : List A} {ts : List (Tok A Kind)} → Division (Token m) s ts left → length ts ≤ length s
 few-divided m (division.ends n) = omega arith
@@ -51,8 +52,13 @@ module _ (s text : List ℕ) where
   Read (given ts) = length ts ≤ length text
   Read (refused r) = (n : ℕ) → r ≡ refusal.Room n → ⊥
 
-  by-left : (l : List Character) → Read (judged (tokensOf s text) l)
-  by-left [] = few-tokens
+  by-mark : (o : Option (List (Tok Character Kind))) → Read (unless (markRefusalBy o) (given (tokensOf s text)))
+  by-mark none = few-tokens
+  by-mark (some ts) = λ n e. impossible (cc)
+
+  by-left : (l : List Character) → Read (judged s (tokensOf s text) l)
+  unfolding markRefusal
+  by-left [] = by-mark (firstRefused (meaningOf s) [] (tokensOf s text))
   by-left (c ∷ l) = λ n e. impossible (cc)
 
   by-form : (t : Text) (o : Outcome (List (Tok Character Kind))) → Read o → Read (unless (formRefusalBy t) o)

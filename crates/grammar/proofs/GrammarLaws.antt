@@ -1,4 +1,4 @@
--- The one-pass reader of the three kinds gives the one division of a text into the tokens of the grammar. Assumes nothing.
+-- The one-pass reader of the kinds of tokens gives the one division of a text into the tokens of the grammar. Assumes nothing.
 use mathlib.Core.Path.{_≡_, refl, sym, ap, _∙_}
 use mathlib.Core.Bool.{Bool, true, false, false≢true, _&&_}
 use mathlib.Core.List.{List, [], _∷_, _++_}
@@ -6,14 +6,15 @@ use mathlib.Core.Option.{some}
 use mathlib.Core.Logic.{_↔_, _⊎_, inl, inr}
 use Prim.Native.Nat.{_≤_, zero-le, suc-le-suc}
 use lib.ListN.{length}
-use Rattle.lists.proofs.BoolLaws.{or-cases, and-left, and-right, and-in, or-left, or-right, or-none}
+use Rattle.lists.proofs.BoolLaws.{impossible, or-cases, and-left, and-right, and-in, or-left, or-right, or-none}
 use Rattle.image.specs.Class.{Class, Unassigned, Start, Nonstart, Syntax, White, Other}
 use Rattle.grammar.specs.All.{All}
 use Rattle.grammar.specs.Scan.{Tok, walk, reading}
 use Rattle.grammar.specs.Division.{Division}
+use Rattle.grammar.specs.White.{WhiteKind, blank, lineEnd, mark, sameWhite}
 use Rattle.grammar.specs.Meaning.{Meaning}
 use Rattle.grammar.specs.Grammar.{Kind, identifier, syntax, whitespace, Continue, IsContinue, IsMedial, IsWhite, Token}
-use Rattle.grammar.specs.Kinds.{isContinue, isWhite, kindOfClass, continues, kindOf, localRules, rules}
+use Rattle.grammar.specs.Kinds.{isContinue, isWhite, kindBy, continues, kindOf, goesWith, localRules, rules}
 use Rattle.grammar.specs.Step.{Local, goesFirst, moreBy}
 use Rattle.grammar.proofs.TailLaws.{Tail, no-more, continued, linked, identifier-begun, begun-identifier, tail-from}
 use Rattle.grammar.proofs.ScanLaws.{walk-nil, walk-more, run-ends}
@@ -40,27 +41,50 @@ white-means Syntax e = absurd (false≢true e)
 white-means White e = refl
 white-means Other e = absurd (false≢true e)
 
--- the class that begins a kind
-abbrev firstClass : Kind → Class
-firstClass identifier = Start
-firstClass syntax = Syntax
-firstClass whitespace = White
+pub white-same : (w v : WhiteKind) → sameWhite w v ≡ true → v ≡ w
+white-same blank blank e = refl
+white-same blank lineEnd e = absurd (false≢true e)
+white-same blank mark e = absurd (false≢true e)
+white-same lineEnd blank e = absurd (false≢true e)
+white-same lineEnd lineEnd e = refl
+white-same lineEnd mark e = absurd (false≢true e)
+white-same mark blank e = absurd (false≢true e)
+white-same mark lineEnd e = absurd (false≢true e)
+white-same mark mark e = refl
 
-pub first-class : (a : Class) (k : Kind) → kindOfClass a ≡ some k → a ≡ firstClass k
-first-class Unassigned k e = cc
-first-class Start k e = let p : identifier ≡ k = cc in rw (← p)
-first-class Nonstart k e = cc
-first-class Syntax k e = let p : syntax ≡ k = cc in rw (← p)
-first-class White k e = let p : whitespace ≡ k = cc in rw (← p)
-first-class Other k e = cc
+same-white : (w : WhiteKind) → sameWhite w w ≡ true
+same-white blank = refl
+same-white lineEnd = refl
+same-white mark = refl
+
+-- the class and the kind of White that begin a kind of token
+abbrev First : Kind → Class → WhiteKind → Type 0
+First identifier a v = a ≡ Start
+First syntax a v = a ≡ Syntax
+First (whitespace w) a v = (a ≡ White) × (v ≡ w)
+
+pub first-class : (a : Class) (v : WhiteKind) (k : Kind) → kindBy v a ≡ some k → First k a v
+first-class Unassigned v k e = impossible (cc)
+first-class Start v k e = let p : identifier ≡ k = cc in rw (← p)
+first-class Nonstart v k e = impossible (cc)
+first-class Syntax v k e = let p : syntax ≡ k = cc in rw (← p)
+first-class White v k e = let p : whitespace v ≡ k = cc in rw (← p) (refl, refl)
+first-class Other v k e = impossible (cc)
 
 module _ {A : Type 0} (m : Meaning A) where
   abbrev L : Local A Kind
   L = localRules m
 
-  -- white space goes on with White alone
-  more-white : (c : A) (r : List A) → moreBy L whitespace (c ∷ r) ≡ isWhite (m .class c)
-  more-white c r = or-none (isWhite (m .class c))
+  -- white space goes on with White of its kind alone
+  more-white : (w : WhiteKind) (c : A) (r : List A) → moreBy L (whitespace w) (c ∷ r) ≡ goesWith m (whitespace w) c
+  more-white w c r = or-none (goesWith m (whitespace w) c)
+
+  pub goes-white : (w : WhiteKind) (c : A) → IsWhite m w c → goesWith m (whitespace w) c ≡ true
+  goes-white w c e = and-in (isWhite (m .class c)) (sameWhite w (m .white c)) (ap isWhite (e .0)) (ap (sameWhite w) (e .1) ∙ same-white w)
+
+  pub white-goes : (w : WhiteKind) (c : A) → goesWith m (whitespace w) c ≡ true → IsWhite m w c
+  white-goes w c e =
+      (white-means (m .class c) (and-left (isWhite (m .class c)) (sameWhite w (m .white c)) e), white-same w (m .white c) (and-right (isWhite (m .class c)) (sameWhite w (m .white c)) e))
 
   abbrev run : Kind → List A → List A
   run k r = walk (rules m) (some k) r .run
@@ -102,9 +126,9 @@ module _ {A : Type 0} (m : Meaning A) where
       go t (inl h) = continued (continue-means (m .class c) h) t
       go t (inr h) = link c (run identifier r) (and-left (m .medial c) (goesFirst L identifier r) h) (first-run r (and-right (m .medial c) (goesFirst L identifier r) h)) t
 
-  white-run : (r : List A) → All (IsWhite m) (run whitespace r)
-  white-run [] = rw (run-nil whitespace) tt
-  white-run (c ∷ r) = let t = white-run r in run-step (All (IsWhite m)) whitespace c r tt (λ e. (white-means (m .class c) (sym (more-white c r) ∙ e), t))
+  white-run : (w : WhiteKind) (r : List A) → All (IsWhite m w) (run (whitespace w) r)
+  white-run w [] = rw (run-nil (whitespace w)) tt
+  white-run w (c ∷ r) = let t = white-run w r in run-step (All (IsWhite m w)) (whitespace w) c r tt (λ e. (white-goes w c (sym (more-white w c r) ∙ e), t))
 
   nothing-run : (r : List A) → run syntax r ≡ []
   nothing-run [] = run-nil syntax
@@ -117,19 +141,19 @@ module _ {A : Type 0} (m : Meaning A) where
       rw (run-more identifier d (c ∷ (r ++ w)) (goes-medial d c (r ++ w) e h), run-more identifier c (r ++ w) (goes-continue c (r ++ w) h))
       (suc-le-suc (suc-le-suc (tail-bound t w)))
 
-  white-bound : (v : List A) → All (IsWhite m) v → (w : List A) → length v ≤ length (run whitespace (v ++ w))
-  white-bound [] a w = zero-le
-  white-bound (c ∷ v) a w = rw (run-more whitespace c (v ++ w) (more-white c (v ++ w) ∙ ap isWhite (a .0))) (suc-le-suc (white-bound v (a .1) w))
+  white-bound : (k : WhiteKind) (v : List A) → All (IsWhite m k) v → (w : List A) → length v ≤ length (run (whitespace k) (v ++ w))
+  white-bound k [] a w = zero-le
+  white-bound k (c ∷ v) a w = rw (run-more (whitespace k) c (v ++ w) (more-white k c (v ++ w) ∙ goes-white k c (a .0))) (suc-le-suc (white-bound k v (a .1) w))
 
   token-starts : (k : Kind) (u : List A) → Token m k u → (c : A) × (v : List A) × (u ≡ c ∷ v) × (kindOf m c ≡ some k)
-  token-starts identifier u t = (t .first, t .plain ++ t .groups, t .whole, ap kindOfClass (t .start))
-  token-starts syntax u t = (t .only, [], t .whole, ap kindOfClass (t .class))
-  token-starts whitespace u t = (t .first, t .others, t .whole, ap kindOfClass (t .white .0))
+  token-starts identifier u t = (t .first, t .plain ++ t .groups, t .whole, ap (kindBy (m .white (t .first))) (t .start))
+  token-starts syntax u t = (t .only, [], t .whole, ap (kindBy (m .white (t .only))) (t .class))
+  token-starts (whitespace w) u t = (t .first, t .others, t .whole, (λ i. kindBy (t .white .0 .1 i) (t .white .0 .0 i)))
 
-  token-sound : (k : Kind) (c : A) (r : List A) → m .class c ≡ firstClass k → Token m k (c ∷ run k r)
+  token-sound : (k : Kind) (c : A) (r : List A) → First k (m .class c) (m .white c) → Token m k (c ∷ run k r)
   token-sound identifier c r e = begun-identifier m (record { first = c; after = run identifier r; whole = refl; start = e; tail = tail-run r })
   token-sound syntax c r e = record { only = c; whole = ap (λ x. c ∷ x) (nothing-run r); class = e }
-  token-sound whitespace c r e = record { first = c; others = run whitespace r; whole = refl; white = (e, white-run r) }
+  token-sound (whitespace w) c r e = record { first = c; others = run (whitespace w) r; whole = refl; white = (e, white-run w r) }
 
   token-bound : (k : Kind) (c : A) (v w : List A) → Token m k (c ∷ v) → length v ≤ length (run k (v ++ w))
   token-bound identifier c v w t =
@@ -137,10 +161,10 @@ module _ {A : Type 0} (m : Meaning A) where
       let e : v ≡ b .after = cc (b .whole) in
       tail-bound {v = v} (rw e (b .tail)) w
   token-bound syntax c v w t = let e : v ≡ [] = cc (t .whole) in rw e zero-le
-  token-bound whitespace c v w t = let e : v ≡ t .others = cc (t .whole) in white-bound v (rw e (t .white .1)) w
+  token-bound (whitespace k) c v w t = let e : v ≡ t .others = cc (t .whole) in white-bound k v (rw e (t .white .1)) w
 
   pub fits : Fits (Token m) (rules m)
-  fits = record { starts = token-starts; sound = λ k c r e. token-sound k c r (first-class (m .class c) k e); bound = token-bound }
+  fits = record { starts = token-starts; sound = λ k c r e. token-sound k c r (first-class (m .class c) (m .white c) k e); bound = token-bound }
 
   -- the reading of a text is its division into tokens, and there is no other
   pub tokens-divide : (s : List A) → Division (Token m) s (reading (rules m) s .tokens) (reading (rules m) s .left)

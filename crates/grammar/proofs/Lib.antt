@@ -3,7 +3,11 @@ pub mod DivisionLaws
 pub mod TailLaws
 pub mod GrammarLaws
 pub mod StepLaws
+pub mod JoinLaws
 pub mod RecordLaws
+pub mod BesideLaws
 pub mod AnswerLaws
 pub mod FewLaws
 pub mod MedialLaws
+pub mod SecondLaws
+pub mod PartsLaws

@@ -12,7 +12,7 @@ use Rattle.grammar.proofs.TailLaws.{Tail, no-more, continued, linked, i
 
 -- the meaning that takes the medial mark from every unit that is Continue
 abbrev pub unmarked : {A : Type 0} → Meaning A → Meaning A
-unmarked m = record { class = m .class; medial = λ c. m .medial c && not (isContinue (m .class c)) }
+unmarked m = record { class = m .class; white = m .white; medial = λ c. m .medial c && not (isContinue (m .class c)) }
 
 module _ {A : Type 0} (m : Meaning A) where
   take-marks : {r : List A} → Tail m r → Tail (unmarked m) r

@@ -6,11 +6,13 @@ use mathlib.Core.List.{List, [], _∷_, _++_}
 use mathlib.Core.Logic.{_⊎_}
 use Rattle.image.specs.Class.{Class, Start, Nonstart, Syntax, White}
 use Rattle.grammar.specs.All.{All}
+use Rattle.grammar.specs.White.{WhiteKind}
 use Rattle.grammar.specs.Meaning.{Meaning}
 
--- the kinds of tokens
+-- the kinds of tokens: those of White are three
 pub data Kind : Type 0 where
-  identifier syntax whitespace : Kind
+  identifier syntax : Kind
+  whitespace : WhiteKind → Kind
 
 -- Continue means Start or Nonstart
 abbrev pub Continue : Class → Type 0
@@ -23,8 +25,8 @@ module _ {A : Type 0} (m : Meaning A) where
   abbrev pub IsMedial : A → Type 0
   IsMedial c = m .medial c ≡ true
 
-  abbrev pub IsWhite : A → Type 0
-  IsWhite c = m .class c ≡ White
+  abbrev pub IsWhite : WhiteKind → A → Type 0
+  IsWhite w c = (m .class c ≡ White) × (m .white c ≡ w)
 
   -- (<Medial> <Continue>+)*. A medial that is itself Continue may be taken as either: the same units are identifiers
   pub data Groups : List A → Type 0 where
@@ -47,15 +49,15 @@ module _ {A : Type 0} (m : Meaning A) where
     pub whole : u ≡ only ∷ []
     pub class : m .class only ≡ Syntax
 
-  -- one or more units of class White
-  pub record Whitespace (u : List A) : Type 0 where
+  -- one or more units of class White, of one kind
+  pub record Whitespace (w : WhiteKind) (u : List A) : Type 0 where
     pub first : A
     pub others : List A
     pub whole : u ≡ first ∷ others
-    pub white : All IsWhite (first ∷ others)
+    pub white : All (IsWhite w) (first ∷ others)
 
   -- the units u are a token of a kind, whatever stands around them
   abbrev pub Token : Kind → List A → Type 0
   Token identifier u = Identifier u
   Token syntax u = SyntaxToken u
-  Token whitespace u = Whitespace u
+  Token (whitespace w) u = Whitespace w u

@@ -1,9 +1,10 @@
 -- The kinds of tokens by their numbers, and the rules of the one-pass reader for them (docs/RULES.md, "Tokens").
 -- `proofs/GrammarLaws.antt` joins the rules to the tokens of `Grammar.antt`.
 use Prim.Native.Nat.{ℕ}
-use mathlib.Core.Bool.{Bool, true, false}
+use mathlib.Core.Bool.{Bool, true, false, _&&_}
 use mathlib.Core.Option.{Option, none, some}
 use Rattle.image.specs.Class.{Class, Unassigned, Start, Nonstart, Syntax, White, Other}
+use Rattle.grammar.specs.White.{WhiteKind, blank, lineEnd, mark, sameWhite}
 use Rattle.grammar.specs.Scan.{Rules}
 use Rattle.grammar.specs.Step.{Local, rulesBy}
 use Rattle.grammar.specs.Meaning.{Meaning}
@@ -13,7 +14,9 @@ use Rattle.grammar.specs.Grammar.{Kind, identifier, syntax, whitespace}
 abbrev pub kindNumber : Kind → ℕ
 kindNumber identifier = 1
 kindNumber syntax = 2
-kindNumber whitespace = 3
+kindNumber (whitespace blank) = 3
+kindNumber (whitespace lineEnd) = 4
+kindNumber (whitespace mark) = 5
 
 -- Start or Nonstart
 abbrev pub isContinue : Class → Bool
@@ -32,20 +35,20 @@ isWhite Syntax = false
 isWhite White = true
 isWhite Other = false
 
--- the kind of token that a unit of a class begins
-abbrev pub kindOfClass : Class → Option Kind
-kindOfClass Unassigned = none
-kindOfClass Start = some identifier
-kindOfClass Nonstart = none
-kindOfClass Syntax = some syntax
-kindOfClass White = some whitespace
-kindOfClass Other = none
+-- the kind of token that a unit of a class begins; w is its kind of White
+abbrev pub kindBy : WhiteKind → Class → Option Kind
+kindBy w Unassigned = none
+kindBy w Start = some identifier
+kindBy w Nonstart = none
+kindBy w Syntax = some syntax
+kindBy w White = some (whitespace w)
+kindBy w Other = none
 
 -- how tokens go on, by the kind of the token and what is known of the next unit. An identifier goes on with a Continue, and through
--- a medial that a Continue follows; white space with White; a syntax token doesn't go on
+-- a medial that a Continue follows; white space with White of its kind; a syntax token doesn't go on
 module _ {A : Type 0} (m : Meaning A) where
   abbrev pub kindOf : A → Option Kind
-  kindOf c = kindOfClass (m .class c)
+  kindOf c = kindBy (m .white c) (m .class c)
 
   abbrev pub continues : A → Bool
   continues c = isContinue (m .class c)
@@ -53,12 +56,12 @@ module _ {A : Type 0} (m : Meaning A) where
   abbrev pub goesWith : Kind → A → Bool
   goesWith identifier c = continues c
   goesWith syntax c = false
-  goesWith whitespace c = isWhite (m .class c)
+  goesWith (whitespace w) c = isWhite (m .class c) && sameWhite w (m .white c)
 
   abbrev pub linksWith : Kind → A → Bool
   linksWith identifier c = m .medial c
   linksWith syntax c = false
-  linksWith whitespace c = false
+  linksWith (whitespace w) c = false
 
   abbrev pub localRules : Local A Kind
   localRules = record { kindOf = kindOf; goes = goesWith; links = linksWith }

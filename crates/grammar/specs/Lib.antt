@@ -2,8 +2,12 @@ pub mod All
 pub mod Scan
 pub mod Step
 pub mod Division
+pub mod White
 pub mod Meaning
 pub mod Grammar
 pub mod Kinds
+pub mod Marks
+pub mod Second
 pub mod Record
+pub mod Beside
 pub mod Reading

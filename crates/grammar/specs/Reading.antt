@@ -14,9 +14,11 @@ use Rattle.utf8.specs.Text.{Character, decode, textOf}
 use Rattle.image.specs.Class.{classNamed}
 use Rattle.image.specs.Check.{refusalOf, classOf, medialOf}
 use Rattle.grammar.specs.Scan.{Tok, Reading, Rules, reading}
+use Rattle.grammar.specs.White.{whiteOf}
 use Rattle.grammar.specs.Meaning.{Meaning}
 use Rattle.grammar.specs.Grammar.{Kind}
 use Rattle.grammar.specs.Kinds.{rules}
+use Rattle.grammar.specs.Second.{firstRefused}
 use Rattle.refusal.specs.Outcome.{Outcome, given, refused, unless, refusedIf, outcomeMap}
 use Rattle.grammar.specs.Record.{roomOf, tokensWidth, listedWords}
 
@@ -24,9 +26,14 @@ use Rattle.grammar.specs.Record.{roomOf, tokensWidth, listedWords}
 abbrev pub maxText : ℕ
 maxText = 1048576
 
--- the class after the profile of a character, and whether it is a medial, under the image s
+-- the class after the profile of a character, its kind of White, and whether it is a medial, under the image s
 unfoldable pub meaningOf : List ℕ → Meaning Character
-meaningOf s = record { class = λ (c : Character). classNamed (classOf s (c .code)); medial = λ (c : Character). medialOf s (c .code) }
+meaningOf s =
+    record {
+      class = λ (c : Character). classNamed (classOf s (c .code));
+      white = λ (c : Character). whiteOf (c .code);
+      medial = λ (c : Character). medialOf s (c .code);
+    }
 
 abbrev pub rulesOf : List ℕ → Rules Character Kind
 rulesOf s = rules (meaningOf s)
@@ -50,17 +57,25 @@ formRefusalBy (IllFormed p n) = some (refusal.IllFormed p n)
 abbrev pub formRefusal : List ℕ → Option Refusal
 formRefusal text = formRefusalBy (textOf text)
 
--- 7: characters are left, and no token begins where the tokens end
-abbrev pub judged : List (Tok Character Kind) → List Character → Outcome (List (Tok Character Kind))
-judged ts [] = given ts
-judged ts (c ∷ r) = refused (refusal.Characters (tokensWidth ts))
+-- 14: the first mark that is refused, where these are the text's tokens
+abbrev pub markRefusalBy : Option (List (Tok Character Kind)) → Option Refusal
+markRefusalBy none = none
+markRefusalBy (some before) = some (refusal.Mark (tokensWidth before))
 
--- 1 to 4 of the image, then 5, then 6, then 7; else the text's tokens
+unfoldable pub markRefusal : List ℕ → List (Tok Character Kind) → Option Refusal
+markRefusal s ts = markRefusalBy (firstRefused (meaningOf s) [] ts)
+
+-- 7: characters are left, and no token begins where the tokens end; then 14; else the tokens
+abbrev pub judged : List ℕ → List (Tok Character Kind) → List Character → Outcome (List (Tok Character Kind))
+judged s ts [] = unless (markRefusal s ts) (given ts)
+judged s ts (c ∷ r) = refused (refusal.Characters (tokensWidth ts))
+
+-- 1 to 4 of the image, then 5, then 6, then 7, then 14; else the text's tokens
 unfoldable pub outcomeOf : List ℕ → List ℕ → Outcome (List (Tok Character Kind))
 outcomeOf s text =
     unless (refusalOf s)
     (unless (lengthRefusal text)
-    (unless (formRefusal text) (judged (readingOf s text .tokens) (readingOf s text .left))))
+    (unless (formRefusal text) (judged s (readingOf s text .tokens) (readingOf s text .left))))
 
 -- the answer of counting
 unfoldable pub countOf : List ℕ → List ℕ → Outcome ℕ

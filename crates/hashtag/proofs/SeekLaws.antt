@@ -22,6 +22,7 @@ use Rattle.utf8.specs.Text.{Character, charactersAt, widthOf, textOf, shift}
 use Rattle.utf8.proofs.SequenceLaws.{known-bounds, ill-at, end-empty}
 use Rattle.utf8.proofs.TextLaws.{step-bounds, known-length, turn, ascii-at, characters-step, characters-ill, characters-end}
 use Rattle.line.specs.Ends.{look, endOf}
+use Rattle.line.proofs.LineLaws.{end-most, trail-tells}
 use Rattle.image.specs.Check.{refusalOf}
 use Rattle.character.specs.Read.{ReadAs}
 use Rattle.character.specs.declared.Character.{Character as Read}
@@ -62,29 +63,16 @@ pub trail-passes : (b : ℕ) → isTrail b ≡ true → stopOf true b ≡ 0
 trail-passes b e =
     let h = leb-true 0x80 b (and-left (leb 0x80 b) (ltb b 0xC0) e) in
     let l = ltb-true b 0xC0 (and-right (leb 0x80 b) (ltb b 0xC0) e) in
-    rw (
-      ne-eqb b 0x23 (λ f. absurd (omega arith)),
-      ne-eqb b 0xEF (λ f. absurd (omega arith)),
-      le-ltb b 0x0A (omega arith),
-      le-ltb b 0x0D (omega arith),
-      ne-eqb b 0x0D (λ f. absurd (omega arith)),
-      ne-eqb b 0xC2 (λ f. absurd (omega arith)),
-      ne-eqb b 0xE2 (λ f. absurd (omega arith)),
-    )
+    rw (ne-eqb b 0x23 (λ f. absurd (omega arith)), ne-eqb b 0xEF (λ f. absurd (omega arith))) (trail-tells b e)
 
 -- what the table has for a byte
 pub small : (b : ℕ) {n : ℕ} → n ≡ stopOf true b → n ≤ look
-small b {n} e = go (eqb b 0x23) (eqb b 0xEF) (ltb b 0x0A) (ltb b 0x0D) (eqb b 0x0D) (eqb b 0xC2) (eqb b 0xE2) e
+small b {n} e = go (eqb b 0x23) (eqb b 0xEF) e
   where
-    go : (p q t u v w x : Bool) → n ≡ cond p look (cond q look (cond t 0 (cond u 1 (cond v look (cond w look (cond x look 0)))))) → n ≤ look
-    go true q t u v w x f = omega arith
-    go false true t u v w x f = omega arith
-    go false false true u v w x f = omega arith
-    go false false false true v w x f = omega arith
-    go false false false false true w x f = omega arith
-    go false false false false false true x f = omega arith
-    go false false false false false false true f = omega arith
-    go false false false false false false false f = omega arith
+    go : (p q : Bool) → n ≡ cond p look (cond q look (endOf b)) → n ≤ look
+    go true q f = omega arith
+    go false true f = omega arith
+    go false false f = omega (arith, end-most b)
 
 -- bytes that were passed over
 pub passed-begins : (known : Bool) (text : List ℕ) (from : ℕ) → from ≤ length text → Passed known text from from

@@ -7,7 +7,7 @@ use mathlib.Core.List.{List}
 use mathlib.Core.Logic.{_⊎_, inl, inr}
 use mathlib.Core.Option.{none}
 use native.Mathlib.Omega.{arith}
-use borrow.Author.Tests.{eqb-true, ne-eqb, not-true}
+use borrow.Author.Tests.{eqb-true, ne-eqb, le-leb, not-true}
 use lib.Dec.{leb, eqb}
 use lib.ListN.{length, getD, drop}
 use Rattle.lists.proofs.BoolLaws.{and-left, or-cases}
@@ -20,7 +20,7 @@ use Rattle.line.specs.Line.{isLineEnd}
 use Rattle.line.proofs.LineLaws.{LineEnd, low, next, separator, no-line-end}
 use Rattle.image.specs.Class.{classNamed}
 use Rattle.image.specs.Check.{refusalOf, classOf, hashtagOf}
-use Rattle.character.specs.Traits.{traitsOf}
+use Rattle.character.specs.Traits.{traitsOf, partClass}
 use Rattle.character.proofs.TraitLaws.{traits-class, traits-hashtag}
 use Rattle.grammar.specs.Kinds.{isContinue}
 use Rattle.hashtag.specs.Sign.{isSign, isHashtagContinue}
@@ -33,24 +33,25 @@ no-sign s x e = not-true (isSign x) (and-left (not (isSign x)) (isContinue (clas
 
 -- by the traits of a code point under an accepted image
 abbrev pub continuesBy : ℕ → ℕ → Bool
-continuesBy x t = not (isSign x) && (isContinue (classNamed (t % 8)) || leb 16 t)
+continuesBy x t = not (isSign x) && (isContinue (partClass (t % 8)) || leb 16 t)
 
 pub by-traits : (s : List ℕ) (x t : ℕ) → refusalOf s ≡ none → t ≡ traitsOf s x → continuesBy x t ≡ isHashtagContinue s x
 unfolding isHashtagContinue
 by-traits s x t a e =
-    let c : t % 8 ≡ classOf s x = ap (λ (n : ℕ). n % 8) e ∙ traits-class s x a in
+    let c : partClass (t % 8) ≡ classNamed (classOf s x) = ap (λ (n : ℕ). partClass (n % 8)) e ∙ traits-class s x a in
     let h : leb 16 t ≡ hashtagOf s x = ap (leb 16) e ∙ traits-hashtag s x a in
-    (λ i. not (isSign x) && (isContinue (classNamed (c i)) || h i))
+    (λ i. not (isSign x) && (isContinue (c i) || h i))
 
--- of the classes only 1 and 2 are Continue
-pub class-two : (k : ℕ) → (k ≡ 1 → ⊥) → eqb k 2 ≡ isContinue (classNamed k)
+-- of the class parts only 1 and 2 are Continue
+pub class-two : (k : ℕ) → (k ≡ 1 → ⊥) → eqb k 2 ≡ isContinue (partClass k)
 class-two zero h = refl
 class-two (suc zero) h = absurd (h refl)
 class-two (suc (suc zero)) h = refl
 class-two (suc (suc (suc zero))) h = refl
 class-two (suc (suc (suc (suc zero)))) h = refl
 class-two (suc (suc (suc (suc (suc zero))))) h = refl
-class-two (suc (suc (suc (suc (suc (suc k)))))) h = ne-eqb (suc (suc (suc (suc (suc (suc k)))))) 2 (λ e. absurd (omega arith))
+class-two (suc (suc (suc (suc (suc (suc k)))))) h =
+    rw (le-leb 6 (suc (suc (suc (suc (suc (suc k)))))) (omega arith)) (ne-eqb (suc (suc (suc (suc (suc (suc k)))))) 2 (λ e. absurd (omega arith)))
 
 -- the first byte of a sign's sequence
 pub sign-here : (text : List ℕ) (at : ℕ) → at < length text → getD text at 0 ≡ 0x23 → true ≡ signOf (stepOf (drop at text))

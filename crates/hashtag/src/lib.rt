@@ -3,8 +3,8 @@
 ghost use mathlib.Core.Path.{_≡_};
 ghost use mathlib.Core.Bool.{Bool, true, false, not, _&&_, _||_};
 ghost use mathlib.Core.Option.{none};
-ghost use Prim.Native.Nat.{ℕ, _+_, _*_, _%_, _≤_, _<_};
-ghost use lib.ListN.{length, getD, drop};
+ghost use Prim.Native.Nat.{_+_, _*_, _%_, _≤_, _<_};
+ghost use lib.ListN.{length, drop};
 ghost use lib.Dec.{leb};
 ghost use Rattle.lists.specs.Laid.{laid};
 ghost use Rattle.utf8.specs.declared.Text.the-variants.{WellFormed};
@@ -12,8 +12,8 @@ ghost use Rattle.utf8.specs.Head.{stepOf, IllHead};
 ghost use Rattle.utf8.specs.Lead.{isTrail};
 ghost use Rattle.utf8.specs.Text.{charactersAt, widthOf, textOf};
 ghost use Rattle.line.specs.Line.{LineAt};
-ghost use Rattle.image.specs.Class.{classNamed};
 ghost use Rattle.image.specs.Check.{refusalOf};
+ghost use Rattle.character.specs.Traits.{partClass};
 ghost use Rattle.character.specs.Read.{TableOf};
 ghost use Rattle.grammar.specs.Kinds.{isContinue};
 ghost use Rattle.grammar.specs.Record.{recordSize};
@@ -82,7 +82,7 @@ fn is_sign(code: u32) -> bool
 
 // Whether a character with these traits is hashtag Continue.
 fn continues(code: u32, traits: u32) -> bool
-    ensures { λ r. ⌜ r ≡ (not (isSign code) && (isContinue (classNamed (traits % 8)) || leb 16 traits)) ⌝ }
+    ensures { λ r. ⌜ r ≡ (not (isSign code) && (isContinue (partClass (traits % 8)) || leb 16 traits)) ⌝ }
 {
     if is_sign(code) {
         return false; // whatever its class or role
@@ -203,7 +203,7 @@ fn look_four<'a>(stops: &'a [u8; 256], s: &'a [u8]) -> u8
 }
 
 // A place up to which a search in a text that is known to be well-formed stops nowhere, from a place on this line: four bytes at a time.
-fn count_fours<'a>(stops: &'a [u8; 256], text: &'a [u8], from: usize, first: u32) -> Reach
+fn pass_fours<'a>(stops: &'a [u8; 256], text: &'a [u8], from: usize, first: u32) -> Reach
     requires { ⌜ StopsOf true (now stops) ⌝ }
     requires { ⌜ (from ≤ length (now text)) × (length (now text) ≤ maxText) ⌝ }
     requires { ⌜ first ≤ 16 * maxText ⌝ }
@@ -223,7 +223,7 @@ fn count_fours<'a>(stops: &'a [u8; 256], text: &'a [u8], from: usize, first: u32
 }
 
 // The first place from a place on this line where such a search stops, or the text's end.
-fn count_bytes<'a>(stops: &'a [u8; 256], text: &'a [u8], from: usize, first: u32) -> Reach
+fn pass_bytes<'a>(stops: &'a [u8; 256], text: &'a [u8], from: usize, first: u32) -> Reach
     requires { ⌜ StopsOf true (now stops) ⌝ }
     requires { ⌜ (from ≤ length (now text)) × (length (now text) ≤ maxText) ⌝ }
     requires { ⌜ first ≤ 16 * maxText ⌝ }
@@ -379,8 +379,8 @@ fn seek_known<'a>(
 {
     let mut at = from;
     while at < text.len() {
-        let near = count_fours(stops, text, at, line);
-        let stop = count_bytes(stops, text, near.at, near.line);
+        let near = pass_fours(stops, text, at, line);
+        let stop = pass_bytes(stops, text, near.at, near.line);
         at = stop.at;
         line = stop.line;
         if text.len() <= at {

@@ -1,5 +1,5 @@
 -- Lines from character to character, and what the first byte of a character tells of its line end. Assumes nothing.
-use Prim.Native.Nat.{ℕ, zero, suc, _+_, _-_, _≤_, _<_}
+use Prim.Native.Nat.{ℕ, _+_, _-_, _≤_, _<_}
 use mathlib.Core.Path.{_≡_, refl, sym, ap, subst, _∙_}
 use mathlib.Core.Bool.{Bool, true, false, cond}
 use mathlib.Core.List.{List, [], _∷_, _++_, append-assoc}
@@ -7,10 +7,12 @@ use native.Mathlib.Omega.{arith}
 use native.Mathlib.Decide.{decLt}
 use lib.ListN.{length, getD, drop}
 use lib.Dec.{leb, ltb, eqb}
-use borrow.Author.Tests.{eq-eqb, ne-eqb, eqb-true, lt-ltb, le-ltb, le-leb, lt-leb}
-use Rattle.lists.proofs.BoolLaws.{impossible}
+use borrow.Author.Tests.{eq-eqb, ne-eqb, eqb-true, eqb-false, leb-true, ltb-true, lt-ltb, le-ltb, le-leb, lt-leb}
+use mathlib.Core.Logic.{_⊎_, inl, inr}
+use Rattle.lists.proofs.BoolLaws.{impossible, and-left, and-right}
 use Rattle.utf8.specs.declared.Step.{Step}
 use Rattle.utf8.specs.declared.Step.the-variants.{Scalar, IllFormed, End}
+use Rattle.utf8.specs.Lead.{isTrail}
 use Rattle.utf8.specs.Head.{stepOf, IllHead}
 use Rattle.utf8.specs.Text.{Character, decode, charactersAt, widthOf}
 use Rattle.utf8.proofs.SequenceLaws.{ill-at}
@@ -59,16 +61,41 @@ small true = omega arith
 small false = omega arith
 
 -- what a byte tells, but for those whose code point is to be looked at
-end-small : (b : ℕ) → endOf b < look → endOf b ≤ 1
-end-small b = go (ltb b 0x0A) (ltb b 0x0D) (eqb b 0x0D) (eqb b 0xC2) (eqb b 0xE2)
+pub data Tells (b : ℕ) : ℕ → Type 0 where
+  nothing : (b < 0x0A) ⊎ (0x0D < b) → (b ≡ 0xC2 → ⊥) → (b ≡ 0xE2 → ⊥) → Tells b 0
+  ends : 0x0A ≤ b → b < 0x0D → Tells b 1
+  looks : Tells b look
+
+end-tells : (b : ℕ) → Tells b (endOf b)
+unfolding endOf
+end-tells b = go (decLt b 0x0A) (decLt b 0x0D)
   where
-    go : (p q t u v : Bool) → cond p 0 (cond q 1 (cond t look (cond u look (cond v look 0)))) < look → cond p 0 (cond q 1 (cond t look (cond u look (cond v look 0)))) ≤ 1
-    go true q t u v h = omega arith
-    go false true t u v h = omega arith
-    go false false true u v h = absurd (omega arith)
-    go false false false true v h = absurd (omega arith)
-    go false false false false true h = absurd (omega arith)
-    go false false false false false h = omega arith
+    past : 0x0D ≤ b → (t u v : Bool) → eqb b 0x0D ≡ t → eqb b 0xC2 ≡ u → eqb b 0xE2 ≡ v → Tells b (cond t look (cond u look (cond v look 0)))
+    past h true u v e f g = looks
+    past h false true v e f g = looks
+    past h false false true e f g = looks
+    past h false false false e f g = nothing (inr (omega (arith, eqb-false b 0x0D e))) (eqb-false b 0xC2 f) (eqb-false b 0xE2 g)
+
+    go : Dec (b < 0x0A) → Dec (b < 0x0D) → Tells b (endOf b)
+    go (yes h) d = rw (lt-ltb b 0x0A h) (nothing (inl h) (λ e. absurd (omega arith)) (λ e. absurd (omega arith)))
+    go (no h) (yes l) = rw (le-ltb b 0x0A (omega arith), lt-ltb b 0x0D l) (ends (omega arith) l)
+    go (no h) (no l) = rw (le-ltb b 0x0A (omega arith), le-ltb b 0x0D (omega arith)) (past (omega arith) (eqb b 0x0D) (eqb b 0xC2) (eqb b 0xE2) refl refl refl)
+
+-- it never tells more than `look`, and a byte that only follows others tells nothing
+pub end-most : (b : ℕ) → endOf b ≤ look
+end-most b = go (end-tells b)
+  where
+    go : {v : ℕ} → Tells b v → v ≤ look
+    go (nothing h c e) = omega arith
+    go (ends h l) = omega arith
+    go looks = omega arith
+
+pub trail-tells : (b : ℕ) → isTrail b ≡ true → endOf b ≡ 0
+unfolding endOf
+trail-tells b e =
+    let h = leb-true 0x80 b (and-left (leb 0x80 b) (ltb b 0xC0) e) in
+    let l = ltb-true b 0xC0 (and-right (leb 0x80 b) (ltb b 0xC0) e) in
+    rw (le-ltb b 0x0A (omega arith), le-ltb b 0x0D (omega arith), ne-eqb b 0x0D (λ f. absurd (omega arith)), ne-eqb b 0xC2 (λ f. absurd (omega arith)), ne-eqb b 0xE2 (λ f. absurd (omega arith)))
 
 -- whether a line ends with a code point
 module _ (x : ℕ) (r : List Character) where
@@ -115,50 +142,28 @@ module _ (text : List ℕ) where
     b = getD text at 0
 
     -- no line ends with it
-    pub told-none : endOf b ≡ 0 → isLineEnd x ≡ false
-    told-none z = no-line-end x none
+    told-by : at < length text → {v : ℕ} → Tells b v → v < look → (r : List Character) → v ≡ one (endsLine x r)
+    told-by h (nothing k c d) l r = sym (ends-not x r (no-line-end x none))
       where
-        first : (k : ℕ) → getD (drop at text) 0 0 ≡ k → endOf k ≡ 0
-        first k q = ap endOf (sym (sym (first-at text at) ∙ q)) ∙ z
+        first : (y : ℕ) → getD (drop at text) 0 0 ≡ y → b ≡ y
+        first y q = sym (first-at text at) ∙ q
 
-        lies : (k : ℕ) → 0x0A ≤ k → k ≤ 0x0D → endOf k ≡ 0 → Dec (k < 0x0D) → ⊥
-        lies k h l q (yes m) = let w : _≡_ {A = ℕ} 1 0 = sym (rw (le-ltb k 0x0A h, lt-ltb k 0x0D m)) ∙ q in omega arith
-        lies k h l q (no m) = let w : look ≡ 0 = sym (rw (le-ltb k 0x0A h, le-ltb k 0x0D (omega arith), eq-eqb k 0x0D (omega arith))) ∙ q in omega arith
+        outside : (0x0A ≤ b) → (b ≤ 0x0D) → (b < 0x0A) ⊎ (0x0D < b) → ⊥
+        outside p q (inl z) = omega arith
+        outside p q (inr z) = omega arith
 
         none : LineEnd x → ⊥
-        none (low h l) = lies x h l (first x (first-byte (drop at text) x n e .ascii (omega arith))) (decLt x 0x0D)
-        none (next q) =
-            let b : getD (drop at text) 0 0 ≡ 0xC2 = omega (arith, first-byte (drop at text) x n e .two (omega arith) (omega arith)) in
-            impossible (cc (first 0xC2 b))
-        none (separator h l) =
-            let b : getD (drop at text) 0 0 ≡ 0xE2 = omega (arith, first-byte (drop at text) x n e .three (omega arith) (omega arith)) in
-            impossible (cc (first 0xE2 b))
-
-    -- or one does
-    one-range : endOf b ≡ 1 → (0x0A ≤ b) × (b < 0x0D)
-    one-range z = go (decLt b 0x0A) (decLt b 0x0D)
-      where
-        others : (c d f : Bool) → cond c look (cond d look (cond f look 0)) ≡ 1 → ⊥
-        others true d f q = absurd (omega arith)
-        others false true f q = absurd (omega arith)
-        others false false true q = absurd (omega arith)
-        others false false false q = absurd (omega arith)
-
-        go : Dec (b < 0x0A) → Dec (b < 0x0D) → (0x0A ≤ b) × (b < 0x0D)
-        go (yes h) d = let w : _≡_ {A = ℕ} 0 1 = sym (rw (lt-ltb b 0x0A h)) ∙ z in absurd (omega arith)
-        go (no h) (yes l) = (omega arith, l)
-        go (no h) (no l) = absurd (others (eqb b 0x0D) (eqb b 0xC2) (eqb b 0xE2) (sym (rw (le-ltb b 0x0A (omega arith), le-ltb b 0x0D (omega arith))) ∙ z))
+        none (low p q) = let z = first x (first-byte (drop at text) x n e .ascii (omega arith)) in outside (omega arith) (omega arith) k
+        none (next q) = c (first 0xC2 (omega (arith, first-byte (drop at text) x n e .two (omega arith) (omega arith))))
+        none (separator p q) = d (first 0xE2 (omega (arith, first-byte (drop at text) x n e .three (omega arith) (omega arith))))
+    told-by h (ends p q) l r =
+        let a = ascii-at text at h (omega arith) in
+        let c : x ≡ b = cc in
+        sym (ends-here x r (is-line-end x (low (omega arith) (omega arith))) (λ k. absurd (omega arith)))
+    told-by h looks l r = absurd (omega arith)
 
     pub told : at < length text → (v : ℕ) → v ≡ endOf b → v < look → (r : List Character) → v ≡ one (endsLine x r)
-    told h zero q l r = sym (ends-not x r (told-none (sym q)))
-    told h (suc zero) q l r =
-        let i = one-range (sym q) in
-        let a = ascii-at text at h (let u = i .1 in omega arith) in
-        let c : x ≡ b = cc in
-        let u = i .0 in
-        let w = i .1 in
-        sym (ends-here x r (is-line-end x (low (omega arith) (omega arith))) (λ k. absurd (omega arith)))
-    told h (suc (suc v)) q l r = let z = end-small b (let m = l in omega arith) in absurd (omega arith)
+    told h v q l r = q ∙ told-by h (end-tells b) (omega arith) r
 
     pub end-at : endAt text at ≡ one (endsLine x (charactersAt text (at + n)))
     unfolding endAt

@@ -16,7 +16,7 @@ abbrev pub look : ℕ
 look = 8
 
 -- no line ends with the character, 0; one does, 1; or `look`
-abbrev pub endOf : ℕ → ℕ
+unfoldable pub endOf : ℕ → ℕ
 endOf b = cond (ltb b 0x0A) 0 (cond (ltb b 0x0D) 1 (cond (eqb b 0x0D) look (cond (eqb b 0xC2) look (cond (eqb b 0xE2) look 0))))
 
 -- the table of all bytes

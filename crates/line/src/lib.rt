@@ -27,7 +27,7 @@ const FIRST_OF_THREE: usize = 0xE2;
 pub const LOOK: u8 = 8;
 
 // Whether a code point ends a line.
-fn is_line_end(code: u32) -> bool
+pub fn is_line_end(code: u32) -> bool
     ensures { λ r. ⌜ r ≡ isLineEnd code ⌝ }
 {
     if code < LINE_FEED {

@@ -8,10 +8,14 @@ use listing::MAX_WORDS;
 use scan::Counted;
 use scan::RECORD_WORDS;
 
-// The kinds of tokens; the third is white space.
+// The kinds of tokens; the third is blanks.
 const IDENTIFIER: u32 = 1;
 
 const SYNTAX: u32 = 2;
+
+const LINE_END: u32 = 4;
+
+const MARK: u32 = 5;
 
 fn print_kind(kind: u32) {
     if kind == IDENTIFIER {
@@ -20,6 +24,14 @@ fn print_kind(kind: u32) {
     }
     if kind == SYNTAX {
         printing::print_text(b"syntax");
+        return;
+    }
+    if kind == LINE_END {
+        printing::print_text(b"lineend");
+        return;
+    }
+    if kind == MARK {
+        printing::print_text(b"mark");
         return;
     }
     printing::print_text(b"whitespace");

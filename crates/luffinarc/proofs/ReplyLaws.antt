@@ -19,6 +19,7 @@ use Rattle.refusal.specs.declared.Refusal.the-variants.{
   Profiles,
   Buffer,
   Shape,
+  Mark,
 }
 use Rattle.image.specs.declared.Answer.{Answer}
 use Rattle.image.specs.declared.Answer.the-variants as answer
@@ -30,8 +31,8 @@ use Rattle.luffinarc.specs.ImageReply.{checkedBy, arrayBy, TellsChecked}
 pub told : {T : Type 0} (reply : T → Reply) {x y : T} {n : ℕ} {a : List ℕ} → x ≡ y → Tells (reply y) n a → Tells (reply x) n a
 told reply {n = n} {a} e h = subst (λ z. Tells (reply z) n a) (sym e) h
 
--- a refusal has a number of 1 to 13
-pub known : (r : Refusal) → (1 ≤ numberOf r) × (numberOf r ≤ 13)
+-- a refusal has a number of 1 to 14
+pub known : (r : Refusal) → (1 ≤ numberOf r) × (numberOf r ≤ 14)
 known Length = (omega arith, omega arith)
 known Header = (omega arith, omega arith)
 known (Range i) = (omega arith, omega arith)
@@ -45,6 +46,7 @@ known (Change x) = (omega arith, omega arith)
 known Profiles = (omega arith, omega arith)
 known (Buffer n) = (omega arith, omega arith)
 known Shape = (omega arith, omega arith)
+known (Mark p) = (omega arith, omega arith)
 
 -- so the result tells a refusal from the other answers
 pub apart : (r : Refusal) → (numberOf r ≡ 0 → ⊥) × (numberOf r ≡ done → ⊥)

@@ -16,6 +16,7 @@ use Rattle.refusal.specs.declared.Refusal.the-variants.{
   Profiles,
   Buffer,
   Shape,
+  Mark,
 }
 
 abbrev pub numberOf : Refusal → ℕ
@@ -32,6 +33,7 @@ numberOf (Change x) = 10
 numberOf Profiles = 11
 numberOf (Buffer n) = 12
 numberOf Shape = 13
+numberOf (Mark p) = 14
 
 -- what a refusal carries, in the table's order
 abbrev pub carriedBy : Refusal → List ℕ
@@ -48,3 +50,4 @@ carriedBy (Change x) = x ∷ []
 carriedBy Profiles = []
 carriedBy (Buffer n) = n ∷ []
 carriedBy Shape = []
+carriedBy (Mark p) = p ∷ []

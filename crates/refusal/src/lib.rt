@@ -30,6 +30,8 @@ pub enum Refusal {
     Buffer(usize),
     // 13: a list of words is no multiple of its record's words, or a place lies past the text's end, or a start after an end.
     Shape,
+    // 14: a direction mark parts what is one token without it; the byte place of the first such mark.
+    Mark(usize),
 }
 
 // The refusal's number.
@@ -50,6 +52,7 @@ pub fn number(r: Refusal) -> u32
         Refusal::Profiles => 11,
         Refusal::Buffer(_) => 12,
         Refusal::Shape => 13,
+        Refusal::Mark(_) => 14,
     }
 }
 
@@ -71,6 +74,7 @@ pub fn carried_count(r: Refusal) -> usize
         Refusal::Profiles => 0,
         Refusal::Buffer(_) => 1,
         Refusal::Shape => 0,
+        Refusal::Mark(_) => 1,
     }
 }
 
@@ -92,6 +96,7 @@ pub fn carried(r: Refusal) -> usize
         Refusal::Profiles => 0,
         Refusal::Buffer(n) => n,
         Refusal::Shape => 0,
+        Refusal::Mark(p) => p,
     }
 }
 
@@ -113,5 +118,6 @@ pub fn carried_second(r: Refusal) -> usize
         Refusal::Profiles => 0,
         Refusal::Buffer(_) => 0,
         Refusal::Shape => 0,
+        Refusal::Mark(_) => 0,
     }
 }

@@ -3,9 +3,11 @@
 use Prim.Native.Nat.{ℕ, zero, suc, _+_, _-_, _≤_, _<_}
 use mathlib.Core.Path.{_≡_, refl, sym, ap, subst, _∙_}
 use mathlib.Core.List.{List, [], _∷_, _++_}
-use mathlib.Core.Option.{none}
+use mathlib.Core.Bool.{Bool, true}
+use mathlib.Core.Option.{Option, none, some}
 use native.Mathlib.Omega.{arith}
 use lib.ListN.{length, drop, length-append}
+use lib.Dec.{leb}
 use Rattle.utf8.specs.declared.Step.the-variants as utf8-step
 use Rattle.utf8.specs.Head.{stepOf, IllHead}
 use Rattle.utf8.specs.Text.{Character, charactersAt, textOf, shift}
@@ -16,13 +18,15 @@ use Rattle.character.specs.Read.{ReadTokenAs}
 use Rattle.character.proofs.TraitLaws.{token-small}
 use Rattle.character.specs.declared.Character.{Character as Read}
 use Rattle.grammar.specs.Step.{idle, under, held, moves, underWay, preceded, tokensLeft, step, settle, finish}
+use Rattle.grammar.specs.Grammar.{Kind}
+use Rattle.grammar.specs.Kinds.{kindNumber, kindOf}
 use Rattle.grammar.specs.Record.{tokensWidth}
 use Rattle.grammar.specs.Reading.{readingOf, tokensOf}
 use Rattle.grammar.proofs.RecordLaws.{tokens-append}
 use Rattle.grammar.proofs.FewLaws.{few-tokens}
 use Rattle.grammar.proofs.StepLaws.{preceded-append, readFrom, meant, read-step, Settles, read-settles, read-finish}
-use Rattle.scan.specs.Turns.{waiting, waitingOf, turnOf, afterOf, startBy}
-use Rattle.scan.proofs.TurnLaws.{Tokens, Under, L, Stands, doneBy, Going, Moved, Turned, turned, settled, Left, left}
+use Rattle.scan.specs.Turns.{waiting, traitMeaning, waitingOf, turnOf, afterOf, startBy}
+use Rattle.scan.proofs.TurnLaws.{Tokens, Under, L, Stands, doneBy, Going, Comes, Moved, Turned, turned, settled, Left, left}
 
 -- a place of the text up to which it is well-formed
 pub record Place (text : List ℕ) (p : ℕ) : Type 0 where
@@ -86,10 +90,11 @@ reached-begins s text =
     record { place = p; medial = p; stands = (refl, refl); same = refl }
 
 -- after a turn that completes r tokens, none or the one under way, a token is under way since `start`
-pub record After (s text : List ℕ) (ts : Tokens) (q : Under) (r state start mid at : ℕ) : Type 0 where
+pub record After (s text : List ℕ) (ts : Tokens) (q : Under) (o : Option Kind) (b : Bool) (r state start mid at : ℕ) : Type 0 where
   pub next : Under
   pub reached : Reached s text state mid at (ts ++ doneBy r q) next
   pub going : Going next
+  pub comes : Comes s o b q r next
   pub size : length (doneBy r q) ≡ r
   pub began : start ≡ tokensWidth (ts ++ doneBy r q)
 
@@ -117,18 +122,23 @@ module _ {s text : List ℕ} {state mid at : ℕ} {ts : Tokens} {q : Under} (i :
     pub read-settled : preceded ts (meant (L s) (settle (L s) q) (charactersAt text at)) ≡ readingOf s text
     read-settled = ap (preceded ts) (sym (read-settles (L s) q (charactersAt text at) h)) ∙ i .same
 
-    pub after-settling : waiting ≤ state → (state ≡ waiting → ⊥) → After s text ts q 1 (state - waiting) mid mid at
+    pub after-settling : waiting ≤ state → (state ≡ waiting → ⊥) →
+        (k : Kind) × (state ≡ waiting + kindNumber k) × After s text ts q (some k) true 1 (state - waiting) mid mid at
     after-settling w n =
-        let x = settled s state (tokensWidth ts) mid at q (i .stands) w n in
-        record {
-          next = x .next;
-          reached =
-              reached-by (underWay q) (x .next) (state - waiting) mid at (ap (λ m. preceded ts (meant (L s) m (charactersAt text at))) (sym (x .same)) ∙ read-settled) (x .stands)
-              (i .place) (i .medial);
-          going = x .going;
-          size = x .size;
-          began = x .began ∙ sym (tokens-append ts (underWay q));
-        }
+        let x = settled s state (tokensWidth ts) mid at q (i .stands) w n in (
+          x .kind,
+          x .number,
+          record {
+            next = x .next;
+            reached =
+                reached-by (underWay q) (x .next) (state - waiting) mid at (ap (λ m. preceded ts (meant (L s) m (charactersAt text at))) (sym (x .same)) ∙ read-settled) (x .stands)
+                (i .place) (i .medial);
+            going = x .going;
+            comes = x .comes;
+            size = x .size;
+            began = x .began ∙ sym (tokens-append ts (underWay q));
+          },
+        )
 
     -- or it begins no token
     pub left-settled : (x : Left s state (tokensWidth ts) mid at q) →
@@ -178,18 +188,20 @@ module _ {s text : List ℕ} {state mid at : ℕ} {ts : Tokens} {q : Under} (i :
     moves-on us p e = ap (λ m. preceded ts (meant (L s) m next)) (sym e) ∙ read-on
 
     after-moving : (r : ℕ) → Moved s unit traits q state (tokensWidth ts) mid at r →
-        After s text ts q r (afterOf traits) (startBy r (tokensWidth ts) at) mid (at + len)
+        After s text ts q (kindOf traitMeaning traits) (leb 8 traits) r (afterOf traits) (startBy r (tokensWidth ts) at) mid (at + len)
     after-moving r x =
         record {
           next = x .next;
           reached = reached-by (doneBy r q) (x .next) (afterOf traits) mid (at + len) (moves-on (doneBy r q) (x .next) (x .same)) (x .stands) place-next (i .medial);
           going = x .going;
+          comes = x .comes;
           size = x .size;
           began = x .began ∙ sym (tokens-append ts (doneBy r q));
         }
 
     -- a token goes on or begins
-    pub after-turn : (r : ℕ) → turn ≡ r → r ≤ 1 → After s text ts q r (afterOf traits) (startBy r (tokensWidth ts) at) mid (at + len)
+    pub after-turn : (r : ℕ) → turn ≡ r → r ≤ 1 →
+        After s text ts q (kindOf traitMeaning traits) (leb 8 traits) r (afterOf traits) (startBy r (tokensWidth ts) at) mid (at + len)
     after-turn zero e h = after-moving 0 (turn-is 0 e)
     after-turn (suc zero) e h = after-moving 1 (turn-is 1 e)
     after-turn (suc (suc r)) e h = absurd (omega arith)

@@ -8,10 +8,17 @@ use Rattle.lists.specs.Each.{eachFrom, each, column}
 use Rattle.lists.proofs.EachLaws.{column-at}
 use Rattle.scan.specs.Turns.{states, waitingOf, turnOf, afterOf, turnTable, afterTable, waitingTable}
 
-abbrev turnAt : ℕ → ℕ
-turnAt i = turnOf (i / 16) (i % 16)
+-- a table of rows of sixteen
+abbrev pub rowsOf : (ℕ → ℕ → ℕ) → ℕ → ℕ
+rowsOf f i = f (i / 16) (i % 16)
 
-turns-hold : turnTable ≡ column 128 turnAt 128
+pub rows-at : (f : ℕ → ℕ → ℕ) (size n t : ℕ) → n * 16 + t < size → t < 16 → getD (column size (rowsOf f) size) (n * 16 + t) 0 ≡ f n t
+rows-at f size n t h l =
+    let q : (n * 16 + t) / 16 ≡ n = omega arith in
+    let r : (n * 16 + t) % 16 ≡ t = omega arith in
+    column-at size (rowsOf f) size (n * 16 + t) h ∙ (λ i. f (q i) (r i))
+
+turns-hold : turnTable ≡ column 192 (rowsOf turnOf) 192
 unfolding column each eachFrom turnOf
 turns-hold = refl
 
@@ -24,10 +31,7 @@ unfolding column each eachFrom waitingOf
 waiting-holds = refl
 
 pub turn-at : (n t : ℕ) → n < states → t < 16 → getD turnTable (n * 16 + t) 0 ≡ turnOf n t
-turn-at n t h l =
-    let q : (n * 16 + t) / 16 ≡ n = omega arith in
-    let r : (n * 16 + t) % 16 ≡ t = omega arith in
-    ap (λ (xs : List ℕ). getD xs (n * 16 + t) 0) turns-hold ∙ column-at 128 turnAt 128 (n * 16 + t) (omega arith) ∙ (λ i. turnOf (q i) (r i))
+turn-at n t h l = ap (λ (xs : List ℕ). getD xs (n * 16 + t) 0) turns-hold ∙ rows-at turnOf 192 n t (omega arith) l
 
 pub after-at : (t : ℕ) → t < 16 → getD afterTable t 0 ≡ afterOf t
 after-at t l = ap (λ (xs : List ℕ). getD xs t 0) after-holds ∙ column-at 16 afterOf 16 t l

@@ -2,6 +2,7 @@
 use Prim.Native.Nat.{ℕ, zero, suc, _+_, _-_, _*_, _≤_, _<_}
 use mathlib.Core.Path.{_≡_, refl, sym, ap, subst, _∙_}
 use mathlib.Core.List.{List, [], _∷_, _++_, append-assoc, append-nil}
+use mathlib.Core.Bool.{Bool}
 use mathlib.Core.Option.{Option, none, some}
 use native.Mathlib.Omega.{arith}
 use lib.ListN.{length, take, drop, set, length-append, length-take, length-drop}
@@ -197,7 +198,7 @@ module _ {s text out₀ out : List ℕ} {state start mid at w : ℕ} (i : Writin
   old-words zero = (shown, shown-few, listed-append text (i .tokens) (underWay (i .under-way)) ∙ ap (λ (ts : Tokens). listedWords text ts ++ shown) (sym (append-nil (i .tokens))))
   old-words (suc r) = ([], omega arith, sym (append-nil (listedWords text (i .tokens ++ underWay (i .under-way)))))
 
-  pub due-after : {r state′ start′ mid′ at′ : ℕ} → After s text (i .tokens) (i .under-way) r state′ start′ mid′ at′ → (w′ : ℕ) → w′ ≡ w + recordSize * r →
+  pub due-after : {o : Option Kind} {b : Bool} {r state′ start′ mid′ at′ : ℕ} → After s text (i .tokens) (i .under-way) o b r state′ start′ mid′ at′ → (w′ : ℕ) → w′ ≡ w + recordSize * r →
       Due s text out₀ out state′ start′ mid′ at′ w′
   due-after {r} a w′ e =
       let o = old-words r in
@@ -220,7 +221,7 @@ module _ {s text out₀ out : List ℕ} {state start mid at w : ℕ} (i : Writin
 
   module _ (h : Settles (L s) (i .under-way) (charactersAt text at)) where
     pub due-settles : waiting ≤ state → (state ≡ waiting → ⊥) → (w′ : ℕ) → w′ ≡ w + recordSize → Due s text out₀ out (state - waiting) mid mid at w′
-    due-settles g n w′ e = due-after (after-settling (i .reached) h g n) w′ (omega arith)
+    due-settles g n w′ e = due-after (after-settling (i .reached) h g n .2) w′ (omega arith)
 
     pub writes-left : state ≡ waiting → out ≡ laid out₀ 0 (listedWords text (tokensOf s text))
     writes-left n = all-shown (all-settled (i .reached) h n)

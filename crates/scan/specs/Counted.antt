@@ -19,9 +19,9 @@ abbrev pub countedBy : Outcome ℕ → Counted
 countedBy (given n) = Tokens n
 countedBy (refused r) = Refused r
 
--- the tokens of a text within the length limit under an accepted image: 6, then 7, else all tokens
+-- the tokens of a text within the length limit under an accepted image: 6, then 7, then 14, else all tokens
 unfoldable pub readThrough : List ℕ → List ℕ → Outcome (List (Tok Character Kind))
-readThrough s text = unless (formRefusal text) (judged (readingOf s text .tokens) (readingOf s text .left))
+readThrough s text = unless (formRefusal text) (judged s (readingOf s text .tokens) (readingOf s text .left))
 
 unfoldable pub countThrough : List ℕ → List ℕ → Counted
 countThrough s text = countedBy (outcomeMap length (readThrough s text))

@@ -4,7 +4,8 @@ use mathlib.Core.Bool.{cond}
 use mathlib.Core.List.{List, [], _∷_}
 use mathlib.Core.Option.{Option, none, some}
 use lib.Dec.{leb}
-use Rattle.image.specs.Class.{classNamed}
+use Rattle.character.specs.Traits.{partClass, partWhite}
+use Rattle.grammar.specs.White.{blank, lineEnd, mark}
 use Rattle.grammar.specs.Meaning.{Meaning}
 use Rattle.grammar.specs.Grammar.{Kind, identifier, syntax, whitespace}
 use Rattle.grammar.specs.Kinds.{kindNumber, kindOf, goesWith, linksWith}
@@ -14,9 +15,9 @@ abbrev pub numberBy : Option Kind → ℕ
 numberBy none = 0
 numberBy (some k) = kindNumber k
 
--- what a character's traits tell of it: its class, and whether it is a medial
+-- what a character's traits tell of it: its class, its kind of White, and whether it is a medial
 abbrev pub traitMeaning : Meaning ℕ
-traitMeaning = record { class = λ (t : ℕ). classNamed (t % 8); medial = λ (t : ℕ). leb 8 t }
+traitMeaning = record { class = λ (t : ℕ). partClass (t % 8); white = λ (t : ℕ). partWhite (t % 8); medial = λ (t : ℕ). leb 8 t }
 
 -- The state: nothing is under way yet; a token of a kind; an identifier, and a medial after it that waits
 pub data Phase : Type 0 where
@@ -26,17 +27,19 @@ pub data Phase : Type 0 where
 
 -- a state's number: 0, the token's kind, or `waiting` and the kind of token that the medial itself begins
 abbrev pub waiting : ℕ
-waiting = 4
+waiting = 6
 
 abbrev pub states : ℕ
-states = 8
+states = 12
 
 abbrev pub phaseNamed : ℕ → Phase
 phaseNamed zero = nothing
 phaseNamed (suc zero) = within identifier
 phaseNamed (suc (suc zero)) = within syntax
-phaseNamed (suc (suc (suc zero))) = within whitespace
-phaseNamed (suc (suc (suc (suc n)))) = waits
+phaseNamed (suc (suc (suc zero))) = within (whitespace blank)
+phaseNamed (suc (suc (suc (suc zero)))) = within (whitespace lineEnd)
+phaseNamed (suc (suc (suc (suc (suc zero))))) = within (whitespace mark)
+phaseNamed (suc (suc (suc (suc (suc (suc n)))))) = waits
 
 -- a token begins, or none does, 4
 abbrev pub begunBy : ℕ → Option Kind → ℕ
@@ -66,29 +69,24 @@ abbrev pub startBy : ℕ → ℕ → ℕ → ℕ
 startBy zero start at = start
 startBy (suc r) start at = at
 
--- how many tokens are pending where nothing follows: the one under way, and a medial that waits
-abbrev pub pendingBy : Phase → ℕ
-pendingBy nothing = 0
-pendingBy (within k) = 1
-pendingBy waits = 2
-
-unfoldable pub pendingOf : ℕ → ℕ
-pendingOf n = pendingBy (phaseNamed n)
-
 -- the code's tables of these: `proofs/TableLaws.antt` shows what they hold
 abbrev pub turnTable : List ℕ
 turnTable =
-    4 ∷ 0 ∷ 4 ∷ 0 ∷ 0 ∷ 4 ∷ 4 ∷ 4 ∷ 4 ∷ 0 ∷ 4 ∷ 0 ∷ 0 ∷ 4 ∷ 4 ∷ 4 ∷
-    4 ∷ 0 ∷ 0 ∷ 1 ∷ 1 ∷ 4 ∷ 4 ∷ 4 ∷ 2 ∷ 0 ∷ 0 ∷ 2 ∷ 2 ∷ 2 ∷ 2 ∷ 2 ∷
-    4 ∷ 1 ∷ 4 ∷ 1 ∷ 1 ∷ 4 ∷ 4 ∷ 4 ∷ 4 ∷ 1 ∷ 4 ∷ 1 ∷ 1 ∷ 4 ∷ 4 ∷ 4 ∷
-    4 ∷ 1 ∷ 4 ∷ 1 ∷ 0 ∷ 4 ∷ 4 ∷ 4 ∷ 4 ∷ 1 ∷ 4 ∷ 1 ∷ 0 ∷ 4 ∷ 4 ∷ 4 ∷
+    4 ∷ 0 ∷ 4 ∷ 0 ∷ 0 ∷ 4 ∷ 0 ∷ 0 ∷ 4 ∷ 0 ∷ 4 ∷ 0 ∷ 0 ∷ 4 ∷ 0 ∷ 0 ∷
+    4 ∷ 0 ∷ 0 ∷ 1 ∷ 1 ∷ 4 ∷ 1 ∷ 1 ∷ 2 ∷ 0 ∷ 0 ∷ 2 ∷ 2 ∷ 2 ∷ 2 ∷ 2 ∷
+    4 ∷ 1 ∷ 4 ∷ 1 ∷ 1 ∷ 4 ∷ 1 ∷ 1 ∷ 4 ∷ 1 ∷ 4 ∷ 1 ∷ 1 ∷ 4 ∷ 1 ∷ 1 ∷
+    4 ∷ 1 ∷ 4 ∷ 1 ∷ 0 ∷ 4 ∷ 1 ∷ 1 ∷ 4 ∷ 1 ∷ 4 ∷ 1 ∷ 0 ∷ 4 ∷ 1 ∷ 1 ∷
+    4 ∷ 1 ∷ 4 ∷ 1 ∷ 1 ∷ 4 ∷ 0 ∷ 1 ∷ 4 ∷ 1 ∷ 4 ∷ 1 ∷ 1 ∷ 4 ∷ 0 ∷ 1 ∷
+    4 ∷ 1 ∷ 4 ∷ 1 ∷ 1 ∷ 4 ∷ 1 ∷ 0 ∷ 4 ∷ 1 ∷ 4 ∷ 1 ∷ 1 ∷ 4 ∷ 1 ∷ 0 ∷
+    3 ∷ 0 ∷ 0 ∷ 3 ∷ 3 ∷ 3 ∷ 3 ∷ 3 ∷ 3 ∷ 0 ∷ 0 ∷ 3 ∷ 3 ∷ 3 ∷ 3 ∷ 3 ∷
+    3 ∷ 0 ∷ 0 ∷ 3 ∷ 3 ∷ 3 ∷ 3 ∷ 3 ∷ 3 ∷ 0 ∷ 0 ∷ 3 ∷ 3 ∷ 3 ∷ 3 ∷ 3 ∷
     3 ∷ 0 ∷ 0 ∷ 3 ∷ 3 ∷ 3 ∷ 3 ∷ 3 ∷ 3 ∷ 0 ∷ 0 ∷ 3 ∷ 3 ∷ 3 ∷ 3 ∷ 3 ∷
     3 ∷ 0 ∷ 0 ∷ 3 ∷ 3 ∷ 3 ∷ 3 ∷ 3 ∷ 3 ∷ 0 ∷ 0 ∷ 3 ∷ 3 ∷ 3 ∷ 3 ∷ 3 ∷
     3 ∷ 0 ∷ 0 ∷ 3 ∷ 3 ∷ 3 ∷ 3 ∷ 3 ∷ 3 ∷ 0 ∷ 0 ∷ 3 ∷ 3 ∷ 3 ∷ 3 ∷ 3 ∷
     3 ∷ 0 ∷ 0 ∷ 3 ∷ 3 ∷ 3 ∷ 3 ∷ 3 ∷ 3 ∷ 0 ∷ 0 ∷ 3 ∷ 3 ∷ 3 ∷ 3 ∷ 3 ∷ []
 
 abbrev pub afterTable : List ℕ
-afterTable = 0 ∷ 1 ∷ 1 ∷ 2 ∷ 3 ∷ 0 ∷ 0 ∷ 0 ∷ 0 ∷ 1 ∷ 1 ∷ 2 ∷ 3 ∷ 0 ∷ 0 ∷ 0 ∷ []
+afterTable = 0 ∷ 1 ∷ 1 ∷ 2 ∷ 3 ∷ 0 ∷ 4 ∷ 5 ∷ 0 ∷ 1 ∷ 1 ∷ 2 ∷ 3 ∷ 0 ∷ 4 ∷ 5 ∷ []
 
 abbrev pub waitingTable : List ℕ
-waitingTable = 4 ∷ 5 ∷ 4 ∷ 6 ∷ 7 ∷ 4 ∷ 4 ∷ 4 ∷ 4 ∷ 5 ∷ 4 ∷ 6 ∷ 7 ∷ 4 ∷ 4 ∷ 4 ∷ []
+waitingTable = 6 ∷ 7 ∷ 6 ∷ 8 ∷ 9 ∷ 6 ∷ 10 ∷ 11 ∷ 6 ∷ 7 ∷ 6 ∷ 8 ∷ 9 ∷ 6 ∷ 10 ∷ 11 ∷ []

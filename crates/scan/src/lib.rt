@@ -1,5 +1,5 @@
-// The one-pass reader of tokens under a checked image: counting, writing, and the first token. Each goes through the text by one step:
-// the state and the next character give the turn.
+// The one-pass reader of tokens under a checked image: writing, and the first token; `count` counts them. Each goes through the text by
+// one step: the state and the next character give the turn.
 ghost use mathlib.Core.Path.{_≡_};
 ghost use mathlib.Core.Option.{none};
 ghost use Prim.Native.Nat.{_*_, _≤_, _<_};
@@ -10,8 +10,8 @@ ghost use Rattle.image.specs.Check.{refusalOf};
 ghost use Rattle.character.specs.Read.{TokenTableOf};
 ghost use Rattle.grammar.specs.Record.{recordSize, listedWords, tokenWords};
 ghost use Rattle.grammar.specs.Reading.{maxText, readingOf};
-ghost use Rattle.scan.specs.Turns.{states, waitingOf, turnOf, afterOf, pendingOf, turnTable, afterTable, waitingTable, startBy};
-ghost use Rattle.scan.specs.Counted.{stopRefusal, countThrough};
+ghost use Rattle.scan.specs.Turns.{states, waitingOf, turnOf, afterOf, turnTable, afterTable, waitingTable, startBy};
+ghost use Rattle.scan.specs.Counted.{stopRefusal};
 ghost use Rattle.scan.specs.First.{firstOf, pendingFirst};
 use refusal::Refusal;
 use utf8::Text;
@@ -22,42 +22,42 @@ pub const MAX_TEXT: usize = 1048576;
 // The words of a token's record, and of a hashtag's.
 pub const RECORD_WORDS: usize = 4;
 
-// The state of a reader: nothing yet; a token of this kind, 1 to 3; an identifier with a medial after it that waits for the next character:
+// The state of a reader: nothing yet; a token of this kind, 1 to 5; an identifier with a medial after it that waits for the next character:
 // WAITING, and the kind of token that the medial itself begins.
 const NOTHING: u32 = 0;
 
 const IDENTIFIER: u32 = 1;
 
-const WAITING: u32 = 4;
+const WAITING: u32 = 6;
 
 // What a character does, by the state and its traits. No token is complete, since the one under way goes on or the first begins: GOES_ON.
 // The one under way is complete, and another begins: BEGINS. A medial waits: WAITS. The one that waits is settled, and the character
 // has another turn after that: SETTLES. No token begins: any other.
-const TURNS: [u8; 128] = [
+const TURNS: [u8; 192] = [
     4,
     0,
     4,
     0,
     0,
     4,
-    4,
-    4,
+    0,
+    0,
     4,
     0,
     4,
     0,
     0,
     4,
-    4,
-    4,
+    0,
+    0,
     4,
     0,
     0,
     1,
     1,
     4,
-    4,
-    4,
+    1,
+    1,
     2,
     0,
     0,
@@ -72,32 +72,96 @@ const TURNS: [u8; 128] = [
     1,
     1,
     4,
-    4,
-    4,
+    1,
+    1,
     4,
     1,
     4,
     1,
     1,
     4,
-    4,
-    4,
-    4,
     1,
-    4,
     1,
-    0,
-    4,
-    4,
-    4,
     4,
     1,
     4,
     1,
     0,
     4,
+    1,
+    1,
     4,
+    1,
     4,
+    1,
+    0,
+    4,
+    1,
+    1,
+    4,
+    1,
+    4,
+    1,
+    1,
+    4,
+    0,
+    1,
+    4,
+    1,
+    4,
+    1,
+    1,
+    4,
+    0,
+    1,
+    4,
+    1,
+    4,
+    1,
+    1,
+    4,
+    1,
+    0,
+    4,
+    1,
+    4,
+    1,
+    1,
+    4,
+    1,
+    0,
+    3,
+    0,
+    0,
+    3,
+    3,
+    3,
+    3,
+    3,
+    3,
+    0,
+    0,
+    3,
+    3,
+    3,
+    3,
+    3,
+    3,
+    0,
+    0,
+    3,
+    3,
+    3,
+    3,
+    3,
+    3,
+    0,
+    0,
+    3,
+    3,
+    3,
+    3,
+    3,
     3,
     0,
     0,
@@ -173,10 +237,10 @@ const WAITS: usize = 2;
 const SETTLES: usize = 3;
 
 // The state after a character, by its traits, where a token goes on or begins.
-const AFTER: [u32; 16] = [0, 1, 1, 2, 3, 0, 0, 0, 0, 1, 1, 2, 3, 0, 0, 0];
+const AFTER: [u32; 16] = [0, 1, 1, 2, 3, 0, 4, 5, 0, 1, 1, 2, 3, 0, 4, 5];
 
 // The state after a medial that waits, by its traits.
-const WAITING_AFTER: [u32; 16] = [4, 5, 4, 6, 7, 4, 4, 4, 4, 5, 4, 6, 7, 4, 4, 4];
+const WAITING_AFTER: [u32; 16] = [6, 7, 6, 8, 9, 6, 10, 11, 6, 7, 6, 8, 9, 6, 10, 11];
 
 // How many tokens, or why not.
 pub enum Counted {
@@ -203,7 +267,7 @@ fn widen(x: u8) -> usize
 }
 
 // What a character of these traits does in a state.
-fn find_turn(turns: &[u8; 128], state: u32, traits: u32) -> usize
+fn find_turn(turns: &[u8; 192], state: u32, traits: u32) -> usize
     requires { ⌜ now turns ≡ turnTable ⌝ }
     requires { ⌜ (state < states) × (traits < 16) ⌝ }
     ensures { λ r. ⌜ r ≡ turnOf state traits ⌝ }
@@ -229,19 +293,6 @@ fn waiting_after(waiting: &[u32; 16], traits: u32) -> u32
     waiting[traits as usize]
 }
 
-// How many tokens are pending in a state, where nothing follows.
-fn count_pending(state: u32) -> usize
-    ensures { λ r. ⌜ r ≡ pendingOf state ⌝ }
-{
-    if state == NOTHING {
-        return 0;
-    }
-    if state < WAITING {
-        return 1;
-    }
-    2
-}
-
 // The refusal where no sequence or no token begins at a place: the text from there on is first checked as UTF-8.
 pub fn refuse_at(text: &[u8], at: usize) -> Refusal
     requires { ⌜ at ≤ length (now text) ⌝ }
@@ -255,58 +306,6 @@ pub fn refuse_at(text: &[u8], at: usize) -> Refusal
             len,
         },
     }
-}
-
-// The number of tokens.
-pub fn count_tokens<'a>(image: &'a [u8], table: &'a [u8; 128], text: &'a [u8]) -> Counted
-    requires { ⌜ refusalOf (now image) ≡ none ⌝ }
-    requires { ⌜ TokenTableOf (now image) (now table) ⌝ }
-    ensures { λ r. ⌜ r ≡ countThrough (now (image .entry)) (now (text .entry)) ⌝ }
-{
-    let turns = TURNS;
-    let after = AFTER;
-    let waiting = WAITING_AFTER;
-    let mut memo = character::no_memo();
-    let mut state = NOTHING;
-    let mut count: usize = 0;
-    let mut mid = 0;
-    let mut at = 0;
-    while at < text.len() {
-        let c = character::read_for_tokens(image, table, memo, text, at);
-        let len = c.len;
-        if len == 0 {
-            return Counted::Refused(refuse_at(text, at));
-        }
-        memo = c.memo;
-        let next = at + len;
-        let turn = find_turn(&turns, state, c.traits);
-        if turn <= BEGINS {
-            count += turn;
-            state = state_after(&after, c.traits);
-            at = next;
-            continue;
-        }
-        if turn == WAITS {
-            state = waiting_after(&waiting, c.traits);
-            mid = at;
-            at = next;
-            continue;
-        }
-        if turn == SETTLES {
-            if state == WAITING {
-                return Counted::Refused(refuse_at(text, mid));
-            }
-            count += 1;
-            state -= WAITING;
-            continue;
-        }
-        return Counted::Refused(refuse_at(text, at));
-    }
-    if state == WAITING {
-        return Counted::Refused(refuse_at(text, mid));
-    }
-    let all = count + count_pending(state);
-    Counted::Tokens(all)
 }
 
 // The words of a record at the front of a part of the buffer.

@@ -17,7 +17,7 @@ use Rattle.grammar.specs.Scan.{Tok}
 use Rattle.grammar.specs.Grammar.{Kind}
 use Rattle.refusal.specs.Outcome.{Outcome, given, refused, unless, outcomeMap}
 use Rattle.grammar.specs.Record.{recordSize, roomOf, listedWords}
-use Rattle.grammar.specs.Reading.{maxText, readingOf, tokensOf, lengthRefusal, formRefusal, judged, outcomeOf, countOf, roomed, laidBy, writtenOf, listOf, listWords}
+use Rattle.grammar.specs.Reading.{maxText, readingOf, tokensOf, lengthRefusal, formRefusal, markRefusal, judged, outcomeOf, countOf, roomed, laidBy, writtenOf, listOf, listWords}
 use Rattle.grammar.proofs.AnswerLaws.{counts-given, counts-refused, roomed-in, roomed-out}
 use Rattle.scan.specs.declared.Counted.{Counted}
 use Rattle.scan.specs.declared.Counted.the-variants as counted
@@ -32,10 +32,14 @@ by-tokens (given m) n e = let f : m ≡ n = cc in ap given f
 by-tokens (refused r) n e = impossible (cc)
 
 -- what is given are the tokens of the reading
-given-by : (o : Option Refusal) (ts us : List (Tok Character Kind)) (l : List Character) → unless o (judged ts l) ≡ given us → us ≡ ts
-given-by none ts us [] e = cc
-given-by none ts us (c ∷ l) e = cc
-given-by (some r) ts us l e = cc
+given-by : (s : List ℕ) (o : Option Refusal) (ts us : List (Tok Character Kind)) (l : List Character) → unless o (judged s ts l) ≡ given us → us ≡ ts
+given-by s none ts us [] e = go (markRefusal s ts) e
+  where
+    go : (o : Option Refusal) → unless o (given ts) ≡ given us → us ≡ ts
+    go none e = cc
+    go (some r) e = cc
+given-by s none ts us (c ∷ l) e = cc
+given-by s (some r) ts us l e = cc
 
 module _ (s text : List ℕ) where
   -- 1 to 4
@@ -91,7 +95,7 @@ module _ (s text : List ℕ) where
           go (yes h) = impossible (cc (outcome-long accepted h))
           go (no h) =
               let (us, g, l) = counts-given (outcomeOf s text) n (by-tokens _ n e) in
-              let q = given-by (formRefusal text) (tokensOf s text) us (readingOf s text .left) (sym (outcome-through accepted (omega arith)) ∙ g) in
+              let q = given-by s (formRefusal text) (tokensOf s text) us (readingOf s text .left) (sym (outcome-through accepted (omega arith)) ∙ g) in
               record { short = omega arith; all = g ∙ ap given q; number = sym l ∙ ap length q }
 
       -- 8: nothing is written

@@ -31,7 +31,7 @@ fn count_by<'a>(image: &'a [u8], table: &'a [u8; 128], text: &'a [u8]) -> Counte
     if MAX_TEXT < text.len() {
         return Counted::Refused(Refusal::TextLength);
     }
-    scan::count_tokens(image, table, text)
+    count::count_tokens(image, table, text)
 }
 
 // The number of a text's tokens, under an image that was checked.

@@ -39,6 +39,7 @@ fn named(refused: Refused) -> Refusal {
         }
         Refused::Characters(place) => Refusal::Characters(place as u64),
         Refused::Room(needed) => Refusal::Room(needed as u64),
+        Refused::Mark(place) => Refusal::Mark(place as u64),
     }
 }
 
@@ -73,6 +74,42 @@ fn on_the_texts() {
             .map(|profile| agree(&with_profile(profile), sample.name, &sample.text));
         assert!(counts.iter().all(|&count| count > 50_000), "{}: {counts:?}", sample.name);
     }
+}
+
+/// On short texts with marks, under images in which the same few characters have any class and role.
+#[test]
+fn on_marks() {
+    let (mut rng, mut tally) = (Rng::seeded(501), cases::Tally::default());
+    for _ in 0..400 {
+        let bytes = cases::image_of(&cases::marked_images(&mut rng).0);
+        let tables = tables(&Image::check(&bytes).unwrap());
+        for _ in 0..150 {
+            let text = cases::marked_text(&mut rng);
+            let expected = read(&bytes, &text);
+            tally.add(&expected);
+            assert!(rival(&tables, &text) == expected, "{text:02X?} {bytes:02X?}");
+        }
+    }
+    tally.close("rival on marks", "ok,6,7,14");
+}
+
+/// On every text of six characters from six, with a medial that is syntax, and with marks that are medials too.
+#[test]
+fn on_short_texts_with_marks() {
+    let pieces = ["a", "1", ".", "+", " ", "\u{200E}"];
+    let mut tally = cases::Tally::default();
+    for profile in [&[(0x2E, Role::Medial)][..], &[(0x2E, Role::Medial), (0x200E, Role::Medial)]] {
+        let bytes = with_profile(profile);
+        let tables = tables(&Image::check(&bytes).unwrap());
+        for number in 0..pieces.len().pow(6) {
+            let piece = |i| pieces[number / pieces.len().pow(i) % pieces.len()];
+            let text: String = (0..6).map(piece).collect();
+            let expected = read(&bytes, text.as_bytes());
+            tally.add(&expected);
+            assert!(rival(&tables, text.as_bytes()) == expected, "{text:?} {profile:?}");
+        }
+    }
+    tally.close("rival on short texts with marks", "ok,7,14");
 }
 
 /// Under their profile dotted names are identifiers, with white space between.

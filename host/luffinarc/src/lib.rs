@@ -1,8 +1,8 @@
 //! Class images, tokens and hashtags by Unicode Standard Annex #31: safe calls of the proved static library.
 //!
 //! A class image says of every code point whether it may begin or continue an identifier, is a syntax character or
-//! white space. Under an image, a text is cut into identifiers, syntax characters and white space: each token is the
-//! longest at its place. In flowing text, whatever its characters, the hashtags are found.
+//! white space. Under an image, a text is cut into identifiers, syntax characters, blanks, line ends and direction
+//! marks: each token is the longest at its place. In flowing text, whatever its characters, the hashtags are found.
 //!
 //! Every call ends with an answer or a named [`Refusal`], for all images, texts and numbers. An [`Image`] was checked
 //! once, and the calls on it do not check it again.
@@ -28,7 +28,7 @@
 //!     let text = "ab.c1 .";
 //!     assert_eq!(image.count(text)?, 3);
 //!     let parts: Vec<_> = image.tokens(text)?.map(|token| (token.kind, &text[token.range])).collect();
-//!     assert_eq!(parts, [(Kind::Identifier, "ab.c1"), (Kind::Whitespace, " "), (Kind::Syntax, ".")]);
+//!     assert_eq!(parts, [(Kind::Identifier, "ab.c1"), (Kind::Blank, " "), (Kind::Syntax, ".")]);
 //!
 //!     assert_eq!(image.count("a 1"), Err(Refusal::Characters { place: 2 }));
 //!     assert_eq!(image.count(b"a\xE2\x82"), Err(Refusal::IllFormed { place: 1, len: 2 }));

@@ -79,8 +79,12 @@ pub enum Kind {
     Identifier = 1,
     /// One code point of class Syntax.
     Syntax = 2,
-    /// One or more code points of class White.
-    Whitespace = 3,
+    /// One or more code points of class White that are neither line ends nor marks.
+    Blank = 3,
+    /// One or more line ends of class White: U+000A, U+000B, U+000C, U+000D, U+0085, U+2028 and U+2029.
+    LineEnd = 4,
+    /// One or more direction marks of class White: U+200E and U+200F.
+    Mark = 5,
 }
 
 impl Kind {
@@ -89,7 +93,9 @@ impl Kind {
         match number {
             1 => Some(Kind::Identifier),
             2 => Some(Kind::Syntax),
-            3 => Some(Kind::Whitespace),
+            3 => Some(Kind::Blank),
+            4 => Some(Kind::LineEnd),
+            5 => Some(Kind::Mark),
             _ => None,
         }
     }

@@ -61,6 +61,12 @@ pub enum Refusal {
     /// 13: a list of words is no multiple of its record's words, or a place lies past the text's end, or a start after
     /// an end.
     Shape,
+    /// 14: a direction mark parts a token. It stands between two tokens that are no white space, and with it taken out
+    /// of the text no token would end where it stood.
+    Mark {
+        /// The byte place of the first such.
+        place: usize,
+    },
 }
 
 impl Refusal {
@@ -80,11 +86,12 @@ impl Refusal {
             Refusal::Profiles => (11, None),
             Refusal::Buffer { needed } => (12, Some(needed as u64)),
             Refusal::Shape => (13, None),
+            Refusal::Mark { place } => (14, Some(place as u64)),
         }
     }
 
     /// Every refusal; those that carry something carry the first number, or both.
-    fn all([first, second]: [u64; 2]) -> [Refusal; 13] {
+    fn all([first, second]: [u64; 2]) -> [Refusal; 14] {
         let (size, number) = (first as usize, first as u32);
         [
             Refusal::Length,
@@ -100,16 +107,17 @@ impl Refusal {
             Refusal::Profiles,
             Refusal::Buffer { needed: size },
             Refusal::Shape,
+            Refusal::Mark { place: size },
         ]
     }
 
     /// The refusal with this number, which the library gave, and this to carry, if it carries anything.
     fn named(number: u32, carried: [u64; 2]) -> Refusal {
         let refusal = Refusal::all(carried).into_iter().find(|r| r.number() == number);
-        refusal.expect("the library gives refusals 1 to 13")
+        refusal.expect("the library gives refusals 1 to 14")
     }
 
-    /// The refusal's number, 1 to 13.
+    /// The refusal's number, 1 to 14.
     pub fn number(&self) -> u32 {
         self.row().0
     }
@@ -144,6 +152,9 @@ impl fmt::Display for Refusal {
             Refusal::Profiles => write!(f, "the images have unequal profiles"),
             Refusal::Buffer { needed } => write!(f, "a buffer of {needed} bytes is needed"),
             Refusal::Shape => write!(f, "a list, a place or a start does not fit"),
+            Refusal::Mark { place } => {
+                write!(f, "the direction mark at byte {place} parts a token")
+            }
         }
     }
 }

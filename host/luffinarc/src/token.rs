@@ -13,7 +13,7 @@ pub const MAX_TEXT: usize = 1_048_576;
 
 /// The kind with a number that the library gave.
 fn given_kind(number: u32) -> Kind {
-    Kind::from_number(number).expect("the library gives kinds 1 to 3")
+    Kind::from_number(number).expect("the library gives kinds 1 to 5")
 }
 
 /// A token of a text: its kind, its bytes' places, and its line.
@@ -71,7 +71,8 @@ impl Image<'_> {
     ///
     /// # Errors
     ///
-    /// [`Refusal::TextLength`], [`Refusal::IllFormed`] or [`Refusal::Characters`], the first that applies.
+    /// [`Refusal::TextLength`], [`Refusal::IllFormed`], [`Refusal::Characters`] or [`Refusal::Mark`], the first that
+    /// applies.
     pub fn count<T: AsRef<[u8]> + ?Sized>(&self, text: &T) -> Result<usize, Refusal> {
         let (text, mut answer) = (text.as_ref(), Answer::default());
         // Safety: the image was accepted.
@@ -113,6 +114,31 @@ impl Image<'_> {
     /// }
     /// ```
     ///
+    /// White space is cut into blanks, line ends and marks. A mark may not stand inside what would be one token without
+    /// it, as between two names:
+    ///
+    /// ```
+    /// use luffinarc::{write_image, Class, Image, Kind, Profile, Range, Refusal};
+    ///
+    /// fn main() -> Result<(), Refusal> {
+    ///     let range = |first: char, last: char, class| Range { first: first.into(), last: last.into(), class };
+    ///     let ranges = [
+    ///         range('\n', '\n', Class::White),
+    ///         range(' ', ' ', Class::White),
+    ///         range('=', '=', Class::Syntax),
+    ///         range('a', 'z', Class::Start),
+    ///         range('\u{200E}', '\u{200F}', Class::White),
+    ///     ];
+    ///     let bytes = write_image(1, &ranges, &Profile::default())?;
+    ///     let image = Image::check(&bytes)?;
+    ///
+    ///     let kinds: Vec<Kind> = image.tokens("a\u{200E}= \n")?.map(|token| token.kind).collect();
+    ///     assert_eq!(kinds, [Kind::Identifier, Kind::Mark, Kind::Syntax, Kind::Blank, Kind::LineEnd]);
+    ///     assert_eq!(image.count("a\u{200E}b"), Err(Refusal::Mark { place: 1 }));
+    ///     Ok(())
+    /// }
+    /// ```
+    ///
     /// # Errors
     ///
     /// Those of [`count`](Image::count).
@@ -123,7 +149,7 @@ impl Image<'_> {
     }
 
     /// The token at a byte place of a text; `None` if the place is the text's end. Nothing past the token needs to be
-    /// well-formed.
+    /// well-formed, and no mark is refused: what stands before the place is not read.
     ///
     /// # Errors
     ///

@@ -6,10 +6,12 @@ mod pairs;
 mod tally;
 mod texts;
 
-pub use images::{damaged_image, hashtag_image, image_of, large_image, small_image, valid_image};
+pub use images::{
+    damaged_image, hashtag_image, image_of, large_image, marked_images, small_image, valid_image,
+};
 pub use pairs::{forbidden_change, most_changes, permitted_changes, unequal_profile};
 pub use tally::Tally;
-pub use texts::{hashtag_text, random_bytes, text, text_with_hashtags, token_text};
+pub use texts::{hashtag_text, marked_text, random_bytes, text, text_with_hashtags, token_text};
 
 use crate::changes::{changes_of, CHANGED_ENTRY_WORDS, RUN_WORDS};
 use crate::hashtag::hashtags;
@@ -365,4 +367,10 @@ pub fn stable_case(rng: &mut Rng) -> StableCase {
     let newer = permitted_changes(rng, &older);
     let text = if rng.once_in(2) { text(rng, &older) } else { text(rng, &newer) };
     StableCase { older: image_of(&older), newer: image_of(&newer), text }
+}
+
+/// The same, short and with marks.
+pub fn marked_case(rng: &mut Rng) -> StableCase {
+    let (older, newer) = marked_images(rng);
+    StableCase { older: image_of(&older), newer: image_of(&newer), text: marked_text(rng) }
 }

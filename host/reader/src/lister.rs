@@ -38,7 +38,9 @@ fn kind_name(kind: u32) -> &'static str {
     match kind {
         kind::IDENTIFIER => "identifier",
         kind::SYNTAX => "syntax",
-        kind::WHITESPACE => "whitespace",
+        kind::BLANK => "whitespace",
+        kind::LINE_END => "lineend",
+        kind::MARK => "mark",
         _ => unreachable!("no kind has the number {kind}"),
     }
 }

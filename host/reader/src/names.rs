@@ -23,6 +23,8 @@ pub mod role {
 pub mod kind {
     pub const IDENTIFIER: u32 = 1;
     pub const SYNTAX: u32 = 2;
-    pub const WHITESPACE: u32 = 3;
+    pub const BLANK: u32 = 3;
+    pub const LINE_END: u32 = 4;
+    pub const MARK: u32 = 5;
     pub const HASHTAG: u32 = 6;
 }

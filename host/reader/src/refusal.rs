@@ -30,6 +30,8 @@ pub enum Refusal {
     /// 13: a list of words is no multiple of its record's words, or a place lies past the text's end, or a start after
     /// an end.
     Shape,
+    /// 14: the mark at this byte place, the first such, parts a token: with it taken out, none ends there.
+    Mark(u64),
 }
 
 impl Refusal {
@@ -49,11 +51,12 @@ impl Refusal {
             Refusal::Profiles => (11, vec![]),
             Refusal::Buffer(needed) => (12, vec![needed]),
             Refusal::Shape => (13, vec![]),
+            Refusal::Mark(place) => (14, vec![place]),
         }
     }
 
     /// Every refusal; those that carry something carry the first number, or both.
-    fn all([first, second]: [u64; 2]) -> [Refusal; 13] {
+    fn all([first, second]: [u64; 2]) -> [Refusal; 14] {
         [
             Refusal::Length,
             Refusal::Header,
@@ -68,6 +71,7 @@ impl Refusal {
             Refusal::Profiles,
             Refusal::Buffer(first),
             Refusal::Shape,
+            Refusal::Mark(first),
         ]
     }
 
@@ -76,7 +80,7 @@ impl Refusal {
         Refusal::all(carried).into_iter().find(|refusal| refusal.number() == number)
     }
 
-    /// The refusal's number, 1 to 13.
+    /// The refusal's number, 1 to 14.
     pub fn number(&self) -> u32 {
         self.row().0
     }

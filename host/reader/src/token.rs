@@ -1,7 +1,7 @@
 //! Tokens: count, list, one token at a place, and a token's bytes.
 
 use crate::image::{parse, Image};
-use crate::line::{line_ends, line_of};
+use crate::line::{line_ends, line_of, LINE_ENDS};
 use crate::names::{class, kind, role};
 use crate::record::{write_records, Record};
 use crate::refusal::Refusal;
@@ -9,6 +9,9 @@ use crate::utf8::{decode, maximal_subpart, Placed};
 
 /// The most bytes of a text.
 pub const MAX_TEXT: usize = 1_048_576;
+
+/// The direction marks.
+pub const MARKS: [u32; 2] = [0x200E, 0x200F];
 
 /// A token at a place: its kind, its first byte and one past its last.
 #[derive(Clone, Copy, Debug, PartialEq, Eq)]
@@ -19,7 +22,9 @@ pub struct Token {
 }
 
 /// A code point of the text as the grammar sees it.
+#[derive(Clone, Copy)]
 struct Unit {
+    point: u32,
     start: usize,
     end: usize,
     class: u32,
@@ -30,11 +35,24 @@ impl Unit {
     fn is_continue(&self) -> bool {
         self.class == class::START || self.class == class::NONSTART
     }
+
+    /// The kind of the token that begins with it, if one does.
+    fn kind(&self) -> Option<u32> {
+        match self.class {
+            class::START => Some(kind::IDENTIFIER),
+            class::SYNTAX => Some(kind::SYNTAX),
+            class::WHITE if LINE_ENDS.contains(&self.point) => Some(kind::LINE_END),
+            class::WHITE if MARKS.contains(&self.point) => Some(kind::MARK),
+            class::WHITE => Some(kind::BLANK),
+            _ => None,
+        }
+    }
 }
 
 /// The units of the code points.
 fn units_of(image: &Image, points: &[Placed]) -> Vec<Unit> {
     let unit = |p: &Placed| Unit {
+        point: p.point,
         start: p.start,
         end: p.end,
         class: image.class(p.point),
@@ -63,12 +81,49 @@ fn identifier(units: &[Unit]) -> usize {
 
 /// The kind and length in units of the longest token from the front.
 fn longest(units: &[Unit]) -> Option<(u32, usize)> {
-    match units.first()?.class {
-        class::START => Some((kind::IDENTIFIER, identifier(units))),
-        class::SYNTAX => Some((kind::SYNTAX, 1)),
-        class::WHITE => Some((kind::WHITESPACE, run(units, |unit| unit.class == class::WHITE))),
-        _ => None,
+    let kind = units.first()?.kind()?;
+    let length = match kind {
+        kind::IDENTIFIER => identifier(units),
+        kind::SYNTAX => 1,
+        white => run(units, |unit| unit.kind() == Some(white)),
+    };
+    Some((kind, length))
+}
+
+/// The longest tokens one after the other, in a text of these units alone; and the place after them, where no token
+/// begins.
+fn divide(units: &[Unit]) -> (Vec<Token>, usize) {
+    let (mut tokens, mut rest, mut start) = (Vec::new(), units, 0);
+    while let Some((kind, length)) = longest(rest) {
+        let (token, others) = rest.split_at(length);
+        let end = start + token.iter().map(|unit| unit.end - unit.start).sum::<usize>();
+        tokens.push(Token { kind, start, end });
+        (rest, start) = (others, end);
     }
+    (tokens, start)
+}
+
+/// The tokens of the text with one token taken out of it.
+fn divide_without(units: &[Unit], token: Token) -> Vec<Token> {
+    let stays = |unit: &&Unit| unit.end <= token.start || token.end <= unit.start;
+    let rest: Vec<Unit> = units.iter().filter(stays).copied().collect();
+    divide(&rest).0
+}
+
+/// True for the kinds of white space.
+fn is_white(kind: u32) -> bool {
+    [kind::BLANK, kind::LINE_END, kind::MARK].contains(&kind)
+}
+
+/// The first mark between two tokens that are no white space such that no token ends where it stood once it is taken
+/// out.
+fn parting_mark(units: &[Unit], tokens: &[Token]) -> Option<Token> {
+    let parts = |three: &&[Token]| {
+        let [before, mark, after] = [three[0], three[1], three[2]];
+        let between = mark.kind == kind::MARK && !is_white(before.kind) && !is_white(after.kind);
+        between && divide_without(units, mark).iter().all(|token| token.end != mark.start)
+    };
+    tokens.windows(3).find(parts).map(|three| three[1])
 }
 
 /// Refusal 6 at a place where no sequence begins.
@@ -89,20 +144,22 @@ pub(crate) fn whole_text(text: &[u8]) -> Result<Vec<Placed>, Refusal> {
     Ok(points)
 }
 
-/// The text's tokens, or the first of refusals 5 to 7.
+/// The text's tokens, or the first of refusals 5, 6, 7 and 14.
 fn tokens(image: &Image, text: &[u8]) -> Result<Vec<Record>, Refusal> {
     let points = whole_text(text)?;
     let (units, ends) = (units_of(image, &points), line_ends(&points));
-    let mut tokens = Vec::new();
-    let mut rest = &units[..];
-    while !rest.is_empty() {
-        let start = rest[0].start;
-        let (kind, length) = longest(rest).ok_or(Refusal::Characters(start as u64))?;
-        let end = rest[length - 1].end;
-        tokens.push([kind, start as u32, end as u32, line_of(&ends, start)]);
-        rest = &rest[length..];
+    let (tokens, place) = divide(&units);
+    if place < text.len() {
+        return Err(Refusal::Characters(place as u64));
     }
-    Ok(tokens)
+    if let Some(mark) = parting_mark(&units, &tokens) {
+        return Err(Refusal::Mark(mark.start as u64));
+    }
+    let record = |token: &Token| {
+        let (start, end) = (token.start as u32, token.end as u32);
+        [token.kind, start, end, line_of(&ends, token.start)]
+    };
+    Ok(tokens.iter().map(record).collect())
 }
 
 /// Counts the text's tokens.

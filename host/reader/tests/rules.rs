@@ -80,26 +80,64 @@ fn k(entries: &[(u32, u32)]) -> Vec<u8> {
 
 #[test]
 fn lines() {
-    let plain: [(&str, &[u32]); 7] = [
-        ("a\r\nb", &[1, 0, 1, 1, 3, 1, 3, 1, 1, 3, 4, 2]),
-        ("\r\r\na", &[3, 0, 3, 1, 1, 3, 4, 3]),
-        ("\n\ra", &[3, 0, 2, 1, 1, 2, 3, 3]),
-        ("\x0B\x0C\u{85}\u{2029}a", &[3, 0, 7, 1, 1, 7, 8, 5]),
+    let plain: [(&str, &[u32]); 8] = [
+        ("a\r\nb", &[1, 0, 1, 1, 4, 1, 3, 1, 1, 3, 4, 2]),
+        ("\r\r\na", &[4, 0, 3, 1, 1, 3, 4, 3]),
+        ("\n\ra", &[4, 0, 2, 1, 1, 2, 3, 3]),
+        ("\x0B\x0C\u{85}\u{2029}a", &[4, 0, 7, 1, 1, 7, 8, 5]),
         ("\u{2028}a", &[2, 0, 3, 1, 1, 3, 4, 2]),
-        ("\u{2028}\n", &[2, 0, 3, 1, 3, 3, 4, 2]),
-        ("a\r", &[1, 0, 1, 1, 3, 1, 2, 1]),
+        ("\u{2028}\n", &[2, 0, 3, 1, 4, 3, 4, 2]),
+        ("a\r", &[1, 0, 1, 1, 4, 1, 2, 1]),
+        ("\r \n  ", &[4, 0, 1, 1, 3, 1, 2, 2, 4, 2, 3, 2, 3, 3, 5, 3]),
     ];
     for (text, list) in plain {
         assert_eq!(tokens(&k(&[]), text.as_bytes()), Ok(list.to_vec()), "{text:?}");
     }
     let start = k(&[(0x0A, role::START)]);
-    assert_eq!(tokens(&start, b"\r\nb "), Ok(vec![3, 0, 1, 1, 1, 1, 3, 1, 3, 3, 4, 2]));
+    assert_eq!(tokens(&start, b"\r\nb "), Ok(vec![4, 0, 1, 1, 1, 1, 3, 1, 3, 3, 4, 2]));
     assert_eq!(tokens(&start, b"a\nb "), Ok(vec![1, 0, 3, 1, 3, 3, 4, 2]));
     let medial = k(&[(0x0D, role::MEDIAL)]);
-    assert_eq!(tokens(&medial, b"a\rb\n."), Ok(vec![1, 0, 3, 1, 3, 3, 4, 2, 2, 4, 5, 3]));
+    assert_eq!(tokens(&medial, b"a\rb\n."), Ok(vec![1, 0, 3, 1, 4, 3, 4, 2, 2, 4, 5, 3]));
     assert_eq!(tags(&start, b"#a\r\n#b\r#c"), [6, 0, 2, 1, 6, 7, 9, 3]);
     let tagged = k(&[(0x0A, role::HASHTAG)]);
     assert_eq!(tags(&tagged, b"#a\nb \r\n.#c"), [6, 0, 4, 1, 6, 8, 10, 3]);
+}
+
+/// M with line ends and marks as white space, and with a profile.
+fn with_marks(entries: &[(u32, u32)]) -> Vec<u8> {
+    let words = [&[0x0A, 0x0D, WHITE], &SMALL[..], &[0x200E, 0x200F, WHITE]].concat();
+    image(VERSION, &words, entries)
+}
+
+#[test]
+fn marks() {
+    let k = with_marks(&[(0x2E, role::MEDIAL)]);
+    let refused =
+        [("a\u{200E}b", 1), ("a\u{200E}\u{200F}b", 1), ("a\u{200E}.b", 1), ("a.\u{200E}b", 2)];
+    for (text, place) in refused {
+        assert_eq!(tokens(&k, text.as_bytes()), Err(Refusal::Mark(place)), "{text:?}");
+    }
+    let accepted: [(&str, &[u32]); 6] = [
+        (".\u{200E}b", &[2, 0, 1, 1, 5, 1, 4, 1, 1, 4, 5, 1]),
+        ("a\u{200E}.", &[1, 0, 1, 1, 5, 1, 4, 1, 2, 4, 5, 1]),
+        ("\u{200E}a\u{200E}", &[5, 0, 3, 1, 1, 3, 4, 1, 5, 4, 7, 1]),
+        ("a \u{200E}b", &[1, 0, 1, 1, 3, 1, 2, 1, 5, 2, 5, 1, 1, 5, 6, 1]),
+        (" \n\u{200E} ", &[3, 0, 1, 1, 4, 1, 2, 1, 5, 2, 5, 2, 3, 5, 6, 2]),
+        ("a\u{200E}.\u{200E}b", &[1, 0, 1, 1, 5, 1, 4, 1, 2, 4, 5, 1, 5, 5, 8, 1, 1, 8, 9, 1]),
+    ];
+    for (text, list) in accepted {
+        assert_eq!(tokens(&k, text.as_bytes()), Ok(list.to_vec()), "{text:?}");
+    }
+    let characters = [("a\u{200E}1", 4), ("a\u{200E}.1", 5), ("a\u{200E}b%", 5)];
+    for (text, place) in characters {
+        assert_eq!(tokens(&k, text.as_bytes()), Err(Refusal::Characters(place)), "{text:?}");
+    }
+    let taken = Token { kind: kind::MARK, start: 1, end: 4 };
+    assert_eq!(at(&k, "a\u{200E}b".as_bytes(), 1), Ok(Some(taken)));
+    assert_eq!(list(&k, "a\u{200E}b".as_bytes(), &mut []), Err(Refusal::Mark(1)));
+    let medial = with_marks(&[(0x2E, role::MEDIAL), (0x200E, role::MEDIAL)]);
+    assert_eq!(tokens(&medial, "a\u{200E}b".as_bytes()), Ok(vec![1, 0, 5, 1]));
+    assert_eq!(tokens(&medial, "a\u{200E}\u{200E}b".as_bytes()), Err(Refusal::Mark(1)));
 }
 
 /// Refusal 6: bytes, the place and the length of the maximal subpart there.
@@ -261,6 +299,10 @@ fn lister_output() {
     let good = [&m()[..], b"ab.c1 ."].concat();
     assert_eq!(lister(&good), "tokens 3\nidentifier 0 5 1\nwhitespace 5 6 1\nsyntax 6 7 1\n");
     assert_eq!(lister(&[&m()[..], b"a 1"].concat()), "refused 7 2\n");
+    let k = with_marks(&[]);
+    let kinds = "tokens 4\nwhitespace 0 1 1\nlineend 1 2 1\nmark 2 5 2\nidentifier 5 6 2\n";
+    assert_eq!(lister(&[&k[..], " \n\u{200E}a".as_bytes()].concat()), kinds);
+    assert_eq!(lister(&[&k[..], "a\u{200E}a".as_bytes()].concat()), "refused 14 1\n");
     let long = [&m()[..], &[b'a'; MAX_SCRIPT]].concat();
     assert_eq!(lister(&long), format!("tokens 1\nidentifier 0 {MAX_SCRIPT} 1\n"));
     assert_eq!(lister(&[&long[..], b"a"].concat()), "refused 5\n");

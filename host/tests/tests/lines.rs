@@ -95,11 +95,11 @@ fn with_ends(of_ends: u32, entries: &[(u32, u32)]) -> Vec<u8> {
 fn parted_cr_lf() {
     let white = |entries: &[(u32, u32)]| with_ends(class::WHITE, entries);
     let cases: [(Vec<u8>, &[u8], &[u32]); 8] = [
-        (white(&[]), b"a\r\nb", &[1, 0, 1, 1, 3, 1, 3, 1, 1, 3, 4, 2]),
-        (white(&[(0x0A, role::START)]), b"\r\nb ", &[3, 0, 1, 1, 1, 1, 3, 1, 3, 3, 4, 2]),
-        (white(&[(0x0D, role::START)]), b"\r\nb", &[1, 0, 1, 1, 3, 1, 2, 1, 1, 2, 3, 2]),
-        (white(&[(0x0D, role::NONSTART)]), b"a\r\nb", &[1, 0, 2, 1, 3, 2, 3, 1, 1, 3, 4, 2]),
-        (white(&[(0x0D, role::MEDIAL)]), b"a\r\nb", &[1, 0, 1, 1, 3, 1, 3, 1, 1, 3, 4, 2]),
+        (white(&[]), b"a\r\nb", &[1, 0, 1, 1, 4, 1, 3, 1, 1, 3, 4, 2]),
+        (white(&[(0x0A, role::START)]), b"\r\nb ", &[4, 0, 1, 1, 1, 1, 3, 1, 3, 3, 4, 2]),
+        (white(&[(0x0D, role::START)]), b"\r\nb", &[1, 0, 1, 1, 4, 1, 2, 1, 1, 2, 3, 2]),
+        (white(&[(0x0D, role::NONSTART)]), b"a\r\nb", &[1, 0, 2, 1, 4, 2, 3, 1, 1, 3, 4, 2]),
+        (white(&[(0x0D, role::MEDIAL)]), b"a\r\nb", &[1, 0, 1, 1, 4, 1, 3, 1, 1, 3, 4, 2]),
         (with_ends(class::SYNTAX, &[]), b"\r\na", &[2, 0, 1, 1, 2, 1, 2, 1, 1, 2, 3, 2]),
         (with_ends(class::START, &[]), b".\r\n.", &[2, 0, 1, 1, 1, 1, 3, 1, 2, 3, 4, 2]),
         (
@@ -133,7 +133,7 @@ fn inside_identifiers() {
     // CR continues the identifier, LF joins it: one line end, at the LF.
     let both = with_ends(class::WHITE, &[(0x0A, role::MEDIAL), (0x0D, role::NONSTART)]);
     assert_eq!(tokens(&both, b"a\r\nb "), Ok(vec![1, 0, 4, 1, 3, 4, 5, 2]));
-    assert_eq!(tokens(&both, b"a\r\n "), Ok(vec![1, 0, 2, 1, 3, 2, 4, 1]));
+    assert_eq!(tokens(&both, b"a\r\n "), Ok(vec![1, 0, 2, 1, 4, 2, 3, 1, 3, 3, 4, 2]));
 }
 
 /// Line ends one after the other, between tokens and between tags.
@@ -154,7 +154,6 @@ fn together() {
         ("\n\r\n", 3),
         ("\r\n\r", 3),
         ("\r\n\r\n", 3),
-        ("\r \n", 3),
         ("\n\n", 3),
         ("\r\r", 3),
         ("\r\u{85}", 3),
@@ -174,6 +173,8 @@ fn together() {
         let first = tokens(&image, format!("{ends}a").as_bytes()).unwrap();
         assert_eq!(lines(&first), [1, line], "{ends:?}");
     }
+    // A blank parts CR from LF.
+    assert_eq!(tokens(&image, b"a\r \nb").map(|words| lines(&words)), Ok(vec![1, 1, 2, 2, 3]));
 }
 
 /// Line ends inside tags: as hashtag Continue by role 5, by another role and by the class of their range.
@@ -239,7 +240,7 @@ fn every_character() {
     assert_eq!(ends, 7);
 }
 
-/// The longest texts of line ends: each a token of its own, all white space, and before a tag.
+/// The longest texts of line ends: each a token of its own, all one token, and before a tag.
 #[test]
 fn most_line_ends() {
     let (syntax, white) = (with_ends(class::SYNTAX, &[]), with_ends(class::WHITE, &[]));
@@ -251,7 +252,7 @@ fn most_line_ends() {
         let words = tokens(&syntax, text.as_bytes()).unwrap();
         assert_eq!(words.len() / RECORD_WORDS, times * end.chars().count());
         assert_eq!(lines(&words).last(), Some(&((times * line_ends) as u32)), "{end:?}");
-        assert_eq!(tokens(&white, text.as_bytes()), Ok(vec![3, 0, text.len() as u32, 1]));
+        assert_eq!(tokens(&white, text.as_bytes()), Ok(vec![4, 0, text.len() as u32, 1]));
         assert_eq!(tags(&white, text.as_bytes()), [0; 0]);
         let text = end.repeat(times - 2) + "#a";
         let (start, line) = (text.len() as u32 - 2, ((times - 2) * line_ends + 1) as u32);
@@ -330,5 +331,5 @@ fn made_texts() {
             cut_after(&image, &text, &words[at..at + RECORD_WORDS]);
         }
     }
-    tally.close("lines", "ok,7");
+    tally.close("lines", "ok,7,14");
 }

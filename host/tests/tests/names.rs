@@ -62,6 +62,7 @@ fn refusals() {
         Refusal::Profiles,
         Refusal::Buffer { needed: 7 },
         Refusal::Shape,
+        Refusal::Mark { place: 7 },
     ];
     for (refusal, number) in all.into_iter().zip(1..) {
         assert_eq!(refusal.number(), number);
@@ -74,7 +75,7 @@ fn refusals() {
         in_rattle("number", &format!("Refusal::{}{held} => {number},", name(refusal)));
         in_rattle("carried_count", &format!("Refusal::{}{held} => {count},", name(refusal)));
     }
-    assert_eq!(luffinarc_reader::Refusal::named(14, [7, 2]), None);
+    assert_eq!(luffinarc_reader::Refusal::named(15, [7, 2]), None);
     in_rattle("carried", "Refusal::IllFormed { place, len: _ } => place,");
     in_rattle("carried_second", "Refusal::IllFormed { place: _, len } => len,");
 }
@@ -86,7 +87,7 @@ fn same(group: &str, variant: impl Debug, number: u32, of_reader: u32) {
 }
 
 #[test]
-fn classes_roles_and_kinds() {
+fn classes_and_roles() {
     let classes = [
         (Class::Unassigned, class::UNASSIGNED),
         (Class::Start, class::START),
@@ -110,20 +111,24 @@ fn classes_roles_and_kinds() {
         same("ROLE", role, role.number(), of_reader);
         assert_eq!(Role::from_number(role.number()), Some(role));
     }
+    assert_eq!((Class::from_number(6), Role::from_number(6)), (None, None));
+    assert_eq!(Role::from_number(0), None);
+}
+
+#[test]
+fn kinds() {
     let kinds = [
         (Kind::Identifier, kind::IDENTIFIER),
         (Kind::Syntax, kind::SYNTAX),
-        (Kind::Whitespace, kind::WHITESPACE),
+        (Kind::Blank, kind::BLANK),
+        (Kind::LineEnd, kind::LINE_END),
+        (Kind::Mark, kind::MARK),
     ];
     for (kind, of_reader) in kinds {
         same("KIND", kind, kind.number(), of_reader);
         assert_eq!(Kind::from_number(kind.number()), Some(kind));
     }
-    let none = (Class::from_number(6), Role::from_number(6), Kind::from_number(4));
-    assert_eq!(
-        (none, Role::from_number(0), Kind::from_number(0)),
-        ((None, None, None), None, None)
-    );
+    assert_eq!((Kind::from_number(0), Kind::from_number(6)), (None, None));
 }
 
 /// The role and the kind of hashtags, in Rattle too. The kind is that of no token.

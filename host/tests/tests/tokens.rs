@@ -3,6 +3,8 @@
 use luffinarc::{Image, MAX_TEXT, RECORD_WORDS};
 use luffinarc_reader::cases::*;
 use luffinarc_reader::image::{parse, Image as Made};
+use luffinarc_reader::line::LINE_ENDS;
+use luffinarc_reader::token::MARKS;
 use luffinarc_reader::{class, role, utf8, Calls, Profile, Reader, Refusal, Token};
 use luffinarc_tests::{data, named, runs, say, Library};
 
@@ -22,7 +24,7 @@ fn counts() {
         };
         assert_eq!(image.count(&case.text).map_err(named), result, "{case:02X?}");
     }
-    tally.close("count", "ok,1,2,3,4,5,6,7");
+    tally.close("count", "ok,1,2,3,4,5,6,7,14");
 }
 
 #[test]
@@ -56,7 +58,7 @@ fn lists() {
             "{case:02X?}"
         );
     }
-    tally.close("list", "ok,1,2,3,4,5,6,7,8");
+    tally.close("list", "ok,1,2,3,4,5,6,7,8,14");
 }
 
 #[test]
@@ -115,7 +117,7 @@ fn listers() {
             first => tally.name(first),
         }
     }
-    tally.close("lister", "tokens,1,2,3,4,5,6,7");
+    tally.close("lister", "tokens,1,2,3,4,5,6,7,14");
 }
 
 /// Compares count, list and every place of a text, and gives the count.
@@ -165,7 +167,9 @@ fn every_character() {
         let kind = match classes[c as usize].into() {
             class::START => luffinarc::Kind::Identifier,
             class::SYNTAX => luffinarc::Kind::Syntax,
-            class::WHITE => luffinarc::Kind::Whitespace,
+            class::WHITE if LINE_ENDS.contains(&c.into()) => luffinarc::Kind::LineEnd,
+            class::WHITE if MARKS.contains(&c.into()) => luffinarc::Kind::Mark,
+            class::WHITE => luffinarc::Kind::Blank,
             _ => {
                 let refused = Err(luffinarc::Refusal::Characters { place: 0 });
                 assert_eq!(image.token_at(&text, 0), refused, "{c:?}");

@@ -5,7 +5,7 @@ use borrow.Author.Needs.{needs}
 use borrow.Author.Tests.{le-leb, lt-leb}
 use lib.Dec.{leb}
 use Rattle.lists.proofs.BoolLaws.{or-right, or-none}
-use Rattle.image.specs.Class.{classNamed}
+use Rattle.character.specs.Traits.{partClass}
 use Rattle.grammar.specs.Kinds.{isContinue}
 use Rattle.hashtag.proofs.SignLaws.{class-two}
 use Rattle.hashtag.proofs.continues.Statement.{statement}
@@ -17,7 +17,7 @@ returns c = rw (sym (c .before .is-sign .ensures) ∙ c .if1 .taken)
 returns-2 : tie.Need-returns-2
 returns-2 c =
     let t = c .before .before .before .args .traits in
-    rw (sym (c .before .before .is-sign .ensures) ∙ c .before .if1 .left) (sym (or-right (isContinue (classNamed (t % 8))) (leb 16 t) (le-leb _ _ (c .if2 .taken))))
+    rw (sym (c .before .before .is-sign .ensures) ∙ c .before .if1 .left) (sym (or-right (isContinue (partClass (t % 8))) (leb 16 t) (le-leb _ _ (c .if2 .taken))))
 
 returns-3 : tie.Need-returns-3
 returns-3 c = rw (sym (c .before .before .before .is-sign .ensures) ∙ c .before .before .if1 .left, c .if3 .taken)

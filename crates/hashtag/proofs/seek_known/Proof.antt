@@ -21,27 +21,27 @@ abbrev μ-loop : tie.MeasureT-loop
 loop-holds : tie.Need-loop-holds Inv-loop μ-loop
 loop-holds c = let p = c .before .before .pre .1 .1 .1 .1 in walked-begins _ _ (p .0 .0) (p .1)
 
-count-fours-requires : tie.Need-count-fours-requires Inv-loop μ-loop
-count-fours-requires c κs =
+pass-fours-requires : tie.Need-pass-fours-requires Inv-loop μ-loop
+pass-fours-requires c κs =
     let p = c .before .before .before .before .pre .1 .1 in
     let i = c .before .loop .inv in
     (p .0, ((i .seeking .within, p .1 .0), omega (arith, line-few (i .lined), p .1 .0)))
 
-count-bytes-requires : tie.Need-count-bytes-requires Inv-loop μ-loop
-count-bytes-requires c κs =
+pass-bytes-requires : tie.Need-pass-bytes-requires Inv-loop μ-loop
+pass-bytes-requires c κs =
     let p = c .before .before .before .before .before .pre .1 .1 in
-    let n = c .count-fours .ensures in
+    let n = c .pass-fours .ensures in
     (p .0, ((n .passed .within, p .1 .0), omega (arith, line-few (c .before .before .loop .inv .lined), n .few, n .passed .above, n .passed .within, p .1 .0)))
 
 -- what was passed over
 walked :
-    (c : tie.After-count-bytes Inv-loop μ-loop)
+    (c : tie.After-pass-bytes Inv-loop μ-loop)
     → let a = c .before .before .before .before .before .before .args in
-    Walked (a .image .now) (a .text .now) (a .from) (c .count-bytes .result .at) (c .count-bytes .result .line)
+    Walked (a .image .now) (a .text .now) (a .from) (c .pass-bytes .result .at) (c .pass-bytes .result .line)
 walked c =
-    let w = c .count-bytes .ensures in
+    let w = c .pass-bytes .ensures in
     walked-bytes _ _ _ (c .before .before .before .before .before .before .pre .1 .1 .1 .1 .0 .1) (c .before .before .before .loop .inv)
-    (counted-on (c .before .count-fours .ensures) (w .counted)) (w .stop)
+    (counted-on (c .before .pass-fours .ensures) (w .counted)) (w .stop)
 
 read-byte : tie.Need-shared-slice-read-measure-known Inv-loop μ-loop
 read-byte c = c .before .if1 .left
@@ -50,7 +50,7 @@ read-byte c = c .before .if1 .left
 standing :
     (c : tie.After-measure-known Inv-loop μ-loop)
     → let a = c .before .before .before .before .before .before .before .before .before .args in
-    Stands (a .image .now) (a .text .now) (c .before .before .before .count-bytes .result .at) (c .measure-known .result)
+    Stands (a .image .now) (a .text .now) (c .before .before .before .pass-bytes .result .at) (c .measure-known .result)
 standing c =
     let b = c .before .before .before in
     stands-here _ _ _ (b .before .before .before .before .before .before .pre .1 .1 .1 .1 .0 .1) _ (walked b) (c .before .before .if1 .left) (c .measure-known .ensures)
@@ -90,7 +90,7 @@ loop-less : tie.Need-loop-less Inv-loop μ-loop
 loop-less c =
     let d = c .before .before .before in
     let h = standing d .here in
-    omega (arith, h .some-bytes, h .within, d .before .before .before .count-bytes .ensures .counted .passed .above, d .before .before .before .before .count-fours .ensures .passed .above)
+    omega (arith, h .some-bytes, h .within, d .before .before .before .pass-bytes .ensures .counted .passed .above, d .before .before .before .before .pass-fours .ensures .passed .above)
 
 loop-again : tie.Need-loop-again Inv-loop μ-loop
 loop-again c =
@@ -115,8 +115,8 @@ seek-known-spec =
     Inv-loop
     μ-loop
     loop-holds
-    count-fours-requires
-    count-bytes-requires
+    pass-fours-requires
+    pass-bytes-requires
     read-byte
     (λ c κs. tt)
     add-next

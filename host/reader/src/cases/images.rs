@@ -3,19 +3,19 @@
 use super::Rng;
 use crate::hashtag::SIGNS;
 use crate::image::{
-    profile_offset, total_length, Image, Profile, Range, CODE_POINTS, ENTRY_BYTES, FORMAT,
-    HEADER_BYTES, MAX_ENTRIES, MAX_IMAGE, MAX_RANGES, RANGE_BYTES,
+    permitted, profile_offset, total_length, Image, Profile, Range, CODE_POINTS, ENTRY_BYTES,
+    FORMAT, HEADER_BYTES, MAX_ENTRIES, MAX_IMAGE, MAX_RANGES, RANGE_BYTES,
 };
-use crate::names::class::{NONSTART, OTHER, START, SYNTAX, WHITE};
+use crate::names::class::{NONSTART, OTHER, START, SYNTAX, UNASSIGNED, WHITE};
 use crate::names::role;
 use crate::utf8::is_scalar;
 use std::collections::{BTreeMap, BTreeSet};
 
 /// Code points at which something changes: length, class, limit or line.
-pub const EDGES: [u32; 39] = [
+pub const EDGES: [u32; 40] = [
     0x00, 0x09, 0x0A, 0x0B, 0x0C, 0x0D, 0x20, 0x23, 0x2D, 0x2E, 0x30, 0x39, 0x41, 0x5A, 0x5F, 0x61,
-    0x7A, 0x7F, 0x80, 0x85, 0xB7, 0xE9, 0x104, 0x7FF, 0x800, 0x200C, 0x200E, 0x2028, 0x2029,
-    0xD7FF, 0xE000, 0xFE5F, 0xFEFF, 0xFF03, 0xFFFD, 0xFFFF, 0x10000, 0x1E922, 0x10FFFF,
+    0x7A, 0x7F, 0x80, 0x85, 0xB7, 0xE9, 0x104, 0x7FF, 0x800, 0x200C, 0x200E, 0x200F, 0x2028,
+    0x2029, 0xD7FF, 0xE000, 0xFE5F, 0xFEFF, 0xFF03, 0xFFFD, 0xFFFF, 0x10000, 0x1E922, 0x10FFFF,
 ];
 
 /// Ranges like those in use: letters, digits, signs and blanks.
@@ -166,8 +166,8 @@ fn script_image(rng: &mut Rng) -> Image {
     let ranges: Vec<Range> =
         kept.map(|&(first, last, class)| Range { first, last, class }).collect();
     let points = [
-        0x0A, 0x0D, 0x20, 0x2D, 0x2E, 0x31, 0x41, 0x5F, 0x85, 0xA0, 0xB7, 0x200C, 0x2027, 0x2028,
-        0xFDD0, 0x10FFFF,
+        0x0A, 0x0D, 0x20, 0x2D, 0x2E, 0x31, 0x41, 0x5F, 0x85, 0xA0, 0xB7, 0x200C, 0x200F, 0x2027,
+        0x2028, 0xFDD0, 0x10FFFF,
     ];
     let mut entries = Vec::new();
     for point in points {
@@ -238,6 +238,56 @@ pub fn hashtag_image(rng: &mut Rng) -> Image {
     }
     let entries: Vec<(u32, u32)> = entries.into_iter().take(MAX_ENTRIES).collect();
     Image { profile: Profile::of(&entries), ..image }
+}
+
+/// Code points about marks, with the class that each mostly has: line ends, a blank, signs, a digit, letters, one that
+/// is Other, one that is Unassigned, marks.
+pub const ABOUT_MARKS: [(u32, u32); 14] = [
+    (0x0A, WHITE),
+    (0x0D, WHITE),
+    (0x20, WHITE),
+    (0x2B, SYNTAX),
+    (0x2D, SYNTAX),
+    (0x2E, SYNTAX),
+    (0x31, NONSTART),
+    (0x61, START),
+    (0x62, START),
+    (0xA7, OTHER),
+    (0x378, UNASSIGNED),
+    (0x200E, WHITE),
+    (0x200F, WHITE),
+    (0x2028, WHITE),
+];
+
+/// The image of these code points, rising, with their classes.
+fn image_of_points(points: &[(u32, u32)], profile: Profile) -> Image {
+    let mut ranges: Vec<Range> = Vec::new();
+    for &(point, class) in points {
+        match ranges.last_mut() {
+            Some(range) if range.last + 1 == point && range.class == class => range.last = point,
+            _ if class == UNASSIGNED => {}
+            _ => ranges.push(Range { first: point, last: point, class }),
+        }
+    }
+    Image { version: 1, ranges, profile }
+}
+
+/// Two images of the code points about marks. Some have another class than they mostly have, and some a role. The newer
+/// differs from the older by permitted changes.
+pub fn marked_images(rng: &mut Rng) -> (Image, Image) {
+    let (mut older, mut newer, mut entries) = (Vec::new(), Vec::new(), Vec::new());
+    let (of_classes, of_roles) = (2 + rng.below(20), 1 + rng.below(8));
+    for (point, usual) in ABOUT_MARKS {
+        let (any, next) = (rng.below(6) as u32, rng.below(6) as u32);
+        let class = if rng.once_in(of_classes) { any } else { usual };
+        older.push((point, class));
+        newer.push((point, if permitted(class, next) { next } else { class }));
+        if rng.once_in(of_roles) {
+            entries.push((point, *rng.pick(&ROLES)));
+        }
+    }
+    let profile = Profile::of(&entries);
+    (image_of_points(&older, profile), image_of_points(&newer, profile))
 }
 
 /// Limits of the header's words, and numbers beside them.

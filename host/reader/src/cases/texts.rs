@@ -1,12 +1,12 @@
 //! Made texts: of tokens, with hashtags, of any bytes, damaged, long.
 
-use super::images::EDGES;
+use super::images::{ABOUT_MARKS, EDGES};
 use super::Rng;
 use crate::hashtag::{is_hashtag_continue, SIGNS};
 use crate::image::Image;
 use crate::names::class::{NONSTART, OTHER, START, SYNTAX, UNASSIGNED, WHITE};
 use crate::names::role;
-use crate::token::MAX_TEXT;
+use crate::token::{MARKS, MAX_TEXT};
 use crate::utf8::is_scalar;
 
 /// Sequences that Table 3-7 does not have.
@@ -45,12 +45,13 @@ const LINE_ENDS: [&[u32]; 12] = [
     &[0x0D, 0x0A, 0x0A],
 ];
 
-/// Code points of an image, by what they are after the profile.
+/// Code points of an image, by what they are after the profile; `whites` without marks.
 struct Palette {
     starts: Vec<u32>,
     continues: Vec<u32>,
     syntaxes: Vec<u32>,
     whites: Vec<u32>,
+    marks: Vec<u32>,
     begins: Vec<u32>,
     medials: Vec<u32>,
     others: Vec<u32>,
@@ -86,7 +87,8 @@ fn palette(rng: &mut Rng, image: &Image) -> Palette {
         starts: of(&[START]),
         continues: of(&[START, NONSTART]),
         syntaxes: of(&[SYNTAX]),
-        whites: of(&[WHITE]),
+        whites: with(&|point| image.class(point) == WHITE && !MARKS.contains(&point)),
+        marks: with(&|point| image.class(point) == WHITE && MARKS.contains(&point)),
         begins: of(&[START, SYNTAX, WHITE]),
         others: of(&[UNASSIGNED, OTHER, NONSTART]),
         medials: with(&|point| image.role(point) == role::MEDIAL),
@@ -128,21 +130,31 @@ fn push_identifier(rng: &mut Rng, text: &mut Vec<u8>, palette: &Palette) {
     }
 }
 
-/// A text mostly of tokens; a character may be one that refuses it.
+/// Adds marks, at times right after or before a medial.
+fn push_marks(rng: &mut Rng, text: &mut Vec<u8>, palette: &Palette) {
+    let (times, medial) = (1 + rng.below(2), rng.below(5));
+    push_from(rng, text, &palette.medials, usize::from(medial == 0));
+    push_from(rng, text, &palette.marks, times);
+    push_from(rng, text, &palette.medials, usize::from(medial == 1));
+}
+
+/// A text mostly of tokens; a character may be one that refuses it, or a mark.
 pub fn token_text(rng: &mut Rng, image: &Image, pieces: usize) -> Vec<u8> {
     let palette = palette(rng, image);
     let bad = if rng.once_in(4) { 8 } else { usize::MAX };
+    let marked = rng.once_in(3);
     let mut text = Vec::new();
     for _ in 0..pieces {
         let times = 1 + rng.below(3);
-        match rng.below(10) {
+        match rng.below(if marked { 12 } else { 10 }) {
             0..=3 => push_identifier(rng, &mut text, &palette),
             4 => push_from(rng, &mut text, &palette.syntaxes, 1),
             5 | 6 => push_from(rng, &mut text, &palette.whites, times),
             7 => push_line_end(rng, &mut text, &palette.whites),
             8 => push_line_end(rng, &mut text, &palette.begins),
-            _ if rng.once_in(3) => push_from(rng, &mut text, &palette.medials, 1),
-            _ => {}
+            9 if rng.once_in(3) => push_from(rng, &mut text, &palette.medials, 1),
+            9 => {}
+            _ => push_marks(rng, &mut text, &palette),
         }
         if rng.once_in(bad) {
             push_from(rng, &mut text, &palette.others, 1);
@@ -169,8 +181,24 @@ pub fn hashtag_text(rng: &mut Rng, image: &Image, pieces: usize) -> Vec<u8> {
             7 => push_from(rng, &mut text, &palette.others, 1),
             8 => push_from(rng, &mut text, &palette.syntaxes, 1),
             9 => push_line_end(rng, &mut text, &EDGES),
+            _ if rng.once_in(6) => push_from(rng, &mut text, &palette.marks, 1),
             _ => push_from(rng, &mut text, &palette.whites, length),
         }
+    }
+    text
+}
+
+/// A short text of the code points about marks, of letters, full stops and marks more often; damaged at times.
+pub fn marked_text(rng: &mut Rng) -> Vec<u8> {
+    const MOSTLY: [u32; 5] = [0x2E, 0x61, 0x61, 0x200E, 0x200F];
+    let (length, any) = (1 + rng.below(9), 2 + rng.below(3));
+    let mut text = Vec::new();
+    for _ in 0..length {
+        let of_all = rng.pick(&ABOUT_MARKS).0;
+        push(&mut text, if rng.once_in(any) { of_all } else { *rng.pick(&MOSTLY) });
+    }
+    if rng.once_in(50) {
+        text = damage(rng, text);
     }
     text
 }
@@ -194,11 +222,14 @@ fn damage(rng: &mut Rng, mut text: Vec<u8>) -> Vec<u8> {
     text
 }
 
-/// The piece again and again, about as often as a text has room for it.
-fn repeated(rng: &mut Rng, mut piece: Vec<u8>) -> Vec<u8> {
-    piece.push(b' ');
+/// The piece again and again, about as often as a text has room for it. Only the last has its marks, since the reader
+/// divides the whole text again for each.
+fn repeated(rng: &mut Rng, piece: Vec<u8>) -> Vec<u8> {
+    let last = String::from_utf8(piece).expect("a piece is well-formed") + " ";
+    let plain: String = last.chars().filter(|&c| !MARKS.contains(&c.into())).collect();
     let length = MAX_TEXT + 2 - rng.below(4);
-    let mut text = piece.repeat(length / piece.len());
+    let mut text = plain.repeat((length - last.len()) / plain.len()).into_bytes();
+    text.extend(last.bytes());
     text.resize(length, b' ');
     if rng.once_in(4) {
         text[length - 1] = 0xFF;

@@ -1,39 +1,42 @@
--- `scan::count_tokens` meets its contract. The loop's invariant: the count is that of the tokens that are complete.
--- Assumes nothing.
+-- `count::count_tokens` meets its contract. The loop's invariant: the count is that of the tokens that are complete, and what
+-- stands before a mark is known. Assumes nothing.
 use Prim.Native.Nat.{ℕ, _+_, _-_, _*_, _/_}
 use mathlib.Core.Path.{refl, ap, _∙_}
 use native.Mathlib.Omega.{arith}
 use borrow.Author.Needs.{needs}
 use lib.ListN.{length}
 use Rattle.character.specs.Read.{MemoOf}
 use Rattle.scan.specs.declared.Counted.the-variants.{Refused, Tokens}
-use Rattle.scan.specs.Turns.{waiting}
-use Rattle.scan.proofs.ReachLaws.{Here, here, here-small, Look}
-use Rattle.scan.proofs.CountLaws.{
+use Rattle.count.specs.Turns.{countWaiting, refusedBeside}
+use Rattle.scan.proofs.ReachLaws.{Here, here, here-small}
+use Rattle.count.proofs.CountLaws.{
   Counting,
+  CountLook,
   counting-begins,
   counting-few,
-  counting-less,
   counts-ill,
   counting-settles,
   counts-left,
   settles-end,
   pending-few,
+  counts-marked,
   counts-end,
   counting-turn,
   counting-waits,
   waits-here,
+  counting-beside,
+  counting-same,
   counts-stop,
 }
-use Rattle.scan.proofs.count_tokens.Statement.{statement}
-use Rattle.scan.proofs.count_tokens.Tie as tie
+use Rattle.count.proofs.count_tokens.Statement.{statement}
+use Rattle.count.proofs.count_tokens.Tie as tie
 
 abbrev Inv-loop : tie.InvT-loop
-Inv-loop image table text turns after held memo₀ state₀ count₀ mid₀ at₀ memo state count mid at = Counting image text state count mid at × MemoOf image memo
+Inv-loop image table text turns after held memo₀ state₀ count₀ mid₀ mark₀ refused₀ at₀ memo state count mid mark refused at = Counting image text state count mid mark refused at × MemoOf image memo
 
 -- a medial that is settled reads no byte
 abbrev μ-loop : tie.MeasureT-loop
-μ-loop image table text turns after held memo₀ state₀ count₀ mid₀ at₀ memo state count mid at = 2 * (length text - at) + state / waiting
+μ-loop image table text turns after held memo₀ state₀ count₀ mid₀ mark₀ refused₀ at₀ memo state count mid mark refused at = 2 * (length text - at) + state / countWaiting
 
 -- the character that was read stands at the place
 stands :
@@ -48,7 +51,7 @@ looked :
     → let a = c .before .before .before .before .before .before .before .before .before .before .args in
     let l = c .before .before .before .before .before .before .loop in
     let r = c .before .before .before .before .read-for-tokens .result in
-    Look (a .image .now) (a .text .now) (l .state) (l .at) (r .len) (r .traits) (c .find-turn .result)
+    CountLook (a .image .now) (a .text .now) (l .state) (l .at) (r .len) (r .traits) (c .find-turn .result)
 looked c =
     let k = c .before .before .before .before .before .before .before .before .before .before in
     record { accepted = k .pre .0; here = stands (c .before .before); known = c .find-turn .ensures }
@@ -59,7 +62,7 @@ turned :
     → let a = c .before .before .before .before .before .before .before .before .before .before .before .before .before .args in
     let l = c .before .before .before .before .before .before .before .before .before .loop in
     let r = c .before .before .before .before .before .before .before .read-for-tokens .result in
-    Counting (a .image .now) (a .text .now) (c .state-after .result) (l .count + c .before .before .before .find-turn .result) (l .mid) (l .at + r .len)
+    Counting (a .image .now) (a .text .now) (c .state-after .result) (l .count + c .before .before .before .find-turn .result) (l .mid) (l .mark) (l .refused) (l .at + r .len)
 turned c =
     let i = c .before .before .before .before .before .before .before .before .before .loop .inv .0 in
     counting-turn i (looked (c .before .before .before)) (c .before .before .if2 .taken) _ (c .state-after .ensures)
@@ -69,7 +72,7 @@ waited :
     → let a = c .before .before .before .before .before .before .before .before .before .before .before .before .before .before .args in
     let l = c .before .before .before .before .before .before .before .before .before .before .loop in
     let r = c .before .before .before .before .before .before .before .before .read-for-tokens .result in
-    Counting (a .image .now) (a .text .now) (c .waiting-after .result) (l .count) (l .at) (l .at + r .len)
+    Counting (a .image .now) (a .text .now) (c .waiting-after .result) (l .count) (l .at) (l .mark) (l .refused) (l .at + r .len)
 waited c =
     let i = c .before .before .before .before .before .before .before .before .before .before .loop .inv .0 in
     counting-waits i (looked (c .before .before .before .before)) (c .before .before .if3 .taken) _ (c .waiting-after .ensures)
@@ -78,11 +81,28 @@ settled :
     (c : tie.Else5 Inv-loop μ-loop)
     → let a = c .before .before .before .before .before .before .before .before .before .before .before .before .before .before .args in
     let l = c .before .before .before .before .before .before .before .before .before .before .loop in
-    Counting (a .image .now) (a .text .now) (l .state - waiting) (l .count + 1) (l .mid) (l .at)
+    Counting (a .image .now) (a .text .now) (l .state - countWaiting) (l .count + 1) (l .mid) (l .mid) (l .refused) (l .at)
 settled c =
     let i = c .before .before .before .before .before .before .before .before .before .before .loop .inv .0 in
     let s = waits-here i (looked (c .before .before .before .before)) (c .before .if4 .taken) in
     counting-settles i (s .1) (s .0) (c .if5 .left)
+
+besides :
+    (c : tie.After-state-beside Inv-loop μ-loop)
+    → let l = c .before .before .before .before .before .before .before .before .before .before .before .before .before .before .loop in
+    let a = c .before .before .before .before .before .before .before .before .before .before .before .before .before .before .before .before .before .before .args in
+    let r = c .before .before .before .before .before .before .before .before .before .before .before .before .read-for-tokens .result in
+    Counting (a .image .now) (a .text .now) (c .state-beside .result) (l .count + c .before .before .before .count-beside .result) (l .mid) (c .before .before .mark-beside .result)
+    (c .before .refused-beside .result) (l .at + r .len)
+besides c =
+    let i = c .before .before .before .before .before .before .before .before .before .before .before .before .before .before .loop .inv .0 in
+    let b = c .before .before .before .before in
+    let t = counting-beside i (looked (b .before .before .before .before)) (omega (arith, b .before .before .before .if2 .left, b .before .before .if3 .left, b .before .if4 .left)) (b .if6 .left) in
+    let l = c .before .before .before .before .before .before .before .before .before .before .before .before .before .before .loop in
+    let a = c .before .before .before .before .before .before .before .before .before .before .before .before .before .before .before .before .before .before .args in
+    let m = c .before .before .mark-beside .ensures in
+    counting-same t (c .state-beside .ensures) (ap (λ (n : ℕ). l .count + n) (c .before .before .before .count-beside .ensures)) m
+    (c .before .refused-beside .ensures ∙ ap (λ (q : ℕ). refusedBeside (b .before .before .before .before .find-turn .result) (l .refused) q (length (a .text .now))) m)
 
 loop-holds : tie.Need-loop-holds Inv-loop μ-loop
 loop-holds c = (counting-begins _ _, c .no-memo .ensures _)
@@ -108,7 +128,7 @@ add-next c =
 find-turn-requires : tie.Need-find-turn-requires Inv-loop μ-loop
 find-turn-requires c κs =
     let k = c .before .before .before .before .before in
-    (refl, (counting-less (k .loop .inv .0), here-small (k .before .before .before .before .pre .0) (stands (c .before))))
+    (refl, (k .loop .inv .0 .less, here-small (k .before .before .before .before .pre .0) (stands (c .before))))
 
 add-count : tie.Need-add-count Inv-loop μ-loop
 add-count c =
@@ -123,7 +143,7 @@ state-after-requires c κs =
 loop-less : tie.Need-loop-less Inv-loop μ-loop
 loop-less c =
     let t = stands (c .before .before .before .before .before) in
-    omega (arith, t .some-bytes, t .within, counting-less (turned c))
+    omega (arith, t .some-bytes, t .within, turned c .less)
 
 loop-again : tie.Need-loop-again Inv-loop μ-loop
 loop-again c = (turned c, c .before .before .before .before .before .before .before .read-for-tokens .ensures .memo)
@@ -136,7 +156,7 @@ waiting-after-requires c κs =
 loop-less-2 : tie.Need-loop-less-2 Inv-loop μ-loop
 loop-less-2 c =
     let t = stands (c .before .before .before .before .before .before) in
-    omega (arith, t .some-bytes, t .within, counting-less (waited c))
+    omega (arith, t .some-bytes, t .within, waited c .less)
 
 loop-again-2 : tie.Need-loop-again-2 Inv-loop μ-loop
 loop-again-2 c = (waited c, c .before .before .before .before .before .before .before .before .read-for-tokens .ensures .memo)
@@ -148,7 +168,8 @@ returns-2 : tie.Need-returns-2 Inv-loop μ-loop
 returns-2 c =
     let k = c .before .before .before .before .before in
     let i = k .before .before .before .before .before .before .loop .inv .0 in
-    ap Refused (c .refuse-at2 .ensures) ∙ counts-left i (waits-here i (looked (k)) (c .before .before .if4 .taken) .1) (c .before .if5 .taken)
+    let w = waits-here i (looked k) (c .before .before .if4 .taken) in
+    ap Refused (c .refuse-at2 .ensures) ∙ counts-left i (w .1) (w .0) (c .before .if5 .taken)
 
 add-count-2 : tie.Need-add-count-2 Inv-loop μ-loop
 add-count-2 c =
@@ -163,19 +184,33 @@ sub-state c =
 loop-less-3 : tie.Need-loop-less-3 Inv-loop μ-loop
 loop-less-3 c =
     let i = c .before .before .before .before .before .before .before .before .before .before .loop .inv .0 in
-    omega (arith, waits-here i (looked (c .before .before .before .before)) (c .before .if4 .taken) .0, counting-less i)
+    omega (arith, waits-here i (looked (c .before .before .before .before)) (c .before .if4 .taken) .0, i .less)
 
 loop-again-3 : tie.Need-loop-again-3 Inv-loop μ-loop
 loop-again-3 c = (settled c, c .before .before .before .before .before .before .before .before .read-for-tokens .ensures .memo)
 
 refuse-at-requires-3 : tie.Need-refuse-at-requires-3 Inv-loop μ-loop
-refuse-at-requires-3 c κs = c .before .before .before .before .before .before .before .before .before .loop .inv .0 .reached .place .within
+refuse-at-requires-3 c κs = c .before .before .before .before .before .before .before .before .before .before .loop .inv .0 .reached .place .within
 
 returns-3 : tie.Need-returns-3 Inv-loop μ-loop
 returns-3 c =
-    let k = c .before .before .before .before .before .before .before .before .before .before in
-    ap Refused (c .refuse-at3 .ensures)
-    ∙ counts-stop (k .loop .inv .0) (looked (c .before .before .before .before)) (omega (arith, c .before .before .before .if2 .left, c .before .before .if3 .left, c .before .if4 .left))
+    let k = c .before .before .before .before .before in
+    ap Refused (c .refuse-at3 .ensures) ∙ counts-stop (k .before .before .before .before .before .before .loop .inv .0) (looked k) (omega (arith, c .before .if6 .taken))
+
+add-count-3 : tie.Need-add-count-3 Inv-loop μ-loop
+add-count-3 c =
+    let i = c .before .before .before .before .before .before .before .before .before .before .before .loop .inv .0 in
+    let b = c .before in
+    let t = counting-beside i (looked (b .before .before .before .before)) (omega (arith, b .before .before .before .if2 .left, b .before .before .if3 .left, b .before .if4 .left)) (b .if6 .left) in
+    omega (arith, counting-few t, c .count-beside .ensures, c .before .before .before .before .before .before .before .before .before .before .before .before .before .before .before)
+
+loop-less-4 : tie.Need-loop-less-4 Inv-loop μ-loop
+loop-less-4 c =
+    let t = stands (c .before .before .before .before .before .before .before .before .before .before) in
+    omega (arith, t .some-bytes, t .within, besides c .less)
+
+loop-again-4 : tie.Need-loop-again-4 Inv-loop μ-loop
+loop-again-4 c = (besides c, c .before .before .before .before .before .before .before .before .before .before .before .before .read-for-tokens .ensures .memo)
 
 refuse-at-requires-4 : tie.Need-refuse-at-requires-4 Inv-loop μ-loop
 refuse-at-requires-4 c κs = c .before .before .loop .inv .0 .reached .medial .within
@@ -183,18 +218,21 @@ refuse-at-requires-4 c κs = c .before .before .loop .inv .0 .reached .medial .w
 returns-4 : tie.Need-returns-4 Inv-loop μ-loop
 returns-4 c =
     let i = c .before .before .before .loop .inv .0 in
-    ap Refused (c .refuse-at4 .ensures) ∙ counts-left i (settles-end i (c .before .before .loop-test .left)) (c .before .if6 .taken)
+    ap Refused (c .refuse-at4 .ensures) ∙ counts-left i (settles-end i (c .before .before .loop-test .left)) (omega arith) (c .before .if7 .taken)
+
+returns-5 : tie.Need-returns-5 Inv-loop μ-loop
+returns-5 c = counts-marked (c .before .before .before .loop .inv .0) (c .before .before .loop-test .left) (c .before .if7 .left) (c .if8 .taken)
 
 add-all : tie.Need-add-all Inv-loop μ-loop
 add-all c =
-    let f = pending-few (c .before .before .before .loop .inv .0) (c .before .before .loop-test .left) (c .before .if6 .left) in
-    omega (arith, c .count-pending .ensures, f, c .before .before .before .before .before .before .before)
+    let f = pending-few (c .before .before .before .before .loop .inv .0) (c .before .before .before .loop-test .left) (c .before .before .if7 .left) in
+    omega (arith, c .count-pending .ensures, f, c .before .before .before .before .before .before .before .before)
 
-returns-5 : tie.Need-returns-5 Inv-loop μ-loop
-returns-5 c =
-    let l = c .before .before .before .loop in
+returns-6 : tie.Need-returns-6 Inv-loop μ-loop
+returns-6 c =
+    let l = c .before .before .before .before .loop in
     ap (λ (n : ℕ). Tokens (l .count + n)) (c .count-pending .ensures)
-    ∙ counts-end (l .inv .0) (c .before .before .loop-test .left) (c .before .if6 .left)
+    ∙ counts-end (l .inv .0) (c .before .before .before .loop-test .left) (c .before .before .if7 .left) (c .before .if8 .left)
 
 pub count-tokens-spec : {M : Type 1} → statement M
 count-tokens-spec =
@@ -224,8 +262,16 @@ count-tokens-spec =
     loop-again-3
     refuse-at-requires-3
     returns-3
+    (λ c κs. search needs)
+    add-count-3
+    (λ c κs. search needs)
+    (λ c κs. search needs)
+    (λ c κs. search needs)
+    loop-less-4
+    loop-again-4
     refuse-at-requires-4
     returns-4
+    returns-5
     (λ c κs. search needs)
     add-all
-    returns-5)
+    returns-6)

@@ -1,4 +1,4 @@
--- `hashtag::count_bytes` meets its contract. Assumes nothing.
+-- `hashtag::pass_bytes` meets its contract. Assumes nothing.
 use Prim.Native.Nat.{_-_}
 use mathlib.Core.Bool.{true}
 use mathlib.Core.Path.{sym, _∙_}
@@ -6,8 +6,8 @@ use native.Mathlib.Omega.{arith}
 use lib.ListN.{length}
 use Rattle.hashtag.specs.Seek.{Counted}
 use Rattle.hashtag.proofs.CountedLaws.{sum-one, counted-begins, counted-more}
-use Rattle.hashtag.proofs.count_bytes.Statement.{statement}
-use Rattle.hashtag.proofs.count_bytes.Tie as tie
+use Rattle.hashtag.proofs.pass_bytes.Statement.{statement}
+use Rattle.hashtag.proofs.pass_bytes.Tie as tie
 
 abbrev Inv-loop : tie.InvT-loop
 Inv-loop stops text from first at₀ line₀ at line = Counted text from first (record { at = at; line = line })
@@ -50,7 +50,7 @@ loop-again c =
 returns-2 : tie.Need-returns-2 Inv-loop μ-loop
 returns-2 c = record { counted = c .before .loop .inv; stop = λ h. absurd (omega (arith, c .loop-test .left)) }
 
-pub count-bytes-spec : {M : Type 1} → statement M
-count-bytes-spec =
+pub pass-bytes-spec : {M : Type 1} → statement M
+pass-bytes-spec =
     tie.close
     (tie.spec Inv-loop μ-loop loop-holds read-byte (λ c κs. tt) returns cast-line add-line add-at loop-less loop-again returns-2)

@@ -1,12 +1,12 @@
--- `hashtag::count_fours` meets its contract. Assumes nothing.
+-- `hashtag::pass_fours` meets its contract. Assumes nothing.
 use Prim.Native.Nat.{_-_}
 use mathlib.Core.Path.{_∙_}
 use native.Mathlib.Omega.{arith}
 use lib.ListN.{length, length-take, length-drop}
 use Rattle.hashtag.specs.Seek.{Counted}
 use Rattle.hashtag.proofs.CountedLaws.{sum-part, counted-begins, counted-more}
-use Rattle.hashtag.proofs.count_fours.Statement.{statement}
-use Rattle.hashtag.proofs.count_fours.Tie as tie
+use Rattle.hashtag.proofs.pass_fours.Statement.{statement}
+use Rattle.hashtag.proofs.pass_fours.Tie as tie
 
 abbrev Inv-loop : tie.InvT-loop
 Inv-loop stops text from first at₀ line₀ at line = Counted text from first (record { at = at; line = line })
@@ -58,8 +58,8 @@ loop-again c =
 returns-2 : tie.Need-returns-2 Inv-loop μ-loop
 returns-2 c = c .before .loop .inv
 
-pub count-fours-spec : {M : Type 1} → statement M
-count-fours-spec =
+pub pass-fours-spec : {M : Type 1} → statement M
+pass-fours-spec =
     tie.close
     (tie.spec
     Inv-loop
