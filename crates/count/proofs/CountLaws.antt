@@ -91,9 +91,9 @@ module _ (s text : List ℕ) (ts : Tokens) (k : Kind) (u : List Character) {stat
       }
 
   -- .. that makes one refused
-  seen-joined : (b : Bool) → refusedBy (viewBy state q) k ≡ some q → q < length text → k ≡ identifier →
+  seen-joined : refusedBy (viewBy state q) k ≡ some q → q < length text → k ≡ identifier →
       Seen s text (ts ++ tok k u ∷ []) 1 q (refusedBeside 7 refused q (length text))
-  seen-joined b f h e =
+  seen-joined f h e =
       record {
         view = sym (view-next (medialFirst (M s) u) refl ∙ ap (λ j. nextView (viewBy state q) (tokensWidth ts) j (medialFirst (M s) u)) e);
         first =
@@ -244,7 +244,7 @@ pub record CountLook (s text : List ℕ) (state at len traits turn : ℕ) : Type
   pub here : Here s text at len traits
   pub known : turn ≡ countTurnOf state traits
 
--- .. with what calls gave for the numbers
+-- the same with what calls gave for the numbers
 pub counting-same : {s text : List ℕ} {state count mid q refused at state′ count′ q′ refused′ : ℕ} → Counting s text state count mid q refused at →
     state′ ≡ state → count′ ≡ count → q′ ≡ q → refused′ ≡ refused → Counting s text state′ count′ mid q′ refused′ at
 counting-same i e f g h = rw (e, f, g, h) i
@@ -272,9 +272,6 @@ module _ {s text : List ℕ} {state count mid q refused at : ℕ} (i : Counting 
     x : Begun s k b (a .next)
     x = begun-of (a .comes) k e
 
-    shown : Tokens
-    shown = i .tokens ++ underWay (i .under-way)
-
     number : n ≡ kindNumber k
     number = go (a .next) (x .is) (a .reached .stands)
       where
@@ -291,7 +288,7 @@ module _ {s text : List ℕ} {state count mid q refused at : ℕ} (i : Counting 
         Seen s text ((i .tokens ++ underWay (i .under-way)) ++ underWay (a .next)) 1 q (refusedBeside 7 refused q (length text))
     joined-seen f h g =
         subst (λ p. Seen s text ((i .tokens ++ underWay (i .under-way)) ++ underWay p) 1 q (refusedBeside 7 refused q (length text))) (sym (x .is))
-        (seen-joined s text (i .tokens ++ underWay (i .under-way)) k (x .units) (i .seen) b f h g)
+        (seen-joined s text (i .tokens ++ underWay (i .under-way)) k (x .units) (i .seen) f h g)
 
   -- the number of a token under way is that of its kind
   after-kind : {o : Option Kind} {b : Bool} {r n start′ mid′ at′ : ℕ} → After s text (i .tokens) (i .under-way) o b r n start′ mid′ at′ → (k : Kind) × (n ≡ kindNumber k)

@@ -18,7 +18,7 @@ use Rattle.grammar.specs.Meaning.{Meaning}
 use Rattle.grammar.specs.Grammar.{Kind, identifier, syntax, whitespace, Token}
 use Rattle.grammar.specs.Kinds.{isContinue, kindBy, kindOf, goesWith, linksWith, localRules, rules}
 use Rattle.grammar.specs.Record.{tokenWidth, tokensWidth}
-use Rattle.grammar.specs.Marks.{visible, firstVisible, lastVisible}
+use Rattle.grammar.specs.Marks.{notWhite, firstNotWhite, lastNotWhite}
 use Rattle.grammar.specs.Second.{partsStill, refusesMark, firstRefused}
 use Rattle.grammar.specs.Beside.{View, other, afterIdentifier, afterMedial, markAfterIdentifier, markAfterMedial, medialAfterMark, medialView, markedView, whiteView, nextView, partedBy, refusedBy, either, medialFirst, viewNext, viewAfter, refusedFrom}
 use Rattle.grammar.proofs.GrammarLaws.{first-class, fits, tokens-divide, tokens-unique}
@@ -252,7 +252,7 @@ module _ (m : Meaning Character) where
   abbrev pub givenIf : Bool → ℕ → Option ℕ
   givenIf b q = cond b (some q) none
 
-  identifier-ahead : (q : ℕ) (ts : Tokens) → AllTokens ts → ahead (markAfterIdentifier q) ts ≡ givenIf (firstVisible ts && moreBy L identifier (unitsOf ts)) q
+  identifier-ahead : (q : ℕ) (ts : Tokens) → AllTokens ts → ahead (markAfterIdentifier q) ts ≡ givenIf (firstNotWhite ts && moreBy L identifier (unitsOf ts)) q
   identifier-ahead q [] a = refl
   identifier-ahead q (t ∷ ts) a = go (t .kind) refl (begins-with t (a .0))
     where
@@ -265,14 +265,14 @@ module _ (m : Meaning Character) where
       linked true n = refl
       linked false n = refl
 
-      go : (k : Kind) → t .kind ≡ k → Begins t → ahead (markAfterIdentifier q) (t ∷ ts) ≡ givenIf (firstVisible (t ∷ ts) && moreBy L identifier (unitsOf (t ∷ ts))) q
+      go : (k : Kind) → t .kind ≡ k → Begins t → ahead (markAfterIdentifier q) (t ∷ ts) ≡ givenIf (firstNotWhite (t ∷ ts) && moreBy L identifier (unitsOf (t ∷ ts))) q
       go identifier e b = rw (more b, e)
       go syntax e b =
           let f : goesFirst L identifier (b .others ++ unitsOf ts) ≡ firstIdentifier ts = ap (λ u. goesFirst L identifier (u ++ unitsOf ts)) (b .alone e) ∙ first-goes ts (a .1) in
           rw (more b, e, b .whole, f) (linked (m .medial (b .first)) (firstIdentifier ts))
       go (whitespace w) e b = rw e
 
-  medial-ahead : (q : ℕ) (ts : Tokens) → AllTokens ts → ahead (markAfterMedial q) ts ≡ givenIf (firstVisible ts && goesFirst L identifier (unitsOf ts)) q
+  medial-ahead : (q : ℕ) (ts : Tokens) → AllTokens ts → ahead (markAfterMedial q) ts ≡ givenIf (firstNotWhite ts && goesFirst L identifier (unitsOf ts)) q
   medial-ahead q [] a = refl
   medial-ahead q (t ∷ ts) a = go (t .kind) refl
     where
@@ -280,7 +280,7 @@ module _ (m : Meaning Character) where
       nothing true = refl
       nothing false = refl
 
-      go : (k : Kind) → t .kind ≡ k → ahead (markAfterMedial q) (t ∷ ts) ≡ givenIf (firstVisible (t ∷ ts) && goesFirst L identifier (unitsOf (t ∷ ts))) q
+      go : (k : Kind) → t .kind ≡ k → ahead (markAfterMedial q) (t ∷ ts) ≡ givenIf (firstNotWhite (t ∷ ts) && goesFirst L identifier (unitsOf (t ∷ ts))) q
       go identifier e = rw (first-goes (t ∷ ts) a, e)
       go syntax e = rw (first-goes (t ∷ ts) a, e) (nothing (medialFirst m (t .units)))
       go (whitespace w) e = rw e
@@ -319,10 +319,10 @@ module _ (m : Meaning Character) where
   medials-ahead (markAfterMedial q) true ts = other-ahead ts
   medials-ahead (medialAfterMark q) true ts = other-ahead ts
 
-  last-visible : (ts : Tokens) (t : Tok Character Kind) → lastVisible (ts ++ t ∷ []) ≡ visible (t .kind)
-  last-visible [] t = refl
-  last-visible (x ∷ []) t = refl
-  last-visible (x ∷ y ∷ ts) t = last-visible (y ∷ ts) t
+  last-not-white : (ts : Tokens) (t : Tok Character Kind) → lastNotWhite (ts ++ t ∷ []) ≡ notWhite (t .kind)
+  last-not-white [] t = refl
+  last-not-white (x ∷ []) t = refl
+  last-not-white (x ∷ y ∷ ts) t = last-not-white (y ∷ ts) t
 
   last-some : (ts : Tokens) (t : Tok Character Kind) → AllTokens (ts ++ t ∷ []) → 0 < length (t .units)
   last-some [] t a = let l = ap length (begins-with t (a .0) .whole) in omega arith
@@ -339,13 +339,13 @@ module _ (m : Meaning Character) where
   -- a mark between tokens of a text that has a division: both tests agree
   module _ (before after : Tokens) (q : ℕ) (left : Division (Token m) (unitsOf before) before []) (right : AllTokens after) where
     abbrev pub Agrees : Type 0
-    Agrees = ahead (markedView (viewOf before) q) after ≡ givenIf (lastVisible before && (firstVisible after && not (partsStill m before after))) q
+    Agrees = ahead (markedView (viewOf before) q) after ≡ givenIf (lastNotWhite before && (firstNotWhite after && not (partsStill m before after))) q
 
-    hidden : lastVisible before ≡ false → markedView (viewOf before) q ≡ other → Agrees
-    hidden e f = ap (λ v. ahead v after) f ∙ other-ahead after ∙ sym (ap (λ b. givenIf (b && (firstVisible after && not (partsStill m before after))) q) e)
+    hidden : lastNotWhite before ≡ false → markedView (viewOf before) q ≡ other → Agrees
+    hidden e f = ap (λ v. ahead v after) f ∙ other-ahead after ∙ sym (ap (λ b. givenIf (b && (firstNotWhite after && not (partsStill m before after))) q) e)
 
     parted : partsStill m before after ≡ true → markedView (viewOf before) q ≡ other → Agrees
-    parted e f = ap (λ v. ahead v after) f ∙ other-ahead after ∙ sym (ap (λ b. givenIf (lastVisible before && (firstVisible after && not b)) q) e ∙ go (lastVisible before) (firstVisible after))
+    parted e f = ap (λ v. ahead v after) f ∙ other-ahead after ∙ sym (ap (λ b. givenIf (lastNotWhite before && (firstNotWhite after && not b)) q) e ∙ go (lastNotWhite before) (firstNotWhite after))
       where
         go : (a b : Bool) → givenIf (a && (b && false)) q ≡ none
         go true true = refl
@@ -353,11 +353,11 @@ module _ (m : Meaning Character) where
         go false b = refl
 
     -- by what is under way before the mark
-    given-by : (b : Bool) → lastVisible before ≡ true → partsStill m before after ≡ not b →
-        givenIf (firstVisible after && b) q ≡ givenIf (lastVisible before && (firstVisible after && not (partsStill m before after))) q
+    given-by : (b : Bool) → lastNotWhite before ≡ true → partsStill m before after ≡ not b →
+        givenIf (firstNotWhite after && b) q ≡ givenIf (lastNotWhite before && (firstNotWhite after && not (partsStill m before after))) q
     given-by b e f = rw (e, f) (go b)
       where
-        go : (b : Bool) → givenIf (firstVisible after && b) q ≡ givenIf (firstVisible after && not (not b)) q
+        go : (b : Bool) → givenIf (firstNotWhite after && b) q ≡ givenIf (firstNotWhite after && not (not b)) q
         go true = refl
         go false = refl
 
@@ -368,8 +368,8 @@ module _ (m : Meaning Character) where
         view : viewOf before ≡ nextView (viewOf ts) (tokensWidth ts) k (medialFirst m u)
         view = ap viewOf f ∙ view-snoc ts (tok k u)
 
-        seen : lastVisible before ≡ visible k
-        seen = ap lastVisible f ∙ last-visible ts (tok k u)
+        seen : lastNotWhite before ≡ notWhite k
+        seen = ap lastNotWhite f ∙ last-not-white ts (tok k u)
 
         parts : partsStill m before after ≡ not (moreBy L k (unitsOf after))
         parts = under-parts L (unitsOf before) (unitsOf after) ts k u e (last-some ts (tok k u) (rw f at (division-tokens (Token m) left)))
@@ -377,12 +377,12 @@ module _ (m : Meaning Character) where
         go : (j : Kind) → k ≡ j → Agrees
         go identifier i =
             ap (λ v. ahead (markedView v q) after) (view ∙ ap (λ j. nextView (viewOf ts) (tokensWidth ts) j (medialFirst m u)) i) ∙ identifier-ahead q after right
-            ∙ given-by (moreBy L identifier (unitsOf after)) (seen ∙ ap visible i) (parts ∙ ap (λ j. not (moreBy L j (unitsOf after))) i)
+            ∙ given-by (moreBy L identifier (unitsOf after)) (seen ∙ ap notWhite i) (parts ∙ ap (λ j. not (moreBy L j (unitsOf after))) i)
         go syntax i =
             parted (parts ∙ ap not (ap (λ j. moreBy L j (unitsOf after)) i ∙ more-syntax (unitsOf after)))
             (ap (λ v. markedView v q) (view ∙ ap (λ j. nextView (viewOf ts) (tokensWidth ts) j (medialFirst m u)) i) ∙ medial-marked (viewOf ts) (medialFirst m u) q (h i))
         go (whitespace w) i =
-            hidden (seen ∙ ap visible i)
+            hidden (seen ∙ ap notWhite i)
             (ap (λ v. markedView v q) (view ∙ ap (λ j. nextView (viewOf ts) (tokensWidth ts) j (medialFirst m u)) i) ∙ white-marked (viewOf ts) (tokensWidth ts) q w)
 
     held-agrees : (ts : Tokens) (u : List Character) (d : Character) (j : Kind) → run L idle (unitsOf before) ≡ moves ts (held identifier u d) → m .medial d ≡ true →
@@ -399,8 +399,8 @@ module _ (m : Meaning Character) where
         view : viewOf before ≡ nextView afterIdentifier (tokensWidth front) j true
         view = ap viewOf whole ∙ view-snoc front (tok j (d ∷ [])) ∙ (λ i. nextView (view-snoc ts (tok identifier u) i) (tokensWidth front) j (h i))
 
-        seen : lastVisible before ≡ visible j
-        seen = ap lastVisible whole ∙ last-visible front (tok j (d ∷ []))
+        seen : lastNotWhite before ≡ notWhite j
+        seen = ap lastNotWhite whole ∙ last-not-white front (tok j (d ∷ []))
 
         parts : partsStill m before after ≡ not (goesFirst L identifier (unitsOf after) || moreBy L j (unitsOf after))
         parts = held-parts L (unitsOf before) (unitsOf after) ts identifier u d j e g
@@ -409,15 +409,15 @@ module _ (m : Meaning Character) where
         go identifier i = absurd (true≢false (sym (identifier-goes d j g ∙ ap isIdentifier i) ∙ n))
         go syntax i =
             ap (λ v. ahead (markedView v q) after) (view ∙ ap (λ k. nextView afterIdentifier (tokensWidth front) k true) i) ∙ medial-ahead q after right
-            ∙ given-by (goesFirst L identifier (unitsOf after)) (seen ∙ ap visible i)
+            ∙ given-by (goesFirst L identifier (unitsOf after)) (seen ∙ ap notWhite i)
             (parts ∙ ap (λ k. not (goesFirst L identifier (unitsOf after) || moreBy L k (unitsOf after))) i
             ∙ ap (λ b. not (goesFirst L identifier (unitsOf after) || b)) (more-syntax (unitsOf after)) ∙ ap not (or-none (goesFirst L identifier (unitsOf after))))
         go (whitespace w) i =
-            hidden (seen ∙ ap visible i) (ap (λ v. markedView v q) (view ∙ ap (λ k. nextView afterIdentifier (tokensWidth front) k true) i) ∙ white-marked afterIdentifier (tokensWidth front) q w)
+            hidden (seen ∙ ap notWhite i) (ap (λ v. markedView v q) (view ∙ ap (λ k. nextView afterIdentifier (tokensWidth front) k true) i) ∙ white-marked afterIdentifier (tokensWidth front) q w)
 
     idle-agrees : (ts : Tokens) → run L idle (unitsOf before) ≡ moves ts idle → viewOf ts ≡ other → before ≡ ts → Agrees
     unfolding partsStill
-    idle-agrees [] e h f = hidden (ap lastVisible f) (ap (λ z. markedView (viewOf z) q) f)
+    idle-agrees [] e h f = hidden (ap lastNotWhite f) (ap (λ z. markedView (viewOf z) q) f)
     idle-agrees (t ∷ ts) e h f =
         let (xs, x, g) = last-of t ts in
         parted (idle-parts L (unitsOf before) (unitsOf after) (t ∷ ts) xs x g e) (ap (λ z. markedView (viewOf z) q) f ∙ ap (λ v. markedView v q) h)
@@ -482,7 +482,7 @@ module _ (m : Meaning Character) where
       go (whitespace mark) e =
           let l = division-front (Token m) (none-at-end (Token m) (rules m) (fits m)) before (t ∷ ts) (unitsOf (t ∷ ts)) (units-append before (t ∷ ts)) d in
           let r = all-after before (t ∷ ts) (division-tokens (Token m) d) .1 in
-          rw (e, agrees before ts (tokensWidth before) l r) (marked _ (lastVisible before && (firstVisible ts && not (partsStill m before ts))))
+          rw (e, agrees before ts (tokensWidth before) l r) (marked _ (lastNotWhite before && (firstNotWhite ts && not (partsStill m before ts))))
 
   along : (before ts : Tokens) {left : List Character} → Division (Token m) (unitsOf (before ++ ts)) (before ++ ts) left → Along before ts
   unfolding firstRefused

@@ -15,7 +15,7 @@ use Rattle.grammar.specs.Meaning.{Meaning}
 use Rattle.grammar.specs.Grammar.{Kind, identifier, syntax, whitespace, Token}
 use Rattle.grammar.specs.Kinds.{rules}
 use Rattle.grammar.specs.Record.{tokensWidth}
-use Rattle.grammar.specs.Marks.{firstVisible, lastVisible, RefusedMark}
+use Rattle.grammar.specs.Marks.{firstNotWhite, lastNotWhite, RefusedMark}
 use Rattle.grammar.specs.Second.{isMarkKind, partsStill, refusesMark}
 use Rattle.grammar.specs.Beside.{View, other, afterIdentifier, afterMedial, markAfterIdentifier, markAfterMedial, medialAfterMark, medialView, markedView, nextView, medialFirst, Parts, identifiers, medialRight, medialLeft}
 use Rattle.grammar.proofs.DivisionLaws.{none-at-end, division-front, division-tokens}
@@ -135,7 +135,7 @@ module _ (m : Meaning Character) where
 
     refuses-by : ahead m (markedView (viewOf m before) 0) after ≡ givenIf m (refusesMark m before t after) 0
     unfolding refusesMark
-    refuses-by = agrees m before after 0 front rest ∙ sym (ap (λ k. givenIf m (isMarkKind k && (lastVisible before && (firstVisible after && not (partsStill m before after)))) 0) is-mark)
+    refuses-by = agrees m before after 0 front rest ∙ sym (ap (λ k. givenIf m (isMarkKind k && (lastNotWhite before && (firstNotWhite after && not (partsStill m before after)))) 0) is-mark)
 
     refused-parts : RefusedMark m before t after → Parts m before after
     refused-parts r = go (viewOf m before) refl (refuses-by ∙ ap (λ b. givenIf m b 0) (refuses-mark m before t after .1 r))

@@ -15,7 +15,7 @@ use Rattle.grammar.specs.Scan.{Tok, unitsOf, reading}
 use Rattle.grammar.specs.Meaning.{Meaning}
 use Rattle.grammar.specs.Grammar.{Kind, identifier, syntax, whitespace}
 use Rattle.grammar.specs.Kinds.{rules}
-use Rattle.grammar.specs.Marks.{lastVisible, firstVisible, EndsAfter, RefusedMark}
+use Rattle.grammar.specs.Marks.{lastNotWhite, firstNotWhite, EndsAfter, RefusedMark}
 use Rattle.grammar.specs.Second.{isMarkKind, endsAfter, partsStill, refusesMark, firstRefused}
 use Rattle.grammar.proofs.DivisionLaws.{append-same}
 use Rattle.grammar.proofs.GrammarLaws.{tokens-divide, tokens-unique}
@@ -64,7 +64,7 @@ module _ {A : Type 0} (m : Meaning A) where
 
       means : refusesMark m before t after ≡ true → RefusedMark m before t after
       means e =
-          let (k, (l, (r, p))) = split (isMarkKind (t .kind)) (lastVisible before ∷ firstVisible after ∷ not (partsStill m before after) ∷ []) e in
+          let (k, (l, (r, p))) = split (isMarkKind (t .kind)) (lastNotWhite before ∷ firstNotWhite after ∷ not (partsStill m before after) ∷ []) e in
           record {
             kind = mark-means (t .kind) k;
             left = l;

@@ -12,22 +12,22 @@ use Rattle.grammar.specs.Meaning.{Meaning}
 use Rattle.grammar.specs.Grammar.{Kind, identifier, syntax, whitespace, Token}
 
 -- whether a kind of token is none of the three of White
-abbrev pub visible : Kind → Bool
-visible identifier = true
-visible syntax = true
-visible (whitespace w) = false
+abbrev pub notWhite : Kind → Bool
+notWhite identifier = true
+notWhite syntax = true
+notWhite (whitespace w) = false
 
 module _ {A : Type 0} where
   -- there is a first token, and it isn't White
-  abbrev pub firstVisible : List (Tok A Kind) → Bool
-  firstVisible [] = false
-  firstVisible (t ∷ ts) = visible (t .kind)
+  abbrev pub firstNotWhite : List (Tok A Kind) → Bool
+  firstNotWhite [] = false
+  firstNotWhite (t ∷ ts) = notWhite (t .kind)
 
   -- there is a last one, and it isn't White
-  abbrev pub lastVisible : List (Tok A Kind) → Bool
-  lastVisible [] = false
-  lastVisible (t ∷ []) = visible (t .kind)
-  lastVisible (t ∷ u ∷ ts) = lastVisible (u ∷ ts)
+  abbrev pub lastNotWhite : List (Tok A Kind) → Bool
+  lastNotWhite [] = false
+  lastNotWhite (t ∷ []) = notWhite (t .kind)
+  lastNotWhite (t ∷ u ∷ ts) = lastNotWhite (u ∷ ts)
 
   -- one of the tokens ends after n units
   pub record EndsAfter (ts : List (Tok A Kind)) (n : ℕ) : Type 0 where
@@ -41,8 +41,8 @@ module _ {A : Type 0} where
 -- taken out, no token ends where it stood": t stands between the tokens before it and after it
 pub record RefusedMark {A : Type 0} (m : Meaning A) (before : List (Tok A Kind)) (t : Tok A Kind) (after : List (Tok A Kind)) : Type 0 where
   pub kind : t .kind ≡ whitespace mark
-  pub left : lastVisible before ≡ true
-  pub right : firstVisible after ≡ true
+  pub left : lastNotWhite before ≡ true
+  pub right : firstNotWhite after ≡ true
   pub second : List (Tok A Kind)
   pub rest : List A
   pub division : Division (Token m) (unitsOf before ++ unitsOf after) second rest

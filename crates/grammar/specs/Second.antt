@@ -1,27 +1,22 @@
 -- The reader's form of refusal 14 (docs/RULES.md, "Direction marks"): the text is read a second time without the mark.
 -- `proofs/SecondLaws.antt` joins it to `Marks.antt`.
 use Prim.Native.Nat.{ℕ, _-_}
-use mathlib.Core.Bool.{Bool, true, false, not, _&&_, _||_, cond}
+use mathlib.Core.Bool.{Bool, false, not, _&&_, _||_, cond}
 use mathlib.Core.List.{List, [], _∷_, _++_}
 use mathlib.Core.Option.{Option, none, some}
 use lib.ListN.{length}
 use lib.Dec.{leb, eqb}
-use Rattle.grammar.specs.White.{WhiteKind, blank, lineEnd, mark}
+use Rattle.grammar.specs.White.{mark, sameWhite}
 use Rattle.grammar.specs.Scan.{Tok, unitsOf, reading}
 use Rattle.grammar.specs.Meaning.{Meaning}
 use Rattle.grammar.specs.Grammar.{Kind, identifier, syntax, whitespace}
 use Rattle.grammar.specs.Kinds.{rules}
-use Rattle.grammar.specs.Marks.{firstVisible, lastVisible}
-
-abbrev pub isMarkWhite : WhiteKind → Bool
-isMarkWhite blank = false
-isMarkWhite lineEnd = false
-isMarkWhite mark = true
+use Rattle.grammar.specs.Marks.{firstNotWhite, lastNotWhite}
 
 abbrev pub isMarkKind : Kind → Bool
 isMarkKind identifier = false
 isMarkKind syntax = false
-isMarkKind (whitespace w) = isMarkWhite w
+isMarkKind (whitespace w) = sameWhite mark w
 
 module _ {A : Type 0} where
   -- whether one of the tokens ends after n units
@@ -36,7 +31,7 @@ module _ {A : Type 0} (m : Meaning A) where
 
   -- whether the token t between them is refused
   unfoldable pub refusesMark : List (Tok A Kind) → Tok A Kind → List (Tok A Kind) → Bool
-  refusesMark before t after = isMarkKind (t .kind) && (lastVisible before && (firstVisible after && not (partsStill before after)))
+  refusesMark before t after = isMarkKind (t .kind) && (lastNotWhite before && (firstNotWhite after && not (partsStill before after)))
 
   -- of the tokens ts after those before them, the first that is refused: the tokens before it
   unfoldable pub firstRefused : List (Tok A Kind) → List (Tok A Kind) → Option (List (Tok A Kind))
