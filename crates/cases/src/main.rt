@@ -3,6 +3,7 @@ ghost use Prim.Native.Nat.{_≤_};
 
 mod build;
 mod checks;
+mod encodings;
 mod lookups;
 mod pairs;
 mod sequences;
@@ -35,6 +36,7 @@ pub(crate) fn print_bytes(s: &[u8], columns: usize)
 
 fn main() {
     sequences::run();
+    encodings::run();
     checks::run();
     lookups::run();
     writes::run();

@@ -60,7 +60,7 @@ small : (b : Bool) → one b ≤ 1
 small true = omega arith
 small false = omega arith
 
--- what a byte tells, but for those whose code point is to be looked at
+-- what a byte tells
 pub data Tells (b : ℕ) : ℕ → Type 0 where
   nothing : (b < 0x0A) ⊎ (0x0D < b) → (b ≡ 0xC2 → ⊥) → (b ≡ 0xE2 → ⊥) → Tells b 0
   ends : 0x0A ≤ b → b < 0x0D → Tells b 1

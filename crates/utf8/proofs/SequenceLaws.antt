@@ -1,64 +1,29 @@
 -- The step at the head of a text and the sequences of Table 3-7: each finds the other, and nothing else.
 -- Assumes nothing.
-use Prim.Native.Nat.{ℕ, zero, suc, _+_, _/_, _≤_, _<_}
+use Prim.Native.Nat.{ℕ, zero, suc, _+_, _/_, _%_, _≤_, _<_}
 use mathlib.Core.Path.{_≡_, refl, sym, ap, subst, _∙_}
 use mathlib.Core.Bool.{Bool, true, false, false≢true, cond}
 use mathlib.Core.List.{List, [], _∷_, _++_, append-nil}
 use mathlib.Core.Logic.{inl, inr}
 use native.Mathlib.Omega.{arith}
+use native.Mathlib.Decide.{decLt}
 use lib.ListN.{length, take, drop, getD, length-append, length-take, take-append-drop}
 use lib.Dec.{ltb}
 use borrow.Author.Tests.{lt-ltb, le-ltb, le-leb, lt-leb}
 use Rattle.lists.proofs.BoolLaws.{and-left, and-right, impossible}
 use Rattle.utf8.specs.declared.Step.{Step}
 use Rattle.utf8.specs.declared.Step.the-variants.{Scalar, IllFormed, End}
-use Rattle.utf8.specs.Scalar.{isScalar, below-surrogates, above-surrogates}
-use Rattle.utf8.specs.Table.{Bytes, _to_, Row, table, inside, fits, Fills, FillsOne, Sequence, codePoint}
+use Rattle.utf8.specs.Scalar.{isScalar}
+use Rattle.utf8.specs.Table.{Row, rows, inside, fits, Fills, FillsSome, Sequence}
+use Rattle.utf8.specs.Encoding.{encoding, codePoint}
 use Rattle.utf8.specs.Subpart.{subpartOf, Subpart, MaximalSubpart}
 use Rattle.utf8.specs.Lead.{knownLength, isTrail}
 use Rattle.utf8.specs.Head.{stepIn, stepOf, IllHead, NoSequence, StepMeans, sequence, no-sequence, empty}
-use Rattle.utf8.proofs.ScalarLaws.{means-scalar}
+use Rattle.utf8.proofs.ScalarLaws.{scalar-le}
 use Rattle.utf8.proofs.TableLaws.{inside-in, inside-out, inside-above}
 use Rattle.utf8.proofs.SubpartLaws.{subpart-means, subpart-unique}
 use Rattle.utf8.proofs.LeadLaws.{rising, rising-parts, at-end}
-
-low : (x : ℕ) → x < 0xD800 → isScalar x ≡ true
-low x h = means-scalar x true (below-surrogates h)
-
-high : (x : ℕ) → 0xE000 ≤ x → x ≤ 0x10FFFF → isScalar x ≡ true
-high x h l = means-scalar x true (above-surrogates h l)
-
-abbrev within : Bytes → ℕ → Type 0
-within g b = (g .low ≤ b) × (b ≤ g .high)
-
-abbrev later : ℕ → Type 0
-later b = (0x80 ≤ b) × (b ≤ 0xBF)
-
--- the bytes of a row of one, two, three and four ranges
-module _ (P : List ℕ → Type 0) where
-  row-1 : (g : Bytes) → ((b : ℕ) → within g b → P (b ∷ [])) → (q : List ℕ) → Fills (g ∷ []) q → P q
-  row-1 g k (b ∷ []) f = k b (f .0, f .1)
-  row-1 g k (b ∷ c ∷ q) f = absurd (f .2)
-
-  row-2 : (g h : Bytes) → ((b c : ℕ) → within g b → within h c → P (b ∷ c ∷ [])) → (q : List ℕ) → Fills (g ∷ h ∷ []) q → P q
-  row-2 g h k (b ∷ []) f = absurd (f .2)
-  row-2 g h k (b ∷ c ∷ []) f = k b c (f .0, f .1) (f .2 .0, f .2 .1)
-  row-2 g h k (b ∷ c ∷ d ∷ q) f = absurd (f .2 .2)
-
-  row-3 : (g h : Bytes) → ((b c d : ℕ) → within g b → within h c → later d → P (b ∷ c ∷ d ∷ [])) →
-      (q : List ℕ) → Fills (g ∷ h ∷ 0x80 to 0xBF ∷ []) q → P q
-  row-3 g h k (b ∷ []) f = absurd (f .2)
-  row-3 g h k (b ∷ c ∷ []) f = absurd (f .2 .2)
-  row-3 g h k (b ∷ c ∷ d ∷ []) f = k b c d (f .0, f .1) (f .2 .0, f .2 .1) (f .2 .2 .0, f .2 .2 .1)
-  row-3 g h k (b ∷ c ∷ d ∷ e ∷ q) f = absurd (f .2 .2 .2)
-
-  row-4 : (g h : Bytes) → ((b c d e : ℕ) → within g b → within h c → later d → later e → P (b ∷ c ∷ d ∷ e ∷ [])) →
-      (q : List ℕ) → Fills (g ∷ h ∷ 0x80 to 0xBF ∷ 0x80 to 0xBF ∷ []) q → P q
-  row-4 g h k (b ∷ []) f = absurd (f .2)
-  row-4 g h k (b ∷ c ∷ []) f = absurd (f .2 .2)
-  row-4 g h k (b ∷ c ∷ d ∷ []) f = absurd (f .2 .2 .2)
-  row-4 g h k (b ∷ c ∷ d ∷ e ∷ []) f = k b c d e (f .0, f .1) (f .2 .0, f .2 .1) (f .2 .2 .0, f .2 .2 .1) (f .2 .2 .2 .0, f .2 .2 .2 .1)
-  row-4 g h k (b ∷ c ∷ d ∷ e ∷ x ∷ q) f = absurd (f .2 .2 .2 .2)
+use Rattle.utf8.proofs.EncodingLaws.{rises, encoding-1, encoding-2, encoding-3, encoding-4, encoding-code, encoding-sequence, sequence-encodes, encodes-code, sequence-encoding}
 
 -- the length that a first byte tells
 known-1 : (b : ℕ) → b < 0x80 → 1 ≡ knownLength b
@@ -69,11 +34,11 @@ known-2 : (b : ℕ) → 0x80 ≤ b → b < 0xE0 → 2 ≡ knownLength b
 unfolding knownLength
 known-2 b h l = rw (le-ltb b 0x80 h, lt-ltb b 0xE0 l)
 
-pub known-3 : (b : ℕ) → 0xE0 ≤ b → b < 0xF0 → 3 ≡ knownLength b
+known-3 : (b : ℕ) → 0xE0 ≤ b → b < 0xF0 → 3 ≡ knownLength b
 unfolding knownLength
 known-3 b h l = rw (le-ltb b 0x80 (omega arith), le-ltb b 0xE0 h, lt-ltb b 0xF0 l)
 
-pub known-4 : (b : ℕ) → 0xF0 ≤ b → 4 ≡ knownLength b
+known-4 : (b : ℕ) → 0xF0 ≤ b → 4 ≡ knownLength b
 unfolding knownLength
 known-4 b h = rw (le-ltb b 0x80 (omega arith), le-ltb b 0xE0 (omega arith), le-ltb b 0xF0 h)
 
@@ -87,20 +52,18 @@ known-bounds b = go (ltb b 0x80) (ltb b 0xE0) (ltb b 0xF0)
     go false false true = (omega arith, omega arith)
     go false false false = (omega arith, omega arith)
 
--- what holds of every sequence: it stands for a scalar value; its first byte tells its length, and whether it stands for ASCII or for
--- the code points from F000 to FFFF; which byte is the first
-pub record Right (q : List ℕ) : Type 0 where
-  pub scalar : isScalar (codePoint q) ≡ true
+-- what the bytes q of a code point x tell: the first their number, and, up to FFFF, the upper bits of x; which byte is the first
+pub record Right (q : List ℕ) (x : ℕ) : Type 0 where
   pub long : length q ≡ knownLength (getD q 0 0)
-  pub ascii : codePoint q < 0x80 → getD q 0 0 ≡ codePoint q
-  pub two : 0x80 ≤ codePoint q → codePoint q < 0x800 → getD q 0 0 ≡ 0xC0 + codePoint q / 0x40
-  pub three : 0x800 ≤ codePoint q → codePoint q < 0x10000 → getD q 0 0 ≡ 0xE0 + codePoint q / 0x1000
+  pub ascii : x < 0x80 → getD q 0 0 ≡ x
+  pub two : 0x80 ≤ x → x < 0x800 → getD q 0 0 ≡ 0xC0 + x / 0x40
+  pub three : 0x800 ≤ x → x < 0x10000 → getD q 0 0 ≡ 0xE0 + x / 0x1000
   pub first : isTrail (getD q 0 0) ≡ false
   pub others : (i : ℕ) → 0 < i → i < length q → isTrail (getD q i 0) ≡ true
 
 -- bytes that follow others
-trail : (b : ℕ) → 0x80 ≤ b → b ≤ 0xBF → isTrail b ≡ true
-trail b h l = rw (le-leb 0x80 b h, lt-ltb b 0xC0 (omega arith))
+trail : (y : ℕ) → y < 0x40 → isTrail (0x80 + y) ≡ true
+trail y h = rw (le-leb 0x80 (0x80 + y) (omega arith), lt-ltb (0x80 + y) 0xC0 (omega arith))
 
 low-lead : (b : ℕ) → b < 0x80 → isTrail b ≡ false
 low-lead b h = rw (lt-leb 0x80 b h)
@@ -108,56 +71,73 @@ low-lead b h = rw (lt-leb 0x80 b h)
 high-lead : (b : ℕ) → 0xC0 ≤ b → isTrail b ≡ false
 high-lead b h = rw (le-leb 0x80 b (omega arith), le-ltb b 0xC0 h)
 
-one-other : (b c : ℕ) → isTrail c ≡ true → (i : ℕ) → 0 < i → i < 2 → isTrail (getD (b ∷ c ∷ []) i 0) ≡ true
-one-other b c t zero h l = absurd (omega arith)
-one-other b c t (suc zero) h l = t
-one-other b c t (suc (suc i)) h l = absurd (omega arith)
+abbrev AllTrail : List ℕ → Type 0
+AllTrail [] = Unit {0}
+AllTrail (b ∷ q) = (isTrail b ≡ true) × AllTrail q
 
-two-others : (b c d : ℕ) → isTrail c ≡ true → isTrail d ≡ true → (i : ℕ) → 0 < i → i < 3 → isTrail (getD (b ∷ c ∷ d ∷ []) i 0) ≡ true
-two-others b c d t u zero h l = absurd (omega arith)
-two-others b c d t u (suc zero) h l = t
-two-others b c d t u (suc (suc zero)) h l = u
-two-others b c d t u (suc (suc (suc i))) h l = absurd (omega arith)
+all-trail : (q : List ℕ) → AllTrail q → (i : ℕ) → i < length q → isTrail (getD q i 0) ≡ true
+all-trail (b ∷ q) a zero h = a .0
+all-trail (b ∷ q) a (suc i) h = all-trail q (a .1) i (omega arith)
 
-three-others :
-    (b c d e : ℕ) → isTrail c ≡ true → isTrail d ≡ true → isTrail e ≡ true → (i : ℕ) → 0 < i → i < 4
-    → isTrail (getD (b ∷ c ∷ d ∷ e ∷ []) i 0) ≡ true
-three-others b c d e t u v zero h l = absurd (omega arith)
-three-others b c d e t u v (suc zero) h l = t
-three-others b c d e t u v (suc (suc zero)) h l = u
-three-others b c d e t u v (suc (suc (suc zero))) h l = v
-three-others b c d e t u v (suc (suc (suc (suc i)))) h l = absurd (omega arith)
+after-first : (b : ℕ) (q : List ℕ) → AllTrail q → (i : ℕ) → 0 < i → i < length (b ∷ q) → isTrail (getD (b ∷ q) i 0) ≡ true
+after-first b q a zero h l = absurd (omega arith)
+after-first b q a (suc i) h l = all-trail q a i (omega arith)
 
--- one line for each row of the table
-right : (q : List ℕ) → FillsOne table q → Right q
-right q (inl f) =
-    row-1 Right _ (λ b u. record { scalar = low _ (omega arith); long = known-1 b (omega arith); ascii = λ h. refl; two = λ h l. absurd (omega arith); three = λ h l. absurd (omega arith); first = low-lead b (omega arith); others = λ i h l. absurd (omega arith) }) q f
-right q (inr (inl f)) =
-    row-2 Right _ _ (λ b c u v. record { scalar = low _ (omega arith); long = known-2 b (omega arith) (omega arith); ascii = λ h. absurd (omega arith); two = λ h l. omega arith; three = λ h l. absurd (omega arith); first = high-lead b (omega arith); others = one-other b c (trail c (omega arith) (omega arith)) }) q f
-right q (inr (inr (inl f))) =
-    row-3 Right _ _ (λ b c d u v w. record { scalar = low _ (omega arith); long = known-3 b (omega arith) (omega arith); ascii = λ h. absurd (omega arith); two = λ h l. absurd (omega arith); three = λ h l. omega arith; first = high-lead b (omega arith); others = two-others b c d (trail c (omega arith) (omega arith)) (trail d (omega arith) (omega arith)) }) q f
-right q (inr (inr (inr (inl f)))) =
-    row-3 Right _ _ (λ b c d u v w. record { scalar = low _ (omega arith); long = known-3 b (omega arith) (omega arith); ascii = λ h. absurd (omega arith); two = λ h l. absurd (omega arith); three = λ h l. omega arith; first = high-lead b (omega arith); others = two-others b c d (trail c (omega arith) (omega arith)) (trail d (omega arith) (omega arith)) }) q f
-right q (inr (inr (inr (inr (inl f))))) =
-    row-3 Right _ _ (λ b c d u v w. record { scalar = low _ (omega arith); long = known-3 b (omega arith) (omega arith); ascii = λ h. absurd (omega arith); two = λ h l. absurd (omega arith); three = λ h l. omega arith; first = high-lead b (omega arith); others = two-others b c d (trail c (omega arith) (omega arith)) (trail d (omega arith) (omega arith)) }) q f
-right q (inr (inr (inr (inr (inr (inl f)))))) =
-    row-3 Right _ _ (λ b c d u v w. record { scalar = high _ (omega arith) (omega arith); long = known-3 b (omega arith) (omega arith); ascii = λ h. absurd (omega arith); two = λ h l. absurd (omega arith); three = λ h l. omega arith; first = high-lead b (omega arith); others = two-others b c d (trail c (omega arith) (omega arith)) (trail d (omega arith) (omega arith)) }) q f
-right q (inr (inr (inr (inr (inr (inr (inl f))))))) =
-    row-4 Right _ _ (λ b c d e u v w x. record { scalar = high _ (omega arith) (omega arith); long = known-4 b (omega arith); ascii = λ h. absurd (omega arith); two = λ h l. absurd (omega arith); three = λ h l. absurd (omega arith); first = high-lead b (omega arith); others = three-others b c d e (trail c (omega arith) (omega arith)) (trail d (omega arith) (omega arith)) (trail e (omega arith) (omega arith)) }) q f
-right q (inr (inr (inr (inr (inr (inr (inr (inl f)))))))) =
-    row-4 Right _ _ (λ b c d e u v w x. record { scalar = high _ (omega arith) (omega arith); long = known-4 b (omega arith); ascii = λ h. absurd (omega arith); two = λ h l. absurd (omega arith); three = λ h l. absurd (omega arith); first = high-lead b (omega arith); others = three-others b c d e (trail c (omega arith) (omega arith)) (trail d (omega arith) (omega arith)) (trail e (omega arith) (omega arith)) }) q f
-right q (inr (inr (inr (inr (inr (inr (inr (inr (inl f))))))))) =
-    row-4 Right _ _ (λ b c d e u v w x. record { scalar = high _ (omega arith) (omega arith); long = known-4 b (omega arith); ascii = λ h. absurd (omega arith); two = λ h l. absurd (omega arith); three = λ h l. absurd (omega arith); first = high-lead b (omega arith); others = three-others b c d e (trail c (omega arith) (omega arith)) (trail d (omega arith) (omega arith)) (trail e (omega arith) (omega arith)) }) q f
+-- one case for each row of Table 3-6
+right : (x : ℕ) → x ≤ 0x10FFFF → Right (encoding x) x
+right x m = go (decLt x 0x80) (decLt x 0x800) (decLt x 0x10000)
+  where
+    go : Dec (x < 0x80) → Dec (x < 0x800) → Dec (x < 0x10000) → Right (encoding x) x
+    go (yes a) b c =
+        rw (encoding-1 x a)
+        (record {
+          long = known-1 x a;
+          ascii = λ h. refl;
+          two = λ h l. absurd (omega arith);
+          three = λ h l. absurd (omega arith);
+          first = low-lead x a;
+          others = λ i h l. absurd (omega arith);
+        })
+    go (no a) (yes b) c =
+        rw (encoding-2 x (omega arith) b)
+        (record {
+          long = known-2 _ (omega arith) (omega arith);
+          ascii = λ h. absurd (omega arith);
+          two = λ h l. refl;
+          three = λ h l. absurd (omega arith);
+          first = high-lead (0xC0 + x / 0x40) (omega arith);
+          others = after-first _ ((0x80 + x % 0x40) ∷ []) (trail (x % 0x40) (omega arith), tt);
+        })
+    go (no a) (no b) (yes c) =
+        rw (encoding-3 x (omega arith) c)
+        (record {
+          long = known-3 _ (omega arith) (omega arith);
+          ascii = λ h. absurd (omega arith);
+          two = λ h l. absurd (omega arith);
+          three = λ h l. refl;
+          first = high-lead (0xE0 + x / 0x1000) (omega arith);
+          others = after-first _ ((0x80 + x / 0x40 % 0x40) ∷ (0x80 + x % 0x40) ∷ []) (trail (x / 0x40 % 0x40) (omega arith), (trail (x % 0x40) (omega arith), tt));
+        })
+    go (no a) (no b) (no c) =
+        rw (encoding-4 x (omega arith))
+        (record {
+          long = known-4 _ (omega arith);
+          ascii = λ h. absurd (omega arith);
+          two = λ h l. absurd (omega arith);
+          three = λ h l. absurd (omega arith);
+          first = high-lead (0xF0 + x / 0x40000) (omega arith);
+          others = after-first _ ((0x80 + x / 0x1000 % 0x40) ∷ (0x80 + x / 0x40 % 0x40) ∷ (0x80 + x % 0x40) ∷ []) (trail (x / 0x1000 % 0x40) (omega arith), (trail (x / 0x40 % 0x40) (omega arith), (trail (x % 0x40) (omega arith), tt)));
+        })
 
-pub sequence-right : (q : List ℕ) → Sequence q → Right q
-unfolding Sequence
-sequence-right q f = right q f
+pub sequence-scalar : (q : List ℕ) → Sequence q → isScalar (codePoint q) ≡ true
+sequence-scalar q f = let e = sequence-encodes q f in ap isScalar (encodes-code e) ∙ e .scalar
+
+pub sequence-right : (q : List ℕ) → Sequence q → Right q (codePoint q)
+sequence-right q f =
+    subst (λ (u : List ℕ). Right u (codePoint q)) (sequence-encoding q f) (right (codePoint q) (scalar-le (codePoint q) (sequence-scalar q f)))
 
 pub sequence-length : (q : List ℕ) → Sequence q → (0 < length q) × (length q ≤ 4)
 sequence-length q f = let l = sequence-right q f .long in (omega (arith, known-bounds (getD q 0 0) .0), omega (arith, known-bounds (getD q 0 0) .1))
-
-pub sequence-scalar : (q : List ℕ) → Sequence q → isScalar (codePoint q) ≡ true
-sequence-scalar q f = sequence-right q f .scalar
 
 pub not-empty : Sequence [] → ⊥
 not-empty f = let l = sequence-length [] f in omega arith
@@ -179,7 +159,7 @@ fits-fills (g ∷ gs) (b ∷ s) e =
 
 -- what a step says of the bytes at the head; it never says that nothing is left
 abbrev Found : List Row → List ℕ → Step → Type 0
-Found rs s (Scalar x n) = FillsOne rs (take n s) × (x ≡ codePoint (take n s)) × (n ≡ length (take n s))
+Found rs s (Scalar x n) = FillsSome rs (take n s) × (x ≡ codePoint (take n s)) × (n ≡ length (take n s))
 Found rs s (IllFormed n) = n ≡ subpartOf s
 Found rs s End = ⊥
 
@@ -197,14 +177,8 @@ found (r ∷ rs) s = go (found rs s) (fits r s) refl
     go ih true e = let h = fits-fills r s e in (inl (h .0), refl, h .1)
     go ih false e = later-row r rs s (stepIn rs s) ih
 
--- the first byte of what fills a later row is above this row's first bytes
-rises : (rs : List Row) (m b : ℕ) (q : List ℕ) → rising m rs ≡ true → FillsOne rs (b ∷ q) → m ≤ b
-rises ([] ∷ rs) m b q t f = impossible (cc)
-rises ((g ∷ gs) ∷ rs) m b q t (inl f) = let p = rising-parts m g gs rs t in omega arith
-rises ((g ∷ gs) ∷ rs) m b q t (inr f) = let p = rising-parts m g gs rs t in omega (arith, rises rs (suc (g .high)) b q (p .2) f)
-
 finds :
-    (rs : List Row) (m b : ℕ) (q t : List ℕ) → rising m rs ≡ true → FillsOne rs (b ∷ q)
+    (rs : List Row) (m b : ℕ) (q t : List ℕ) → rising m rs ≡ true → FillsSome rs (b ∷ q)
     → stepIn rs (b ∷ (q ++ t)) ≡ Scalar (codePoint (b ∷ q)) (length (b ∷ q))
 finds ([] ∷ rs) m b q t r f = impossible (cc)
 finds ((g ∷ gs) ∷ rs) m b q t r (inl f) =
@@ -212,7 +186,7 @@ finds ((g ∷ gs) ∷ rs) m b q t r (inl f) =
     rw (h .0) (λ i. Scalar (codePoint (b ∷ take (length gs) (q ++ t))) (suc (length gs))) ∙ (λ i. Scalar (codePoint (h .2 i)) (h .1 i))
 finds ((g ∷ gs) ∷ rs) m b q t r (inr f) =
     let p = rising-parts m g gs rs r in
-    rw (inside-above g b (p .1) (rises rs (suc (g .high)) b q (p .2) f)) (finds rs (suc (g .high)) b q t (p .2) f)
+    rw (inside-above g b (rises rs (suc (g .high)) b q (p .2) f)) (finds rs (suc (g .high)) b q t (p .2) f)
 
 -- no sequence begins where nothing is left
 pub none-empty : (s : List ℕ) → s ≡ [] → NoSequence s
@@ -223,7 +197,12 @@ none-empty s e (b ∷ q) r p f = impossible (cc)
 pub step-of-sequence : (q t : List ℕ) → Sequence q → stepOf (q ++ t) ≡ Scalar (codePoint q) (length q)
 unfolding stepOf Sequence
 step-of-sequence [] t f = absurd (not-empty f)
-step-of-sequence (b ∷ q) t f = finds table 0 b q t refl f
+step-of-sequence (b ∷ q) t f = finds rows 0 b q t refl f
+
+-- .. so each scalar value is read back from its encoding
+pub step-of-encoding : (x : ℕ) (t : List ℕ) → isScalar x ≡ true → stepOf (encoding x ++ t) ≡ Scalar x (length (encoding x))
+step-of-encoding x t s =
+    step-of-sequence (encoding x) t (encoding-sequence x s) ∙ (λ i. Scalar (encoding-code x (scalar-le x s) i) (length (encoding x)))
 
 -- what is found is the sequence of the bytes taken
 pub record IsSequence (s : List ℕ) (x n : ℕ) : Type 0 where
@@ -235,14 +214,14 @@ pub sequence-of-step : (s : List ℕ) (x n : ℕ) → stepOf s ≡ Scalar x n �
 unfolding stepOf Sequence
 sequence-of-step [] x n e = impossible (cc)
 sequence-of-step (b ∷ s) x n e =
-    let f : Found table (b ∷ s) (Scalar x n) = rw e at (found table (b ∷ s)) in
+    let f : Found rows (b ∷ s) (Scalar x n) = rw e at (found rows (b ∷ s)) in
     record { sequence = f .0; code = f .1; long = f .2 }
 
 -- ill-formed with whatever length is ill-formed with the maximal subpart's
 ill-head : (s : List ℕ) (n : ℕ) → stepOf s ≡ IllFormed n → n ≡ subpartOf s
 unfolding stepOf
 ill-head [] n e = impossible (cc)
-ill-head (b ∷ s) n e = rw e at (found table (b ∷ s))
+ill-head (b ∷ s) n e = rw e at (found rows (b ∷ s))
 
 pub ill-at : (s : List ℕ) (n : ℕ) → stepOf s ≡ IllFormed n → IllHead s
 ill-at s n e = e ∙ ap IllFormed (ill-head s n e)
@@ -257,7 +236,7 @@ no-sequence-at s e q r p f =
 pub end-empty : (s : List ℕ) → stepOf s ≡ End → s ≡ []
 unfolding stepOf
 end-empty [] e = refl
-end-empty (b ∷ s) e = absurd (rw e at (found table (b ∷ s)))
+end-empty (b ∷ s) e = absurd (rw e at (found rows (b ∷ s)))
 
 pub step-empty : stepOf [] ≡ End
 step-empty = sym (at-end [] refl)

@@ -9,7 +9,7 @@ use native.Mathlib.Omega.{arith}
 use native.Mathlib.Decide.{decLt}
 use lib.ListN.{length, take, drop, length-take, take-append-drop}
 use borrow.Author.Tests.{lt-ltb, le-ltb}
-use Rattle.utf8.specs.Table.{Row, table, inside, Fills, FillsOne, Sequence}
+use Rattle.utf8.specs.Table.{Row, rows, inside, Fills, FillsSome, Sequence}
 use Rattle.utf8.specs.Subpart.{begun, larger, subpartIn, subpartOf, Subpart, MaximalSubpart}
 use Rattle.utf8.proofs.TableLaws.{inside-in, inside-out}
 
@@ -40,8 +40,8 @@ abbrev AllRanged : List Row → Type 0
 AllRanged [] = Unit {0}
 AllRanged (r ∷ rs) = Ranged r × AllRanged rs
 
-table-ranged : AllRanged table
-table-ranged = (omega arith, (omega arith, (omega arith, (omega arith, (omega arith, (omega arith, (omega arith, (omega arith, (omega arith, tt)))))))))
+rows-ranged : AllRanged rows
+rows-ranged = (omega arith, (omega arith, (omega arith, (omega arith, (omega arith, (omega arith, (omega arith, (omega arith, (omega arith, tt)))))))))
 
 -- so a row can be filled, whatever fits its first ranges
 abbrev lows : Row → List ℕ
@@ -78,7 +78,7 @@ fills-begun [] (b ∷ q) t v f = absurd f
 fills-begun (g ∷ gs) (b ∷ q) t v f = rw (inside-in g b (f .0) (f .1)) (let h = fills-begun gs q t v (f .2) in omega arith)
 
 -- over the rows: no initial subsequence is longer, and one byte is no more than it
-longest-in : (rs : List Row) (q t v : List ℕ) → FillsOne rs (q ++ t) → length q ≤ subpartIn rs (q ++ v)
+longest-in : (rs : List Row) (q t v : List ℕ) → FillsSome rs (q ++ t) → length q ≤ subpartIn rs (q ++ v)
 longest-in (r ∷ rs) q t v (inl f) = omega (arith, fills-begun r q t v f, larger-le (begun r (q ++ v)) (subpartIn rs (q ++ v)))
 longest-in (r ∷ rs) q t v (inr f) = omega (arith, longest-in rs q t v f, larger-le (begun r (q ++ v)) (subpartIn rs (q ++ v)))
 
@@ -90,7 +90,7 @@ one-in (r ∷ rs) s = omega (arith, one-in rs s, larger-le (begun r s) (subpartI
 record Begins (rs : List Row) (s : List ℕ) (n : ℕ) : Type 0 where
   within : n ≤ length s
   others : List ℕ
-  fills : FillsOne rs (take n s ++ others)
+  fills : FillsSome rs (take n s ++ others)
 
 is-one : (rs : List Row) (s : List ℕ) → AllRanged rs → Begins rs s (subpartIn rs s) ⊎ (subpartIn rs s ≡ 1)
 is-one [] s h = inr refl
@@ -110,12 +110,12 @@ is-one (r ∷ rs) s h = go (decLt (begun r s) (subpartIn rs s)) (is-one rs s (h 
 -- the maximal subpart at the head of bytes
 longest-here : (s q r : List ℕ) → s ≡ q ++ r → Subpart q → length q ≤ subpartOf s
 unfolding subpartOf Sequence
-longest-here s q r e (inl i) = rw e (longest-in table q (i .others) r (i .sequence))
-longest-here s q r e (inr l) = omega (arith, one-in table s)
+longest-here s q r e (inl i) = rw e (longest-in rows q (i .others) r (i .sequence))
+longest-here s q r e (inr l) = omega (arith, one-in rows s)
 
 pub subpart-means : (s : List ℕ) → 0 < length s → MaximalSubpart s (subpartOf s)
 unfolding subpartOf Sequence
-subpart-means s h = go (is-one table s table-ranged)
+subpart-means s h = go (is-one rows s rows-ranged)
   where
     at : (n : ℕ) → subpartOf s ≡ n → n ≤ length s → Subpart (take n s) → MaximalSubpart s (subpartOf s)
     at n e l p =
@@ -128,7 +128,7 @@ subpart-means s h = go (is-one table s table-ranged)
           longest = longest-here s;
         }
 
-    go : Begins table s (subpartIn table s) ⊎ (subpartIn table s ≡ 1) → MaximalSubpart s (subpartOf s)
+    go : Begins rows s (subpartIn rows s) ⊎ (subpartIn rows s ≡ 1) → MaximalSubpart s (subpartOf s)
     go (inl b) = at _ refl (b .within) (inl (record { others = b .others; sequence = b .fills }))
     go (inr e) = at 1 e (omega arith) (inr (simp length-take (omega arith)))
 

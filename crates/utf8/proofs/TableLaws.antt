@@ -2,30 +2,34 @@
 -- Assumes nothing.
 use Prim.Native.Nat.{ℕ, zero, suc, _+_, _≤_, _<_}
 use mathlib.Core.Path.{_≡_, refl, sym, ap, _∙_}
-use mathlib.Core.Bool.{Bool, true, false, not, _&&_, cond}
+use mathlib.Core.Bool.{Bool, true, false, false≢true, not, _&&_, cond}
 use mathlib.Core.List.{List, [], _∷_}
 use native.Mathlib.Omega.{arith}
 use native.Mathlib.Decide.{decLt}
 use lib.Dec.{leb, ltb}
-use lib.ListN.{length, take, drop, getD, drop-of-length-le}
+use lib.ListN.{length, take, drop, getD, length-drop, drop-of-length-le}
 use lib.Seq.{drop-cons}
 use borrow.Author.Tests.{leb-true, le-leb, lt-leb, lt-ltb, le-ltb, ltb-true, ltb-false}
 use Rattle.lists.proofs.BoolLaws.{and-left, and-right}
-use Rattle.utf8.specs.Table.{Bytes, Row, inside, fits}
+use Rattle.utf8.specs.Table.{Range, Row, inside, fits}
 use Rattle.utf8.specs.Subpart.{begun}
 use Rattle.utf8.specs.Lead.{byteFits}
 
-pub inside-in : (g : Bytes) (b : ℕ) → g .low ≤ b → b ≤ g .high → inside g b ≡ true
+pub inside-in : (g : Range) (b : ℕ) → g .low ≤ b → b ≤ g .high → inside g b ≡ true
 inside-in g b l h = rw (le-leb (g .low) b l, le-leb b (g .high) h)
 
-pub inside-out : (g : Bytes) (b : ℕ) → inside g b ≡ true → (g .low ≤ b) × (b ≤ g .high)
+pub inside-out : (g : Range) (b : ℕ) → inside g b ≡ true → (g .low ≤ b) × (b ≤ g .high)
 inside-out g b e =
     (leb-true (g .low) b (and-left (leb (g .low) b) (leb b (g .high)) e), leb-true b (g .high) (and-right (leb (g .low) b) (leb b (g .high)) e))
 
-pub inside-above : (g : Bytes) (b : ℕ) → g .low ≤ g .high → g .high < b → inside g b ≡ false
-inside-above g b l h = rw (le-leb (g .low) b (omega arith), lt-leb b (g .high) h)
+pub inside-above : (g : Range) (b : ℕ) → g .high < b → inside g b ≡ false
+inside-above g b h = rw (lt-leb b (g .high) h) (go (leb (g .low) b))
+  where
+    go : (t : Bool) → (t && false) ≡ false
+    go true = refl
+    go false = refl
 
-pub inside-below : (g : Bytes) (b : ℕ) → b < g .low → inside g b ≡ false
+pub inside-below : (g : Range) (b : ℕ) → b < g .low → inside g b ≡ false
 inside-below g b h = rw (lt-leb (g .low) b h)
 
 pub ltb-not : (a b : ℕ) → ltb a b ≡ not (leb b a)
@@ -36,7 +40,7 @@ ltb-not a b =
     ]
 
 -- byte i of a text, and the row from byte i on
-module _ (g : Bytes) (gs : Row) (s : List ℕ) (i : ℕ) where
+module _ (g : Range) (gs : Row) (s : List ℕ) (i : ℕ) where
   byte-here : i < length s → byteFits g s i ≡ inside g (getD s i 0)
   unfolding byteFits
   byte-here h = rw (lt-ltb i (length s) h)
@@ -73,6 +77,19 @@ module _ (g : Bytes) (gs : Row) (s : List ℕ) (i : ℕ) where
       go : (t : Bool) → ltb i (length s) ≡ t → begun (g ∷ gs) (drop i s) ≡ 0
       go true f = let h = ltb-true i (length s) f in begun-step h ∙ rw (sym (byte-here h) ∙ e)
       go false f = ap (begun (g ∷ gs)) (drop-of-length-le s (let z : length s ≤ i = omega (arith, ltb-false i (length s) f) in z))
+
+-- a text that is too short for a row
+fits-length : (gs : Row) (s : List ℕ) → fits gs s ≡ true → length gs ≤ length s
+fits-length [] s e = omega arith
+fits-length (g ∷ gs) [] e = absurd (false≢true e)
+fits-length (g ∷ gs) (b ∷ s) e = let h = fits-length gs s (and-right (inside g b) (fits gs s) e) in omega arith
+
+pub fits-short : (g : Range) (gs : Row) (s : List ℕ) (i : ℕ) → length s < i + suc (length gs) → fits (g ∷ gs) (drop i s) ≡ false
+fits-short g gs s i h = go (fits (g ∷ gs) (drop i s)) refl
+  where
+    go : (t : Bool) → fits (g ∷ gs) (drop i s) ≡ t → fits (g ∷ gs) (drop i s) ≡ false
+    go true e = absurd (omega (arith, fits-length (g ∷ gs) (drop i s) e, length-drop i s))
+    go false e = e
 
 -- n bytes of a text from byte i on, one by one
 abbrev pub bytesAt : ℕ → ℕ → List ℕ → List ℕ

@@ -116,17 +116,6 @@ unpacked-by s (Scalar x n) e h =
 unpacked-by s (IllFormed n) e h = record { none = λ z. ill-at s n e; some = λ z. absurd (omega arith); small = omega arith }
 unpacked-by s End e h = let l = ap length (end-empty s e) in absurd (omega arith)
 
-pub unpacked-length : (s : List ℕ) (d : ℕ) → d ≡ packed (stepOf s) → d % 8 ≡ lengthOf (stepOf s)
-unpacked-length s d e = ap (λ (k : ℕ). k % 8) e ∙ go (stepOf s) refl
-  where
-    go : (t : Step) → stepOf s ≡ t → packed t % 8 ≡ lengthOf t
-    go (Scalar x n) e = omega (arith, step-bounds s x n e .short)
-    go (IllFormed n) e = refl
-    go End e = refl
-
-pub packed-length : (s : List ℕ) (x n : ℕ) → n < 8 → x * 8 + n ≡ packed (stepOf s) → n ≡ lengthOf (stepOf s)
-packed-length s x n h e = let z : n ≡ (x * 8 + n) % 8 = omega arith in z ∙ unpacked-length s (x * 8 + n) e
-
 pub unpacked : (s : List ℕ) (d : ℕ) → d ≡ packed (stepOf s) → 0 < length s → Unpacked s d
 unpacked s d e h = subst (λ (k : ℕ). Unpacked s k) (sym e) (unpacked-by s (stepOf s) refl h)
 

@@ -6,7 +6,8 @@ use mathlib.Core.List.{List, [], _∷_, _++_}
 use lib.ListN.{length, take}
 use Rattle.utf8.specs.declared.Step.{Step}
 use Rattle.utf8.specs.declared.Step.the-variants.{Scalar, IllFormed, End}
-use Rattle.utf8.specs.Table.{Row, table, fits, Sequence, codePoint}
+use Rattle.utf8.specs.Table.{Row, rows, fits, Sequence}
+use Rattle.utf8.specs.Encoding.{codePoint}
 use Rattle.utf8.specs.Subpart.{subpartOf, MaximalSubpart}
 
 -- the first row whose bytes begin the text gives the sequence; no row: ill-formed, with the length of the maximal subpart
@@ -18,7 +19,7 @@ stepIn (r ∷ rs) s = cond (fits r s) (Scalar (codePoint (take (length r) s)) (l
 -- or that nothing is left
 unfoldable pub stepOf : List ℕ → Step
 stepOf [] = End
-stepOf (b ∷ s) = stepIn table (b ∷ s)
+stepOf (b ∷ s) = stepIn rows (b ∷ s)
 
 -- ill-formed at the head
 abbrev pub IllHead : List ℕ → Type 0

@@ -2,19 +2,33 @@
 use Prim.Native.Nat.{ℕ, zero, suc, _+_, _*_}
 use mathlib.Core.Bool.{Bool, false, _&&_, cond}
 use mathlib.Core.List.{List, [], _∷_}
-use lib.Dec.{leb, ltb, eqb}
-use lib.ListN.{length, take, drop, getD, replicate}
+use lib.Dec.{leb, ltb}
+use lib.ListN.{length, take, drop, getD}
 use Rattle.utf8.specs.declared.Lead.{Lead}
 use Rattle.utf8.specs.declared.Step.{Step}
 use Rattle.utf8.specs.declared.Step.the-variants.{Scalar, IllFormed, End}
-use Rattle.utf8.specs.Table.{Bytes, _to_, later, Row, table, inside, fits, codePoint}
+use Rattle.utf8.specs.Table.{Range, _to_, Row, rows, inside, fits}
+use Rattle.utf8.specs.Encoding.{codePoint}
 use Rattle.utf8.specs.Subpart.{subpartOf}
 
--- the length of a row, and the bounds of its second byte, 0 where it has none
+-- a length, and the ranges of the second, third and fourth byte
+abbrev pub leadWith : ℕ → Range → Range → Range → Lead
+leadWith n g h i = record { len = n; low2 = g .low; high2 = g .high; low3 = h .low; high3 = h .high; low4 = i .low; high4 = i .high }
+
+-- the range of a byte that a sequence doesn't have
+abbrev pub absent : Range
+absent = 0x80 to 0xBF
+
+-- the lead of a row, by its ranges after the first
+abbrev pub leadAfter : Row → Lead
+leadAfter [] = leadWith 1 absent absent absent
+leadAfter (g ∷ []) = leadWith 2 g absent absent
+leadAfter (g ∷ h ∷ []) = leadWith 3 g h absent
+leadAfter (g ∷ h ∷ i ∷ gs) = leadWith 4 g h i
+
 abbrev pub leadOfRow : Row → Lead
-leadOfRow [] = record { len = 0; low = 0; high = 0 }
-leadOfRow (g ∷ []) = record { len = 1; low = 0; high = 0 }
-leadOfRow (g ∷ h ∷ gs) = record { len = suc (suc (length gs)); low = h .low; high = h .high }
+leadOfRow [] = leadWith 0 absent absent absent
+leadOfRow (g ∷ gs) = leadAfter gs
 
 -- the first range of a row has the byte
 abbrev pub leads : Row → ℕ → Bool
@@ -27,13 +41,12 @@ leadIn [] b = leadOfRow []
 leadIn (r ∷ rs) b = cond (leads r b) (leadOfRow r) (leadIn rs b)
 
 unfoldable pub leadOf : ℕ → Lead
-leadOf b = leadIn table b
+leadOf b = leadIn rows b
 
 -- the ranges of the bytes after the first, in a sequence of this length
-abbrev pub trailOf : ℕ → ℕ → ℕ → Row
-trailOf zero low high = []
-trailOf (suc zero) low high = []
-trailOf (suc (suc n)) low high = low to high ∷ replicate n later
+abbrev pub trailOf : ℕ → Lead → Row
+trailOf zero l = []
+trailOf (suc n) l = take n (l .low2 to l .high2 ∷ l .low3 to l .high3 ∷ l .low4 to l .high4 ∷ [])
 
 -- the sequence at the head of a text whose first byte has this lead
 abbrev pub stepAs : ℕ → Row → List ℕ → Step
@@ -41,10 +54,14 @@ stepAs zero gs s = IllFormed (subpartOf s)
 stepAs (suc n) gs s = cond (fits gs (drop 1 s)) (Scalar (codePoint (take (suc n) s)) (suc n)) (IllFormed (subpartOf s))
 
 unfoldable pub stepBy : Lead → List ℕ → Step
-stepBy l s = stepAs (l .len) (trailOf (l .len) (l .low) (l .high)) s
+stepBy l s = stepAs (l .len) (trailOf (l .len) l) s
+
+-- the length of a sequence with these ranges after the first byte, if the bytes of the text are as they say; otherwise 0
+abbrev pub wholeLength : Row → List ℕ → ℕ
+wholeLength gs s = cond (fits gs (drop 1 s)) (suc (length gs)) 0
 
 -- byte i of the text is there and in the range
-unfoldable pub byteFits : Bytes → List ℕ → ℕ → Bool
+unfoldable pub byteFits : Range → List ℕ → ℕ → Bool
 byteFits g s i = ltb i (length s) && inside g (getD s i 0)
 
 -- a sequence as one number: 8 times its code point, and its length; 0 where there is none
@@ -58,13 +75,6 @@ abbrev pub lengthOf : Step → ℕ
 lengthOf (Scalar x n) = n
 lengthOf (IllFormed n) = 0
 lengthOf End = 0
-
--- the bounds of the second byte after a first byte of E0 to F4
-abbrev pub lowSecond : ℕ → ℕ
-lowSecond b = cond (eqb b 0xE0) 0xA0 (cond (eqb b 0xF0) 0x90 0x80)
-
-abbrev pub highSecond : ℕ → ℕ
-highSecond b = cond (eqb b 0xED) 0x9F (cond (eqb b 0xF4) 0x8F 0xBF)
 
 -- a byte that only follows others in a sequence, 80 to BF
 abbrev pub isTrail : ℕ → Bool

@@ -6,7 +6,7 @@ use mathlib.Core.List.{List, [], _∷_, _++_}
 use mathlib.Core.Logic.{_⊎_}
 use lib.Dec.{ltb}
 use lib.ListN.{length}
-use Rattle.utf8.specs.Table.{Row, table, inside, Sequence}
+use Rattle.utf8.specs.Table.{Row, rows, inside, Sequence}
 
 -- how many bytes at the head of a text are as the row says, one for each range, up to the first that is not
 abbrev pub begun : Row → List ℕ → ℕ
@@ -24,7 +24,7 @@ subpartIn (r ∷ rs) s = larger (begun r s) (subpartIn rs s)
 
 -- the length of the maximal subpart at the head of bytes
 unfoldable pub subpartOf : List ℕ → ℕ
-subpartOf s = subpartIn table s
+subpartOf s = subpartIn rows s
 
 -- an initial subsequence of a well-formed sequence: others can follow the bytes q so that all together fill a row of the table
 pub record Initial (q : List ℕ) : Type 0 where

@@ -7,7 +7,8 @@ use Rattle.utf8.specs.declared.Step.{Step}
 use Rattle.utf8.specs.declared.Step.the-variants.{Scalar, IllFormed, End}
 use Rattle.utf8.specs.declared.Text.{Text}
 use Rattle.utf8.specs.declared.Text.the-variants as text
-use Rattle.utf8.specs.Table.{Sequence, codePoint}
+use Rattle.utf8.specs.Table.{Sequence}
+use Rattle.utf8.specs.Encoding.{codePoint}
 use Rattle.utf8.specs.Subpart.{subpartOf, MaximalSubpart}
 use Rattle.utf8.specs.Head.{stepOf, NoSequence}
 

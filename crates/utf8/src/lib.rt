@@ -2,20 +2,26 @@
 ghost use mathlib.Core.Path.{_≡_};
 ghost use mathlib.Core.Bool.{not};
 ghost use Prim.Native.Nat.{_+_, _*_, _≤_, _<_};
-ghost use lib.ListN.{length, getD, drop};
+ghost use lib.ListN.{length, drop};
 ghost use Rattle.utf8.specs.Scalar.{isScalar};
-ghost use Rattle.utf8.specs.Table.{_to_, later, codePoint};
+ghost use Rattle.utf8.specs.Table.{_to_};
+ghost use Rattle.utf8.specs.Encoding.{codePoint};
 ghost use Rattle.utf8.specs.Subpart.{subpartOf};
 ghost use Rattle.utf8.specs.Head.{stepOf, IllHead};
-ghost use Rattle.utf8.specs.Lead.{leadOf, byteFits, packed, lengthOf, knownLength, lowSecond, highSecond};
+ghost use Rattle.utf8.specs.Lead.{leadWith, leadAfter, leadOfRow, leadOf, wholeLength, byteFits, packed, lengthOf, knownLength};
 ghost use Rattle.utf8.specs.Text.{textOf};
 ghost use mathlib.Core.List.{[], _∷_};
 
-// What a first byte decides: the length of the sequence (0: it begins none), and the bounds of the second byte.
-pub struct Lead {
-    pub len: u8,
-    pub low: u8,
-    pub high: u8,
+// What a first byte decides: the length of the sequence (0: it begins none), and the range of the second, third and fourth byte. Where the
+// sequence has no such byte the range is 80 to BF, and nothing looks at it.
+struct Lead {
+    len: u8,
+    low2: u8,
+    high2: u8,
+    low3: u8,
+    high3: u8,
+    low4: u8,
+    high4: u8,
 }
 
 // What stands at the head of a slice.
@@ -47,56 +53,68 @@ pub fn is_scalar(x: u32) -> bool
     x <= 0x10FFFF
 }
 
-// The row of Table 3-7 that a first byte is in.
+// The fields in the order of the table.
+fn make_lead(len: u8, low2: u8, high2: u8, low3: u8, high3: u8, low4: u8, high4: u8) -> Lead
+    ensures { λ r. ⌜ r ≡ leadWith len (low2 to high2) (low3 to high3) (low4 to high4) ⌝ }
+{
+    Lead {
+        len,
+        low2,
+        high2,
+        low3,
+        high3,
+        low4,
+        high4,
+    }
+}
+
+// A first byte that begins no sequence, and those of sequences of one, two, three and four bytes, with the lowest and highest of each byte
+// after it.
+fn no_bytes() -> Lead
+    ensures { λ r. ⌜ r ≡ leadOfRow [] ⌝ }
+{
+    make_lead(0, 0x80, 0xBF, 0x80, 0xBF, 0x80, 0xBF)
+}
+
+fn one_byte() -> Lead
+    ensures { λ r. ⌜ r ≡ leadAfter [] ⌝ }
+{
+    make_lead(1, 0x80, 0xBF, 0x80, 0xBF, 0x80, 0xBF)
+}
+
+fn two_bytes(low2: u8, high2: u8) -> Lead
+    ensures { λ r. ⌜ r ≡ leadAfter (low2 to high2 ∷ []) ⌝ }
+{
+    make_lead(2, low2, high2, 0x80, 0xBF, 0x80, 0xBF)
+}
+
+fn three_bytes(low2: u8, high2: u8, low3: u8, high3: u8) -> Lead
+    ensures { λ r. ⌜ r ≡ leadAfter (low2 to high2 ∷ low3 to high3 ∷ []) ⌝ }
+{
+    make_lead(3, low2, high2, low3, high3, 0x80, 0xBF)
+}
+
+fn four_bytes(low2: u8, high2: u8, low3: u8, high3: u8, low4: u8, high4: u8) -> Lead
+    ensures { λ r. ⌜ r ≡ leadAfter (low2 to high2 ∷ low3 to high3 ∷ low4 to high4 ∷ []) ⌝ }
+{
+    make_lead(4, low2, high2, low3, high3, low4, high4)
+}
+
+// Table 3-7, row by row: the first byte, and the lowest and highest of the second, third and fourth.
 fn read_lead(b: u8) -> Lead
     ensures { λ r. ⌜ r ≡ leadOf b ⌝ }
 {
     match b {
-        0x00..=0x7F => Lead {
-            len: 1,
-            low: 0,
-            high: 0,
-        },
-        0xC2..=0xDF => Lead {
-            len: 2,
-            low: 0x80,
-            high: 0xBF,
-        },
-        0xE0 => Lead {
-            len: 3,
-            low: 0xA0,
-            high: 0xBF,
-        },
-        0xE1..=0xEC | 0xEE..=0xEF => Lead {
-            len: 3,
-            low: 0x80,
-            high: 0xBF,
-        },
-        0xED => Lead {
-            len: 3,
-            low: 0x80,
-            high: 0x9F,
-        },
-        0xF0 => Lead {
-            len: 4,
-            low: 0x90,
-            high: 0xBF,
-        },
-        0xF1..=0xF3 => Lead {
-            len: 4,
-            low: 0x80,
-            high: 0xBF,
-        },
-        0xF4 => Lead {
-            len: 4,
-            low: 0x80,
-            high: 0x8F,
-        },
-        _ => Lead {
-            len: 0,
-            low: 0,
-            high: 0,
-        },
+        0x00..=0x7F => one_byte(),
+        0xC2..=0xDF => two_bytes(0x80, 0xBF),
+        0xE0 => three_bytes(0xA0, 0xBF, 0x80, 0xBF),
+        0xE1..=0xEC => three_bytes(0x80, 0xBF, 0x80, 0xBF),
+        0xED => three_bytes(0x80, 0x9F, 0x80, 0xBF),
+        0xEE..=0xEF => three_bytes(0x80, 0xBF, 0x80, 0xBF),
+        0xF0 => four_bytes(0x90, 0xBF, 0x80, 0xBF, 0x80, 0xBF),
+        0xF1..=0xF3 => four_bytes(0x80, 0xBF, 0x80, 0xBF, 0x80, 0xBF),
+        0xF4 => four_bytes(0x80, 0x8F, 0x80, 0xBF, 0x80, 0xBF),
+        _ => no_bytes(),
     }
 }
 
@@ -156,21 +174,21 @@ fn pack(s: &[u8]) -> usize
     if len == 1 {
         return pack1(a);
     }
-    if misses(s, 1, lead.low, lead.high) {
+    if misses(s, 1, lead.low2, lead.high2) {
         return 0;
     }
     let b = s[1];
     if len == 2 {
         return pack2(a, b);
     }
-    if misses(s, 2, 0x80, 0xBF) {
+    if misses(s, 2, lead.low3, lead.high3) {
         return 0;
     }
     let c = s[2];
     if len == 3 {
         return pack3(a, b, c);
     }
-    if misses(s, 3, 0x80, 0xBF) {
+    if misses(s, 3, lead.low4, lead.high4) {
         return 0;
     }
     pack4(a, b, c, s[3])
@@ -184,96 +202,72 @@ pub fn decode_packed(s: &[u8], at: usize) -> usize
     pack(&s[at..])
 }
 
-// Whether byte `i` of `s` is missing or none of 80 to BF.
-fn lacks_trail(s: &[u8], i: usize) -> bool
-    ensures { λ r. ⌜ r ≡ not (byteFits later (now (s .entry)) i) ⌝ }
+// The length of a sequence of two, three and four bytes at the head of `s`, with these ranges of the bytes after the first; 0 where one is
+// missing or out of its range. The number of bytes is tested first, for speed.
+fn measure_two(s: &[u8], low2: u8, high2: u8) -> usize
+    ensures { λ r. ⌜ r ≡ wholeLength (low2 to high2 ∷ []) (now (s .entry)) ⌝ }
 {
-    misses(s, i, 0x80, 0xBF)
-}
-
-// The bounds of the second byte after a first byte of E0 to F4.
-fn low_second(b: u8) -> u8
-    ensures { λ r. ⌜ r ≡ lowSecond b ⌝ }
-{
-    if b == 0xE0 {
-        return 0xA0;
-    }
-    if b == 0xF0 {
-        return 0x90;
-    }
-    0x80
-}
-
-fn high_second(b: u8) -> u8
-    ensures { λ r. ⌜ r ≡ highSecond b ⌝ }
-{
-    if b == 0xED {
-        return 0x9F;
-    }
-    if b == 0xF4 {
-        return 0x8F;
-    }
-    0xBF
-}
-
-// The length of the sequence at the head of `s`, whose first byte is below E0; 0 where none begins.
-fn measure_short(s: &[u8], b: u8) -> usize
-    requires { ⌜ (0 < length (now s)) × (b ≡ getD (now s) 0 0) ⌝ }
-    requires { ⌜ b < 0xE0 ⌝ }
-    ensures { λ r. ⌜ r ≡ lengthOf (stepOf (now (s .entry))) ⌝ }
-{
-    if b < 0x80 {
-        return 1;
-    }
-    if b < 0xC2 {
-        return 0;
-    }
-    if lacks_trail(s, 1) {
+    if misses(s, 1, low2, high2) {
         return 0;
     }
     2
 }
 
-// The length of the sequence at the head of `s`, whose first byte is one of E0 to EF; 0 where none begins.
-fn measure_three(s: &[u8], b: u8) -> usize
-    requires { ⌜ (0 < length (now s)) × (b ≡ getD (now s) 0 0) ⌝ }
-    requires { ⌜ (0xE0 ≤ b) × (b < 0xF0) ⌝ }
-    ensures { λ r. ⌜ r ≡ lengthOf (stepOf (now (s .entry))) ⌝ }
+fn measure_three(s: &[u8], low2: u8, high2: u8, low3: u8, high3: u8) -> usize
+    ensures { λ r. ⌜ r ≡ wholeLength (low2 to high2 ∷ low3 to high3 ∷ []) (now (s .entry)) ⌝ }
 {
-    if misses(s, 1, low_second(b), high_second(b)) {
+    if s.len() < 3 {
         return 0;
     }
-    if lacks_trail(s, 2) {
+    if misses(s, 1, low2, high2) {
+        return 0;
+    }
+    if misses(s, 2, low3, high3) {
         return 0;
     }
     3
 }
 
-// The length of the sequence at the head of `s`, which isn't empty; 0 where none begins. Tests by order, for speed.
+fn measure_four(s: &[u8], low2: u8, high2: u8, low3: u8, high3: u8, low4: u8, high4: u8) -> usize
+    ensures { λ r. ⌜ r ≡ wholeLength (low2 to high2 ∷ low3 to high3 ∷ low4 to high4 ∷ []) (now (s .entry)) ⌝ }
+{
+    if s.len() < 4 {
+        return 0;
+    }
+    if misses(s, 1, low2, high2) {
+        return 0;
+    }
+    if misses(s, 2, low3, high3) {
+        return 0;
+    }
+    if misses(s, 3, low4, high4) {
+        return 0;
+    }
+    4
+}
+
+// The length of the sequence at the head of `s`, which isn't empty; 0 where none begins. An arm for each length, for speed.
 fn measure_head(s: &[u8]) -> usize
     requires { ⌜ 0 < length (now s) ⌝ }
     ensures { λ r. ⌜ r ≡ lengthOf (stepOf (now (s .entry))) ⌝ }
 {
-    let b = s[0];
-    if b < 0xE0 {
-        return measure_short(s, b);
+    let lead = read_lead(s[0]);
+    let len = lead.len;
+    match len {
+        0 => 0,
+        1 => 1,
+        2 => measure_two(s, lead.low2, lead.high2),
+        3 => measure_three(s, lead.low2, lead.high2, lead.low3, lead.high3),
+        _ => measure_four(
+            s,
+            lead.low2,
+            lead.high2,
+            lead.low3,
+            lead.high3,
+            lead.low4,
+            lead.high4,
+        ),
     }
-    if b < 0xF0 {
-        return measure_three(s, b);
-    }
-    if 0xF4 < b {
-        return 0;
-    }
-    if misses(s, 1, low_second(b), high_second(b)) {
-        return 0;
-    }
-    if lacks_trail(s, 2) {
-        return 0;
-    }
-    if lacks_trail(s, 3) {
-        return 0;
-    }
-    4
 }
 
 // The length of the sequence at a place of `s` before its end; 0 where none begins.
@@ -309,10 +303,10 @@ fn measure_subpart(s: &[u8]) -> usize
     if lead.len == 0 {
         return 1; // no row has the first byte
     }
-    if misses(s, 1, lead.low, lead.high) {
+    if misses(s, 1, lead.low2, lead.high2) {
         return 1;
     }
-    if misses(s, 2, 0x80, 0xBF) {
+    if misses(s, 2, lead.low3, lead.high3) {
         return 2; // the third doesn't fit
     }
     3

@@ -122,8 +122,20 @@ fn short_texts_by_the_reader() {
 fn every_two_bytes() {
     let [bytes, _] = images();
     let image = Image::check(&bytes).unwrap();
-    let tails: [&[u8]; 8] =
-        [&[], &[0x80], &[0x80, 0x80], &[0xBF, 0xBF], &[0x41], &[0x80, 0x41], &[0xC2], &[0xFF]];
+    let tails: [&[u8]; 12] = [
+        &[],
+        &[0x80],
+        &[0x80, 0x80],
+        &[0xBF, 0xBF],
+        &[0x41],
+        &[0x80, 0x41],
+        &[0xC2],
+        &[0xFF],
+        &[0x7F],
+        &[0xC0],
+        &[0x80, 0x7F],
+        &[0x80, 0xC0],
+    ];
     for front in 0..=0xFFFFu16 {
         for tail in tails {
             let text = [&front.to_be_bytes()[..], tail].concat();

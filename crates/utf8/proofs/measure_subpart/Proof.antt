@@ -9,7 +9,7 @@ use native.Mathlib.Decide.{decLt}
 use borrow.Author.Needs.{needs}
 use borrow.Author.Tests.{not-true, not-false}
 use Rattle.utf8.specs.declared.Lead.{Lead}
-use Rattle.utf8.specs.Table.{Row, _to_, later}
+use Rattle.utf8.specs.Table.{Row, _to_}
 use Rattle.utf8.specs.Subpart.{subpartOf}
 use Rattle.utf8.specs.Head.{IllHead}
 use Rattle.utf8.specs.Lead.{trailOf, byteFits}
@@ -20,7 +20,7 @@ use Rattle.utf8.proofs.measure_subpart.Tie as tie
 
 -- the row goes on after bytes that fit, since no sequence ends there
 goes-on :
-    {s : List ℕ} {l : Lead} {p : Row} {n : ℕ} → IllHead s → Begun s l p n → trailOf (suc n) (l .low) (l .high) ≡ p ++ [] → suc n ≤ l .len
+    {s : List ℕ} {l : Lead} {p : Row} {n : ℕ} → IllHead s → Begun s l p n → trailOf (suc n) l ≡ p ++ [] → suc n ≤ l .len
     → suc (suc n) ≤ l .len
 goes-on {l = l} {n = n} i d r h = elim (decLt (suc n) (l .len)) [ yes k ↦ k | no k ↦ absurd (not-whole d i (omega arith) r) ]
 
@@ -28,31 +28,31 @@ module _ {s : List ℕ} {l : Lead} (first : Begun s l [] 0) (i : IllHead s) (n :
   two : 2 ≤ l .len
   two = goes-on i first refl (omega arith)
 
-  one-byte : byteFits (l .low to l .high) s 1 ≡ false → 1 ≡ subpartOf s
+  one-byte : byteFits (l .low2 to l .high2) s 1 ≡ false → 1 ≡ subpartOf s
   one-byte f = subpart-out first _ _ (suc (l .len - 2)) (omega (arith, two)) refl f
 
-  module _ (f : byteFits (l .low to l .high) s 1 ≡ true) where
-    second : Begun s l (l .low to l .high ∷ []) 1
+  module _ (f : byteFits (l .low2 to l .high2) s 1 ≡ true) where
+    second : Begun s l (l .low2 to l .high2 ∷ []) 1
     second = next-in first _ f
 
     three : 3 ≤ l .len
     three = goes-on i second refl two
 
-    two-bytes : byteFits later s 2 ≡ false → 2 ≡ subpartOf s
-    two-bytes g = subpart-out second later _ (suc (suc (l .len - 3))) (omega (arith, three)) refl g
+    two-bytes : byteFits (l .low3 to l .high3) s 2 ≡ false → 2 ≡ subpartOf s
+    two-bytes g = subpart-out second _ _ (suc (suc (l .len - 3))) (omega (arith, three)) refl g
 
-    three-bytes : byteFits later s 2 ≡ true → 3 ≡ subpartOf s
-    three-bytes g = go (byteFits later s 3) refl
+    three-bytes : byteFits (l .low3 to l .high3) s 2 ≡ true → 3 ≡ subpartOf s
+    three-bytes g = go (byteFits (l .low4 to l .high4) s 3) refl
       where
-        third : Begun s l (l .low to l .high ∷ later ∷ []) 2
-        third = next-in second later g
+        third : Begun s l (l .low2 to l .high2 ∷ l .low3 to l .high3 ∷ []) 2
+        third = next-in second _ g
 
         four : l .len ≡ 4
         four = omega (arith, goes-on i third refl three, lead-le _ (first .lead))
 
-        go : (t : Bool) → byteFits later s 3 ≡ t → 3 ≡ subpartOf s
-        go true h = absurd (not-whole (next-in third later h) i four refl)
-        go false h = subpart-out third later [] 3 four refl h
+        go : (t : Bool) → byteFits (l .low4 to l .high4) s 3 ≡ t → 3 ≡ subpartOf s
+        go true h = absurd (not-whole (next-in third _ h) i four refl)
+        go false h = subpart-out third _ [] 3 four refl h
 
 -- the head is ill-formed, and what its first byte decides
 ill : (c : tie.After-read-lead) → IllHead (c .before .before .before .args .s .now)
@@ -76,7 +76,7 @@ returns-2 c =
 fits-2 :
     (c : tie.Else2)
     → let l = c .before .before .before .before .read-lead .result in
-    byteFits (l .low to l .high) (c .before .before .before .before .before .before .before .args .s .now) 1 ≡ true
+    byteFits (l .low2 to l .high2) (c .before .before .before .before .before .before .before .args .s .now) 1 ≡ true
 fits-2 c = not-false _ (sym (c .before .misses .ensures) ∙ c .if2 .left)
 
 returns-3 : tie.Need-returns-3

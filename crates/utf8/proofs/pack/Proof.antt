@@ -7,7 +7,7 @@ use native.Mathlib.Omega.{arith}
 use borrow.Author.Needs.{needs}
 use borrow.Author.Tests.{not-true, not-false}
 use Rattle.utf8.specs.declared.Lead.{Lead}
-use Rattle.utf8.specs.Table.{Bytes, _to_, later}
+use Rattle.utf8.specs.Table.{Range, _to_}
 use Rattle.utf8.specs.Lead.{packed}
 use Rattle.utf8.proofs.LeadLaws.{Begun, begins, no-lead, next-in, next-out, whole, at-end, lead-le}
 use Rattle.utf8.proofs.pack.Statement.{statement}
@@ -19,8 +19,14 @@ text c = c .before .before .before .before .args .s .now
 abbrev lead : tie.After-read-lead → Lead
 lead c = c .read-lead .result
 
-abbrev range : tie.After-read-lead → Bytes
-range c = lead c .low to lead c .high
+abbrev range-2 : tie.After-read-lead → Range
+range-2 c = lead c .low2 to lead c .high2
+
+abbrev range-3 : tie.After-read-lead → Range
+range-3 c = lead c .low3 to lead c .high3
+
+abbrev range-4 : tie.After-read-lead → Range
+range-4 c = lead c .low4 to lead c .high4
 
 -- what is known after each byte; `led` is the place where the lead was read
 first : (c : tie.After-read-lead) → Begun (text c) (lead c) [] 0
@@ -29,20 +35,20 @@ first c = begins _ _ (c .read-lead .ensures) (omega arith)
 abbrev led-2 : tie.Else4 → tie.After-read-lead
 led-2 c = c .before .before .before .before
 
-second : (c : tie.Else4) → Begun (text (led-2 c)) (lead (led-2 c)) (range (led-2 c) ∷ []) 1
+second : (c : tie.Else4) → Begun (text (led-2 c)) (lead (led-2 c)) (range-2 (led-2 c) ∷ []) 1
 second c = next-in (first (led-2 c)) _ (not-false _ (sym (c .before .misses .ensures) ∙ c .if4 .left))
 
 abbrev led-3 : tie.Else6 → tie.After-read-lead
 led-3 c = led-2 (c .before .before .before .before)
 
-third : (c : tie.Else6) → Begun (text (led-3 c)) (lead (led-3 c)) (range (led-3 c) ∷ later ∷ []) 2
-third c = next-in (second (c .before .before .before .before)) later (not-false _ (sym (c .before .misses2 .ensures) ∙ c .if6 .left))
+third : (c : tie.Else6) → Begun (text (led-3 c)) (lead (led-3 c)) (range-2 (led-3 c) ∷ range-3 (led-3 c) ∷ []) 2
+third c = next-in (second (c .before .before .before .before)) _ (not-false _ (sym (c .before .misses2 .ensures) ∙ c .if6 .left))
 
 abbrev led-4 : tie.Else8 → tie.After-read-lead
 led-4 c = led-3 (c .before .before .before .before)
 
-fourth : (c : tie.Else8) → Begun (text (led-4 c)) (lead (led-4 c)) (range (led-4 c) ∷ later ∷ later ∷ []) 3
-fourth c = next-in (third (c .before .before .before .before)) later (not-false _ (sym (c .before .misses3 .ensures) ∙ c .if8 .left))
+fourth : (c : tie.Else8) → Begun (text (led-4 c)) (lead (led-4 c)) (range-2 (led-4 c) ∷ range-3 (led-4 c) ∷ range-4 (led-4 c) ∷ []) 3
+fourth c = next-in (third (c .before .before .before .before)) _ (not-false _ (sym (c .before .misses3 .ensures) ∙ c .if8 .left))
 
 -- no length but four is left after the tests
 four : (n : ℕ) → n ≤ 4 → n ≢ 0 → n ≢ 1 → n ≢ 2 → n ≢ 3 → n ≡ 4
@@ -95,7 +101,7 @@ misses-requires-2 c κs = search needs
 returns-6 : tie.Need-returns-6
 returns-6 c =
     let d = c .before .before .before .before in
-    next-out (second d) later _ (suc (suc (lead (led-2 d) .len - 3))) (omega arith) refl (not-true _ (sym (c .before .misses2 .ensures) ∙ c .if6 .taken))
+    next-out (second d) _ _ (suc (suc (lead (led-2 d) .len - 3))) (omega arith) refl (not-true _ (sym (c .before .misses2 .ensures) ∙ c .if6 .taken))
 
 shared-slice-read-c : tie.Need-shared-slice-read-c
 shared-slice-read-c c = let d = third (c .before) in omega (arith, d .within)
@@ -112,7 +118,7 @@ misses-requires-3 c κs = search needs
 returns-8 : tie.Need-returns-8
 returns-8 c =
     let d = c .before .before in
-    next-out (third (d .before .before)) later _ 3 (longest d) refl (not-true _ (sym (c .before .misses3 .ensures) ∙ c .if8 .taken))
+    next-out (third (d .before .before)) _ _ 3 (longest d) refl (not-true _ (sym (c .before .misses3 .ensures) ∙ c .if8 .taken))
 
 shared-slice-read-pack4 : tie.Need-shared-slice-read-pack4
 shared-slice-read-pack4 c = let d = fourth (c .before) in omega (arith, d .within)
