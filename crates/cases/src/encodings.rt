@@ -1,7 +1,7 @@
 // Encodes every scalar value by Table 3-6 and decodes it again.
 ghost use Prim.Native.Nat.{_≤_};
 ghost use mathlib.Core.Path.{_≡_};
-ghost use lib.ListN.{take};
+ghost use lib.ListN.{length, take};
 ghost use Rattle.utf8.specs.Encoding.{encoding};
 use utf8::Step;
 
@@ -11,9 +11,10 @@ struct Encoded {
     len: usize,
 }
 
+// Table 3-6, row by row.
 fn encode(x: u32) -> Encoded
     requires { ⌜ x ≤ 0x10FFFF ⌝ }
-    ensures { λ r. ⌜ take (r .len) (r .bytes) ≡ encoding x ⌝ }
+    ensures { λ r. ⌜ (r .len ≡ length (encoding x)) × (take (r .len) (r .bytes) ≡ encoding x) ⌝ }
 {
     let last = (0x80 + x % 0x40) as u8;
     let middle = (0x80 + x / 0x40 % 0x40) as u8;

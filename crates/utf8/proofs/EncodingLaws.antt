@@ -34,11 +34,11 @@ module _ (x : ℕ) where
   encoding-4 l = rw (le-ltb x 0x80 (omega arith), le-ltb x 0x800 (omega arith), le-ltb x 0x10000 l)
 
 -- the standard's example (D92): 004D, 0430, 4E8C and 10302 hex
-pub example :
+pub encoding-example :
     (encoding 0x4D ≡ 0x4D ∷ []) × (encoding 0x430 ≡ 0xD0 ∷ 0xB0 ∷ []) × (encoding 0x4E8C ≡ 0xE4 ∷ 0xBA ∷ 0x8C ∷ [])
     × (encoding 0x10302 ≡ 0xF0 ∷ 0x90 ∷ 0x8C ∷ 0x82 ∷ [])
 unfolding encoding
-example = (refl, refl, refl, refl)
+encoding-example = (refl, refl, refl, refl)
 
 abbrev within : Range → ℕ → Type 0
 within g b = (g .low ≤ b) × (b ≤ g .high)
@@ -127,11 +127,11 @@ module _ (P : List ℕ → Type 0) where
   row-4 g h i j k (b ∷ c ∷ d ∷ e ∷ []) f = k b c d e (f .0, f .1) (f .2 .0, f .2 .1) (f .2 .2 .0, f .2 .2 .1) (f .2 .2 .2 .0, f .2 .2 .2 .1)
   row-4 g h i j k (b ∷ c ∷ d ∷ e ∷ x ∷ q) f = absurd (f .2 .2 .2 .2)
 
--- bytes that are the encoding of what they stand for, where that is in a range
+-- bytes that are the encoding of what they stand for, and that is in a range
 in-range : {g : Range} {q : List ℕ} → q ≡ encoding (codePoint q) → within g (codePoint q) → EncodesIn g q
 in-range {g} {q} e h = record { code = codePoint q; from = h .0; upto = h .1; bytes = e }
 
--- bytes of each length that fill a row, by the ranges that the row has for them
+-- the encoding of a number fills a row of its length, if its first bytes are in the ranges of the row
 fills-2 : (g : Range) (x : ℕ) → 0x80 ≤ x → x < 0x800 → within g (0xC0 + x / 0x40) → Fills (g ∷ 0x80 to 0xBF ∷ []) (encoding x)
 fills-2 g x l h u = rw (encoding-2 x l h) (u .0, u .1, (omega arith, omega arith, tt))
 
@@ -145,46 +145,46 @@ fills-4 :
     → Fills (g ∷ h ∷ 0x80 to 0xBF ∷ 0x80 to 0xBF ∷ []) (encoding x)
 fills-4 g h x l u v = rw (encoding-4 x l) (u .0, u .1, (v .0, v .1, (omega arith, omega arith, (omega arith, omega arith, tt))))
 
-low : (x : ℕ) → x < 0xD800 → isScalar x ≡ true
-low x h = means-scalar x true (below-surrogates h)
+scalar-below : (x : ℕ) → x < 0xD800 → isScalar x ≡ true
+scalar-below x h = means-scalar x true (below-surrogates h)
 
-high : (x : ℕ) → 0xE000 ≤ x → x ≤ 0x10FFFF → isScalar x ≡ true
-high x h l = means-scalar x true (above-surrogates h l)
+scalar-above : (x : ℕ) → 0xE000 ≤ x → x ≤ 0x10FFFF → isScalar x ≡ true
+scalar-above x h l = means-scalar x true (above-surrogates h l)
 
 -- what holds of each row: what fills it is the encoding of one of its code points, their encodings fill it, and they are scalar values
-record RowRight (r : TableRow) : Type 0 where
+record RowHolds (r : TableRow) : Type 0 where
   reads : (q : List ℕ) → Fills (r .bytes) q → EncodesIn (r .codes) q
   writes : (x : ℕ) → within (r .codes) x → Fills (r .bytes) (encoding x)
   scalars : (x : ℕ) → within (r .codes) x → isScalar x ≡ true
 
 -- .. of row number k
-abbrev RightAt : List TableRow → ℕ → Type 0
-RightAt [] k = Unit {0}
-RightAt (r ∷ rs) zero = RowRight r
-RightAt (r ∷ rs) (suc k) = RightAt rs k
+abbrev HoldsAt : List TableRow → ℕ → Type 0
+HoldsAt [] k = Unit {0}
+HoldsAt (r ∷ rs) zero = RowHolds r
+HoldsAt (r ∷ rs) (suc k) = HoldsAt rs k
 
-right-1 : RightAt table 0
-right-1 = record {
+holds-1 : HoldsAt table 0
+holds-1 = record {
   reads = row-1 (EncodesIn _) _ (λ b u. in-range (sym (encoding-1 b (omega arith))) u);
   writes = λ x u. rw (encoding-1 x (omega arith)) (u .0, u .1, tt);
-  scalars = λ x u. low x (omega arith);
+  scalars = λ x u. scalar-below x (omega arith);
 }
 
-right-2 : RightAt table 1
-right-2 = record {
+holds-2 : HoldsAt table 1
+holds-2 = record {
   reads = row-2 (EncodesIn _) _ _ (λ b c u v. in-range (encodes-2 b c u v) (omega arith, omega arith));
   writes = λ x u. fills-2 _ x (omega arith) (omega arith) (omega arith, omega arith);
-  scalars = λ x u. low x (omega arith);
+  scalars = λ x u. scalar-below x (omega arith);
 }
 
 -- rows of three bytes, and of four
 module _ (c g h : Range) where
-  right-3 :
+  holds-3 :
       0x800 ≤ c .low → c .high < 0x10000 → 0xE0 ≤ g .low → g .high ≤ 0xEF → 0x80 ≤ h .low → h .high ≤ 0xBF
       → ((b d e : ℕ) → within g b → within h d → within (0x80 to 0xBF) e → within c (codePoint (b ∷ d ∷ e ∷ [])))
       → ((x : ℕ) → within c x → within g (0xE0 + x / 0x1000) × within h (0x80 + x / 0x40 % 0x40) × (isScalar x ≡ true))
-      → RowRight (row c (g ∷ h ∷ 0x80 to 0xBF ∷ []))
-  right-3 cl ch gl gh hl hh r w = record {
+      → RowHolds (row c (g ∷ h ∷ 0x80 to 0xBF ∷ []))
+  holds-3 cl ch gl gh hl hh r w = record {
     reads =
         row-3 (EncodesIn c) g h (0x80 to 0xBF)
         (λ b d e u v z. (let k = r b d e u v z in in-range (encodes-3 b d e (omega arith, omega arith) (omega arith, omega arith) z (omega arith)) k));
@@ -192,12 +192,12 @@ module _ (c g h : Range) where
     scalars = λ x u. w x u .2;
   }
 
-  right-4 :
+  holds-4 :
       0x10000 ≤ c .low → 0xF0 ≤ g .low → g .high ≤ 0xF7 → 0x80 ≤ h .low → h .high ≤ 0xBF
       → ((b d e f : ℕ) → within g b → within h d → within (0x80 to 0xBF) e → within (0x80 to 0xBF) f → within c (codePoint (b ∷ d ∷ e ∷ f ∷ [])))
       → ((x : ℕ) → within c x → within g (0xF0 + x / 0x40000) × within h (0x80 + x / 0x1000 % 0x40) × (isScalar x ≡ true))
-      → RowRight (row c (g ∷ h ∷ 0x80 to 0xBF ∷ 0x80 to 0xBF ∷ []))
-  right-4 cl gl gh hl hh r w = record {
+      → RowHolds (row c (g ∷ h ∷ 0x80 to 0xBF ∷ 0x80 to 0xBF ∷ []))
+  holds-4 cl gl gh hl hh r w = record {
     reads =
         row-4 (EncodesIn c) g h (0x80 to 0xBF) (0x80 to 0xBF)
         (λ b d e f u v y z. (let k = r b d e f u v y z in in-range (encodes-4 b d e f (omega arith, omega arith) (omega arith, omega arith) y z (omega arith)) k));
@@ -206,36 +206,36 @@ module _ (c g h : Range) where
   }
 
 -- one line for each row of Table 3-7
-table-right : (k : ℕ) → RightAt table k
-table-right zero = right-1
-table-right (suc zero) = right-2
-table-right (suc (suc zero)) = right-3 _ _ _ (omega arith) (omega arith) (omega arith) (omega arith) (omega arith) (omega arith) (λ b d e u v w. (omega arith, omega arith)) (λ x u. ((omega arith, omega arith), (omega arith, omega arith), low x (omega arith)))
-table-right (suc (suc (suc zero))) = right-3 _ _ _ (omega arith) (omega arith) (omega arith) (omega arith) (omega arith) (omega arith) (λ b d e u v w. (omega arith, omega arith)) (λ x u. ((omega arith, omega arith), (omega arith, omega arith), low x (omega arith)))
-table-right (suc (suc (suc (suc zero)))) = right-3 _ _ _ (omega arith) (omega arith) (omega arith) (omega arith) (omega arith) (omega arith) (λ b d e u v w. (omega arith, omega arith)) (λ x u. ((omega arith, omega arith), (omega arith, omega arith), low x (omega arith)))
-table-right (suc (suc (suc (suc (suc zero))))) = right-3 _ _ _ (omega arith) (omega arith) (omega arith) (omega arith) (omega arith) (omega arith) (λ b d e u v w. (omega arith, omega arith)) (λ x u. ((omega arith, omega arith), (omega arith, omega arith), high x (omega arith) (omega arith)))
-table-right (suc (suc (suc (suc (suc (suc zero)))))) = right-4 _ _ _ (omega arith) (omega arith) (omega arith) (omega arith) (omega arith) (λ b d e f u v w z. (omega arith, omega arith)) (λ x u. ((omega arith, omega arith), (omega arith, omega arith), high x (omega arith) (omega arith)))
-table-right (suc (suc (suc (suc (suc (suc (suc zero))))))) = right-4 _ _ _ (omega arith) (omega arith) (omega arith) (omega arith) (omega arith) (λ b d e f u v w z. (omega arith, omega arith)) (λ x u. ((omega arith, omega arith), (omega arith, omega arith), high x (omega arith) (omega arith)))
-table-right (suc (suc (suc (suc (suc (suc (suc (suc zero)))))))) = right-4 _ _ _ (omega arith) (omega arith) (omega arith) (omega arith) (omega arith) (λ b d e f u v w z. (omega arith, omega arith)) (λ x u. ((omega arith, omega arith), (omega arith, omega arith), high x (omega arith) (omega arith)))
-table-right (suc (suc (suc (suc (suc (suc (suc (suc (suc k))))))))) = tt
+table-holds : (k : ℕ) → HoldsAt table k
+table-holds zero = holds-1
+table-holds (suc zero) = holds-2
+table-holds (suc (suc zero)) = holds-3 _ _ _ (omega arith) (omega arith) (omega arith) (omega arith) (omega arith) (omega arith) (λ b d e u v w. (omega arith, omega arith)) (λ x u. ((omega arith, omega arith), (omega arith, omega arith), scalar-below x (omega arith)))
+table-holds (suc (suc (suc zero))) = holds-3 _ _ _ (omega arith) (omega arith) (omega arith) (omega arith) (omega arith) (omega arith) (λ b d e u v w. (omega arith, omega arith)) (λ x u. ((omega arith, omega arith), (omega arith, omega arith), scalar-below x (omega arith)))
+table-holds (suc (suc (suc (suc zero)))) = holds-3 _ _ _ (omega arith) (omega arith) (omega arith) (omega arith) (omega arith) (omega arith) (λ b d e u v w. (omega arith, omega arith)) (λ x u. ((omega arith, omega arith), (omega arith, omega arith), scalar-below x (omega arith)))
+table-holds (suc (suc (suc (suc (suc zero))))) = holds-3 _ _ _ (omega arith) (omega arith) (omega arith) (omega arith) (omega arith) (omega arith) (λ b d e u v w. (omega arith, omega arith)) (λ x u. ((omega arith, omega arith), (omega arith, omega arith), scalar-above x (omega arith) (omega arith)))
+table-holds (suc (suc (suc (suc (suc (suc zero)))))) = holds-4 _ _ _ (omega arith) (omega arith) (omega arith) (omega arith) (omega arith) (λ b d e f u v w z. (omega arith, omega arith)) (λ x u. ((omega arith, omega arith), (omega arith, omega arith), scalar-above x (omega arith) (omega arith)))
+table-holds (suc (suc (suc (suc (suc (suc (suc zero))))))) = holds-4 _ _ _ (omega arith) (omega arith) (omega arith) (omega arith) (omega arith) (λ b d e f u v w z. (omega arith, omega arith)) (λ x u. ((omega arith, omega arith), (omega arith, omega arith), scalar-above x (omega arith) (omega arith)))
+table-holds (suc (suc (suc (suc (suc (suc (suc (suc zero)))))))) = holds-4 _ _ _ (omega arith) (omega arith) (omega arith) (omega arith) (omega arith) (λ b d e f u v w z. (omega arith, omega arith)) (λ x u. ((omega arith, omega arith), (omega arith, omega arith), scalar-above x (omega arith) (omega arith)))
+table-holds (suc (suc (suc (suc (suc (suc (suc (suc (suc k))))))))) = tt
 
-reads-at : (rs : List TableRow) (k : ℕ) (q : List ℕ) → RightAt rs k → FillsAt (bytesOf rs) k q → EncodesAt rs k q
+reads-at : (rs : List TableRow) (k : ℕ) (q : List ℕ) → HoldsAt rs k → FillsAt (bytesOf rs) k q → EncodesAt rs k q
 reads-at (r ∷ rs) zero q a f = a .reads q f
 reads-at (r ∷ rs) (suc k) q a f = reads-at rs k q a f
 
-writes-at : (rs : List TableRow) (k : ℕ) (q : List ℕ) → RightAt rs k → EncodesAt rs k q → FillsAt (bytesOf rs) k q
+writes-at : (rs : List TableRow) (k : ℕ) (q : List ℕ) → HoldsAt rs k → EncodesAt rs k q → FillsAt (bytesOf rs) k q
 writes-at (r ∷ rs) zero q a e = subst (Fills (r .bytes)) (sym (e .bytes)) (a .writes (e .code) (e .from, e .upto))
 writes-at (r ∷ rs) (suc k) q a e = writes-at rs k q a e
 
-scalar-at : (rs : List TableRow) (k : ℕ) (q : List ℕ) → RightAt rs k → EncodesAt rs k q → Encodes q
+scalar-at : (rs : List TableRow) (k : ℕ) (q : List ℕ) → HoldsAt rs k → EncodesAt rs k q → Encodes q
 scalar-at (r ∷ rs) zero q a e = record { code = e .code; scalar = a .scalars (e .code) (e .from, e .upto); bytes = e .bytes }
 scalar-at (r ∷ rs) (suc k) q a e = scalar-at rs k q a e
 
 -- the sequences that fill a row of Table 3-7 are exactly the encodings of its code points
 pub row-encodes : (k : ℕ) (q : List ℕ) → FillsAt rows k q → EncodesAt table k q
-row-encodes k q f = reads-at table k q (table-right k) f
+row-encodes k q f = reads-at table k q (table-holds k) f
 
 pub encodes-row : (k : ℕ) (q : List ℕ) → EncodesAt table k q → FillsAt rows k q
-encodes-row k q e = writes-at table k q (table-right k) e
+encodes-row k q e = writes-at table k q (table-holds k) e
 
 -- a sequence fills a row
 record InRow (rs : List Row) (q : List ℕ) : Type 0 where
@@ -279,7 +279,7 @@ one-row q f =
 
 -- the sequences that fill a row are exactly the encodings of the scalar values
 pub sequence-encodes : (q : List ℕ) → Sequence q → Encodes q
-sequence-encodes q f = let r = one-row q f in scalar-at table (r .number) q (table-right (r .number)) (row-encodes (r .number) q (r .fills))
+sequence-encodes q f = let r = one-row q f in scalar-at table (r .number) q (table-holds (r .number)) (row-encodes (r .number) q (r .fills))
 
 -- every scalar value is in a row
 module _ (x : ℕ) where

@@ -4,11 +4,12 @@ use Prim.Native.Nat.{ℕ, zero, suc, _+_, _*_, _≤_, _<_}
 use mathlib.Core.Path.{_≡_, refl, sym, ap, _∙_}
 use mathlib.Core.Bool.{Bool, true, false, _&&_, _||_, cond}
 use mathlib.Core.List.{List, [], _∷_, _++_, append-assoc}
+use mathlib.Core.Logic.{_⊎_, inl, inr}
 use native.Mathlib.Omega.{arith}
 use lib.Dec.{leb, ltb}
 use lib.ListN.{length, take, drop, getD}
 use borrow.Author.Tests.{leb-true, ltb-true}
-use Rattle.lists.proofs.BoolLaws.{and-left, and-right, impossible}
+use Rattle.lists.proofs.BoolLaws.{and-left, and-right, or-cases, impossible}
 use Rattle.utf8.specs.declared.Lead.{Lead}
 use Rattle.utf8.specs.declared.Step.the-variants.{Scalar, IllFormed, End}
 use Rattle.utf8.specs.Table.{Range, Row, rows, inside, fits}
@@ -69,13 +70,12 @@ clear-in : (rs : List Row) (i j b : ℕ) → clear i j rs ≡ true → i ≤ b �
 clear-in [] i j b t h k = refl
 clear-in ([] ∷ rs) i j b t h k = clear-in rs i j b t h k
 clear-in ((g ∷ gs) ∷ rs) i j b t h k =
-    go (ltb j (g .low)) refl (clear-in rs i j b (and-right (ltb j (g .low) || ltb (g .high) i) (clear i j rs) t) h k)
+    go (or-cases (ltb j (g .low)) (ltb (g .high) i) (and-left (ltb j (g .low) || ltb (g .high) i) (clear i j rs) t))
+    (clear-in rs i j b (and-right (ltb j (g .low) || ltb (g .high) i) (clear i j rs) t) h k)
   where
-    go : (u : Bool) → ltb j (g .low) ≡ u → leadOfRow [] ≡ leadIn rs b → leadOfRow [] ≡ leadIn ((g ∷ gs) ∷ rs) b
-    go true e f = rw (inside-below g b (omega (arith, ltb-true j (g .low) e))) f
-    go false e f =
-        let l : ltb (g .high) i ≡ true = rw e at (and-left (ltb j (g .low) || ltb (g .high) i) (clear i j rs) t) in
-        rw (inside-above g b (omega (arith, ltb-true (g .high) i l))) f
+    go : (ltb j (g .low) ≡ true) ⊎ (ltb (g .high) i ≡ true) → leadOfRow [] ≡ leadIn rs b → leadOfRow [] ≡ leadIn ((g ∷ gs) ∷ rs) b
+    go (inl e) f = rw (inside-below g b (omega (arith, ltb-true j (g .low) e))) f
+    go (inr e) f = rw (inside-above g b (omega (arith, ltb-true (g .high) i e))) f
 
 pub no-lead-at : (i j b : ℕ) → clear i j rows ≡ true → i ≤ b → b ≤ j → leadOfRow [] ≡ leadOf b
 unfolding leadOf

@@ -48,6 +48,7 @@ bytesOf (r ∷ rs) = r .bytes ∷ bytesOf rs
 abbrev pub rows : List Row
 rows = bytesOf table
 
+-- a number is in a range
 abbrev pub inside : Range → ℕ → Bool
 inside g b = leb (g .low) b && leb b (g .high)
 

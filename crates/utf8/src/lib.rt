@@ -68,9 +68,9 @@ fn make_lead(len: u8, low2: u8, high2: u8, low3: u8, high3: u8, low4: u8, high4:
     }
 }
 
-// A first byte that begins no sequence, and those of sequences of one, two, three and four bytes, with the lowest and highest of each byte
-// after it.
-fn no_bytes() -> Lead
+// What is decided by a first byte that no row has, and by those of rows of one, two, three and four bytes, with the lowest and highest of each
+// byte after it.
+fn no_row() -> Lead
     ensures { λ r. ⌜ r ≡ leadOfRow [] ⌝ }
 {
     make_lead(0, 0x80, 0xBF, 0x80, 0xBF, 0x80, 0xBF)
@@ -114,7 +114,7 @@ fn read_lead(b: u8) -> Lead
         0xF0 => four_bytes(0x90, 0xBF, 0x80, 0xBF, 0x80, 0xBF),
         0xF1..=0xF3 => four_bytes(0x80, 0xBF, 0x80, 0xBF, 0x80, 0xBF),
         0xF4 => four_bytes(0x80, 0x8F, 0x80, 0xBF, 0x80, 0xBF),
-        _ => no_bytes(),
+        _ => no_row(),
     }
 }
 
@@ -203,7 +203,7 @@ pub fn decode_packed(s: &[u8], at: usize) -> usize
 }
 
 // The length of a sequence of two, three and four bytes at the head of `s`, with these ranges of the bytes after the first; 0 where one is
-// missing or out of its range. The number of bytes is tested first, for speed.
+// missing or out of its range. With three and four the number of bytes is tested first, for speed.
 fn measure_two(s: &[u8], low2: u8, high2: u8) -> usize
     ensures { λ r. ⌜ r ≡ wholeLength (low2 to high2 ∷ []) (now (s .entry)) ⌝ }
 {

@@ -37,7 +37,7 @@ returns-9 c = c .four-bytes3 .ensures ∙ lead-at 7 _ _ (omega arith, omega arit
 
 returns-10 : tie.Need-returns-10
 returns-10 c =
-    c .no-bytes .ensures
+    c .no-row .ensures
     ∙ elim (c .before .if2 .came) [
       | inl t ↦ no-lead-at 0x80 0xC1 _ refl (omega (arith, c .before .before .if1 .left)) (omega (arith, t .taken))
       | inr e ↦ no-lead-at 0xF5 0xFF _ refl (omega (arith, e .4 .left)) (omega arith)
