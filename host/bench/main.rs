@@ -6,8 +6,8 @@ mod icu;
 use icu::Icu;
 use luffinarc::calls::{self, Answer};
 use luffinarc::{
-    write_image, Image, Profile, Role, CHANGED_ENTRY_WORDS, MAX_CHANGED_ENTRIES, MAX_RUNS,
-    RECORD_WORDS, RUN_WORDS,
+    write_image, Image, Profile, Role, CHANGED_ENTRY_WORDS, MAX_CHANGED_ENTRIES, MAX_ENTRIES,
+    MAX_RUNS, RECORD_WORDS, RUN_WORDS,
 };
 use luffinarc_bench::changes::Changes;
 use luffinarc_bench::prose;
@@ -204,6 +204,34 @@ fn with_subjects(image: &Image, samples: &[Sample], print: fn(&[Subject])) {
     print(&both.map(|(sample, bytes)| Subject::new(sample, bytes)).collect::<Vec<_>>());
 }
 
+/// Counting and listing under an image, against the same under another, which gives the same tokens.
+fn under(image: &Image, other: &Image, text: &[u8]) -> [f64; 2] {
+    let mut words = vec![0; RECORD_WORDS * text.len()];
+    let mut others = words.clone();
+    assert_eq!(image.list(text, &mut words), other.list(text, &mut others));
+    assert!(words == others, "the lists differ");
+    let count = race(1, &mut || _ = black_box(image.count(black_box(text))), &mut || {
+        _ = black_box(other.count(black_box(text)))
+    });
+    let list = race(1, &mut || _ = black_box(image.list(black_box(text), &mut words)), &mut || {
+        _ = black_box(other.list(black_box(text), &mut others))
+    });
+    [count, list]
+}
+
+/// Prints what the large profile costs, which changes no token of these texts.
+fn large_profile(plain: &Image) {
+    let profile = Profile::new(&texts::LETTERS);
+    let bytes = write_image(plain.version(), &plain.ranges(), &profile).unwrap();
+    let image = Image::check(&bytes).unwrap();
+    println!("\nUnder a profile of {MAX_ENTRIES} entries, which changes no token / without it:");
+    let texts = [("512 entries", texts::of_entries()), ("mixed scripts", texts::mixed())];
+    for (name, text) in texts.into_iter().chain([("ASCII", texts::ascii())]) {
+        let [count, list] = under(&image, plain, text.as_bytes());
+        println!("  {name}: count {count:.2}, list {list:.2}");
+    }
+}
+
 /// Looking up these numbers, against the rival.
 fn lookup(image: &Image, tables: &Tables, points: &[u32]) -> f64 {
     race(
@@ -272,6 +300,9 @@ fn main() {
         "Dotted names are read under a profile that makes the hyphen and the full stop medial."
     );
     println!(
+        "The text of 512 entries: each letter of its names is an entry, Start by class and role."
+    );
+    println!(
         "List: {RECORD_WORDS} words lent for every byte of the text, to both, and written before the clock."
     );
     println!(
@@ -279,6 +310,7 @@ fn main() {
     );
     println!("They take turns, {ROUNDS} rounds or more in {SECONDS} s for each figure.\n");
     with_subjects(&image, &texts::all(), tokens);
+    large_profile(&image);
     with_subjects(&image, &prose::all(), hashtags);
     let tables = Tables::new(&ranges, &[]);
     let rising: Vec<u32> = (0..=0x10FFFF).filter(|&p| char::from_u32(p).is_some()).collect();

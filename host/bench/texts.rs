@@ -1,7 +1,7 @@
 //! Texts of 1 MiB to time readers on. They are the same in every run and hold
 //! only identifiers, Pattern_Syntax signs and white space of Unicode 16.0.
 
-use luffinarc::{Role, MAX_TEXT};
+use luffinarc::{Role, MAX_ENTRIES, MAX_TEXT};
 use luffinarc_reader::cases::Rng;
 
 /// The length of every text, the longest that is read.
@@ -9,6 +9,19 @@ pub const LENGTH: usize = MAX_TEXT;
 
 /// The medials of dotted names: the hyphen and the full stop.
 pub const MEDIALS: [(u32, Role); 2] = [(0x2D, Role::Medial), (0x2E, Role::Medial)];
+
+/// As many entries as a profile may have: ideographs all over their block, as Start, which they are by their class too.
+pub static LETTERS: [(u32, Role); MAX_ENTRIES] = letters();
+
+const fn letters() -> [(u32, Role); MAX_ENTRIES] {
+    let mut letters = [(0x4E00, Role::Start); MAX_ENTRIES];
+    let mut i = 0;
+    while i < MAX_ENTRIES {
+        letters[i].0 += 41 * i as u32;
+        i += 1;
+    }
+    letters
+}
 
 pub(crate) const KEYS: [&str; 24] = [
     "panel",
@@ -204,6 +217,19 @@ pub fn short_lines() -> String {
     })
 }
 
+/// A settings script with names of three to eight letters, each an entry of the large profile.
+pub fn of_entries() -> String {
+    let mut rng = Rng::new();
+    let name = |rng: &mut Rng| -> String {
+        let letters = 3 + rng.below(6);
+        (0..letters).map(|_| char::from_u32(rng.pick(&LETTERS).0).unwrap()).collect()
+    };
+    filled(|| {
+        let (a, b, c) = (name(&mut rng), name(&mut rng), name(&mut rng));
+        format!("{a} = {b}, {c};\n")
+    })
+}
+
 /// A text, what it is called, and the profile under which it is read.
 pub struct Sample {
     pub name: &'static str,
@@ -212,7 +238,7 @@ pub struct Sample {
 }
 
 /// All texts.
-pub fn all() -> [Sample; 6] {
+pub fn all() -> [Sample; 7] {
     let sample = |name, text, profile| Sample { name, text, profile };
     [
         sample("ASCII", ascii(), &[]),
@@ -221,5 +247,6 @@ pub fn all() -> [Sample; 6] {
         sample("mixed scripts", mixed(), &[]),
         sample("dotted names", dotted(), &MEDIALS),
         sample("short lines", short_lines(), &[]),
+        sample("512 entries", of_entries(), &LETTERS),
     ]
 }

@@ -105,6 +105,37 @@ static void images(const uint8_t *m, size_t m_len, const uint8_t *m2, size_t m2_
     CHECK(luffinarc_pair(m2, m2_len, m, m_len, answer) == LUFFINARC_CHANGE && gave(0xE9, 0, 0));
 }
 
+/* As many profile entries as an image may have: written, read, looked up, compared, in a text; and one more. */
+static void entries(void)
+{
+    enum { MOST = LUFFINARC_MAX_ENTRIES, BYTES = 32 + 8 * MOST };
+    enum { CHANGED = LUFFINARC_MAX_CHANGED_ENTRIES, ROOM = CHANGED * LUFFINARC_CHANGED_ENTRY_WORDS };
+    static uint8_t image[BYTES], other[BYTES];
+    static uint32_t list[ROOM];
+    static const uint8_t text[] = "\xD7\xBF" "%";
+    for (uint32_t i = 0; i < MOST; i++) {
+        points[i] = 0x400 + i, roles[i] = LUFFINARC_ROLE_START;
+    }
+    CHECK(luffinarc_write(1, NULL, 0, points, roles, MOST + 1, image, BYTES, answer) == LUFFINARC_HEADER && gave(0, 0, 0));
+    CHECK(luffinarc_write(1, NULL, 0, points, roles, MOST, image, 4127, answer) == LUFFINARC_BUFFER && gave(4128, 0, 0));
+    CHECK(luffinarc_write(1, NULL, 0, points, roles, MOST, image, BYTES, answer) == 0 && gave(BYTES, 0, 0));
+    for (uint32_t i = 0; i < MOST; i++) {
+        points[i] += MOST;
+    }
+    CHECK(luffinarc_write(1, NULL, 0, points, roles, MOST, other, BYTES, answer) == 0 && gave(BYTES, 0, 0));
+    CHECK(luffinarc_check(image, BYTES, points, roles, answer) == 0 && gave(1, 0, MOST));
+    CHECK(points[MOST - 1] == 0x400 + MOST - 1 && roles[MOST - 1] == LUFFINARC_ROLE_START);
+    CHECK(luffinarc_lookup(image, BYTES, 0x400 + MOST - 1, answer) == 0 && gave(LUFFINARC_CLASS_START, 0, 0));
+    CHECK(luffinarc_lookup(image, BYTES, 0x400 + MOST, answer) == 0 && gave(LUFFINARC_CLASS_UNASSIGNED, 0, 0));
+    CHECK(luffinarc_count(image, BYTES, text, 2, answer) == 0 && gave(1, 0, 0));
+    CHECK(luffinarc_count(image, BYTES, text, 3, answer) == LUFFINARC_CHARACTERS && gave(2, 0, 0));
+    CHECK(luffinarc_pair(image, BYTES, other, BYTES, answer) == LUFFINARC_PROFILES && gave(0, 0, 0));
+    CHECK(luffinarc_changes(image, BYTES, other, BYTES, NULL, 0, list, ROOM - 1, answer) == LUFFINARC_ROOM);
+    CHECK(gave(CHANGED, 0, 0) && list[0] == 0);
+    CHECK(luffinarc_changes(image, BYTES, other, BYTES, NULL, 0, list, ROOM, answer) == 0 && gave(0, CHANGED, 0));
+    CHECK(list[0] == 0x400 && list[ROOM - 3] == 0x400 + CHANGED - 1);
+}
+
 /* What changed between M and M2, between M2 and M, and between M and an image of two entries. */
 static void changes(const uint8_t *m, size_t m_len, const uint8_t *m2, size_t m2_len)
 {
@@ -287,6 +318,7 @@ int main(int argc, char **argv)
     CHECK(m_len == 100 && m2_len == 112);
     empty_slices(m, m_len);
     images(m, m_len, m2, m2_len);
+    entries();
     changes(m, m_len, m2, m2_len);
     tokens(m, m_len);
     hashtags(m, m_len);

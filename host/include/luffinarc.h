@@ -13,7 +13,8 @@
  * not, and the rest is 0 (luffinarc_pair and luffinarc_changes alone tell at answer[2] which image they refuse).
  *
  * Arguments. A slice is a pointer and its number of elements. A pointer may be null where its number is 0, and only
- * there. `points` and `roles` are arrays of LUFFINARC_MAX_ENTRIES numbers, never null, and so is `answer`, of 4. Words
+ * there. `points` and `roles` are arrays of LUFFINARC_MAX_ENTRIES numbers, never null, and so is `answer`, of 4. All
+ * LUFFINARC_MAX_ENTRIES may be written: compile callers anew where this header has another limit (64 before 512). Words
  * and answers are aligned as their type asks; images and texts may stand anywhere. What a function writes must not
  * overlap with anything else that it is given.
  *
@@ -31,13 +32,13 @@ extern "C" {
 
 /* Limits: ranges and profile entries of an image, its bytes, and the bytes of a text. */
 #define LUFFINARC_MAX_RANGES 4096
-#define LUFFINARC_MAX_ENTRIES 64
-#define LUFFINARC_MAX_IMAGE 49696
+#define LUFFINARC_MAX_ENTRIES 512
+#define LUFFINARC_MAX_IMAGE 53280
 #define LUFFINARC_MAX_TEXT 1048576
 
 /* The most runs and changed entries that luffinarc_changes lists. */
 #define LUFFINARC_MAX_RUNS 16383
-#define LUFFINARC_MAX_CHANGED_ENTRIES 128
+#define LUFFINARC_MAX_CHANGED_ENTRIES 1024
 
 /* The words of a range (first, last, class), and of a record in a list of tokens or of hashtags (kind, start byte, end
  * byte, line). LUFFINARC_TOKEN_WORDS is an older name of the latter. */

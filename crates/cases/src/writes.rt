@@ -149,7 +149,7 @@ fn show_read() {
 fn show_refused() {
     let p = profile_of_m();
     show(b"14 words", &[0u32; 14], p);
-    show(b"65 entries", &words_of_m(), with_used(65));
+    show(b"513 entries", &words_of_m(), with_used(513));
     show(b"4097 ranges", &[0u32; 12291], p);
     show(b"class 6", &changed(5, 6), p);
     show(b"a range inside the one before", &changed(3, 0x20), p);
@@ -161,8 +161,8 @@ fn show_refused() {
 // Which refusal comes first, and what is not looked at.
 fn show_order() {
     let bad = with_entry(0x2E, 6, 0);
-    show_short(b"14 words and 65 entries", &[0u32; 14], with_used(65));
-    show_short(b"65 entries and class 6", &changed(5, 6), with_used(65));
+    show_short(b"14 words and 513 entries", &[0u32; 14], with_used(513));
+    show_short(b"513 entries and class 6", &changed(5, 6), with_used(513));
     show_short(b"class 6 and role 6", &changed(5, 6), bad);
     try_write(b"role 6 and no bytes", &words_of_m(), bad, &mut [], &[]);
     let past = with_entry(0x2E, 3, 9);

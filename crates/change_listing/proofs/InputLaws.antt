@@ -7,16 +7,16 @@ use native.Mathlib.Omega.{arith}
 use lib.ListN.{length, take, drop}
 use Rattle.lists.proofs.LaidLaws.{rest}
 use Rattle.refusal.specs.declared.Refusal.the-variants as refusal
-use Rattle.image.specs.Check.{refusalOf}
+use Rattle.image.specs.Check.{refusalWithin}
 use Rattle.image.specs.Means.{bad-length}
 use Rattle.image.proofs.ImageLaws.{means-refusal}
 use Rattle.changes.specs.Answer.{answerOf, runsAfter, entriesAfter}
 use Rattle.changes.specs.declared.Changes.{Changes}
 use Rattle.changes.specs.declared.Changes.the-variants as changes
 use Rattle.changes.proofs.RoomLaws.{older-answer}
-use Rattle.input.specs.Input.{imageIn, restIn, ComesWhole, EndMeans}
+use Rattle.input.specs.Input.{imageIn, restIn, WholeWithin, ComesWhole, EndMeans}
 use Rattle.input.proofs.InputLaws.{end-whole, end-cut, end-is}
-use Rattle.change_listing.specs.Input.{olderIn, newerIn, answerFrom}
+use Rattle.change_listing.specs.Input.{olderWithin, olderIn, newerIn, answerFrom}
 
 -- an answer and what the two buffers then hold, which were `out` and `more`
 abbrev pub Gives : List ℕ → List ℕ → List ℕ → List ℕ → Changes → List ℕ → List ℕ → Type 0
@@ -32,8 +32,8 @@ from-end input out more {end} m g = rw (← end-is input m, ← rest input end) 
 
 module _ (input : List ℕ) where
   -- where the older image doesn't come whole, it is refused with 1
-  pub cut-refused : (ComesWhole input → ⊥) → refusalOf (olderIn input) ≡ some refusal.Length
-  cut-refused f = rw (end-cut input f) (means-refusal _ (some refusal.Length) (bad-length (λ z. omega (arith, z .long))))
+  pub cut-refused : {limit : ℕ} → (WholeWithin limit input → ⊥) → refusalWithin limit (olderWithin limit input) ≡ some refusal.Length
+  cut-refused {limit} f = rw (end-cut input f) (means-refusal {limit = limit} _ (some refusal.Length) (bad-length (λ z. omega (arith, z .long))))
 
   pub answer-cut : (words more : ℕ) → (ComesWhole input → ⊥) → answerFrom input words more ≡ changes.Older refusal.Length
   answer-cut words more f = older-answer _ _ words more (cut-refused f)

@@ -8,22 +8,16 @@ use native.Mathlib.Decide.{decLe}
 use lib.ListN.{length, take, length-drop}
 use lib.Seq.{take-take, take-all, length-take-le}
 use Rattle.refusal.specs.declared.Refusal.{Refusal}
-use Rattle.refusal.specs.declared.Refusal.the-variants as refusal
 use Rattle.image.specs.Limits.{maxImage}
 use Rattle.image.specs.Header.{totalOf}
 use Rattle.image.specs.Check.{refusalOf}
-use Rattle.image.specs.Means.{bad-length}
-use Rattle.image.proofs.ImageLaws.{means-refusal}
+use Rattle.image.proofs.LimitLaws.{long-refused}
 use Rattle.changes.specs.Answer.{answerOf}
 use Rattle.changes.proofs.RoomLaws.{older-answer, newer-answer}
 use Rattle.input.specs.Input.{imageIn, restIn, ComesWhole}
 use Rattle.input.proofs.InputLaws.{dec-whole, total, front-whole, whole-front}
-use Rattle.change_listing.specs.Input.{answerFrom, maxRunWords, maxEntryWords, wholeAnswer}
+use Rattle.change_listing.specs.Input.{answerFrom, maxRunWords, maxEntryWords, wholeWithin, wholeAnswer}
 use Rattle.change_listing.proofs.InputLaws.{answer-cut, answer-whole}
-
--- an image longer than the largest is refused with 1
-long-refused : (s : List ℕ) → maxImage < length s → refusalOf s ≡ some refusal.Length
-long-refused s h = means-refusal s (some refusal.Length) (bad-length (λ z. omega (arith, z .short)))
 
 module _ (words more : ℕ) where
   -- the answer is the same for any two newer images that are longer than the largest
@@ -34,7 +28,7 @@ module _ (words more : ℕ) where
       go : (o : Option Refusal) → refusalOf older ≡ o → answerOf older s words more ≡ answerOf older t words more
       go (some r) e = older-answer older s words more e ∙ sym (older-answer older t words more e)
       go none e =
-          newer-answer older s words more e (long-refused s h) ∙ sym (newer-answer older t words more e (long-refused t k))
+          newer-answer older s words more e (long-refused _ s h) ∙ sym (newer-answer older t words more e (long-refused _ t k))
 
   module _ (input : List ℕ) (k : ℕ) (enough : 2 * maxImage < k) where
     module _ (long : k ≤ length input) where
@@ -67,5 +61,5 @@ module _ (words more : ℕ) where
 pub whole-answer :
     (input : List ℕ) (limit : ℕ) → 2 * maxImage < limit → (read : List ℕ) → take limit input ≡ read
     → (words more : ℕ) → words ≡ maxRunWords → more ≡ maxEntryWords → answerFrom read words more ≡ wholeAnswer input
-unfolding wholeAnswer
+unfolding wholeWithin
 whole-answer input limit h read e words more v w = rw (← e, v, w) (looks-no-further maxRunWords maxEntryWords input limit h)

@@ -1,44 +1,66 @@
 -- Two images one right after the other, as the change lister reads them (docs/RULES.md, "What changed").
+-- `limit` is how many profile entries an image may have; the names without `Within` have the limit in force.
 use Prim.Native.Nat.{ℕ, _+_, _-_, _*_}
 use mathlib.Core.List.{List}
 use lib.ListN.{take, drop}
 use Rattle.refusal.specs.declared.Refusal.the-variants as refusal
 use Rattle.image.specs.Limits.{maxRanges, maxEntries}
 use Rattle.lookup.specs.declared.Section.the-variants.{Ranges, Entries}
-use Rattle.changes.specs.Answer.{changeSize, answerOf, runsAfter, entriesAfter}
+use Rattle.changes.specs.Answer.{changeSize, answerWithin, runsWithin, entriesWithin}
 use Rattle.changes.specs.Means.{ChangesMeans}
 use Rattle.changes.specs.declared.Changes.{Changes}
 use Rattle.changes.specs.declared.Changes.the-variants as changes
-use Rattle.input.specs.Input.{imageIn, restIn, endIn, ComesWhole}
+use Rattle.input.specs.Input.{imageIn, restIn, endWithin, ComesWhole}
 
 -- the older image ends where its total length says, and is empty where it doesn't come whole; the newer is all that follows
+abbrev pub olderWithin : ℕ → List ℕ → List ℕ
+olderWithin limit input = take (endWithin limit input) input
+
+abbrev pub newerWithin : ℕ → List ℕ → List ℕ
+newerWithin limit input = drop (endWithin limit input) input
+
 abbrev pub olderIn : List ℕ → List ℕ
-olderIn input = take (endIn input) input
+olderIn input = olderWithin maxEntries input
 
 abbrev pub newerIn : List ℕ → List ℕ
-newerIn input = drop (endIn input) input
+newerIn input = newerWithin maxEntries input
 
 -- the most words that the runs and the entries can need
 abbrev pub maxRunWords : ℕ
 maxRunWords = changeSize Ranges * (2 * (maxRanges + maxRanges) - 1)
 
+abbrev pub entryWordsWithin : ℕ → ℕ
+entryWordsWithin limit = changeSize Entries * (limit + limit)
+
 abbrev pub maxEntryWords : ℕ
-maxEntryWords = changeSize Entries * (maxEntries + maxEntries)
+maxEntryWords = entryWordsWithin maxEntries
 
 -- the answer, with buffers of so many words
+abbrev pub fromWithin : ℕ → List ℕ → ℕ → ℕ → Changes
+fromWithin limit input words more = answerWithin limit (olderWithin limit input) (newerWithin limit input) words more
+
 abbrev pub answerFrom : List ℕ → ℕ → ℕ → Changes
-answerFrom input words more = answerOf (olderIn input) (newerIn input) words more
+answerFrom input words more = fromWithin maxEntries input words more
 
 -- the two buffers after the call, which were `out` and `more`
+abbrev pub runsFromWithin : ℕ → List ℕ → List ℕ → List ℕ → List ℕ
+runsFromWithin limit input out more = runsWithin limit (olderWithin limit input) (newerWithin limit input) out more
+
 abbrev pub runsFrom : List ℕ → List ℕ → List ℕ → List ℕ
-runsFrom input out more = runsAfter (olderIn input) (newerIn input) out more
+runsFrom input out more = runsFromWithin maxEntries input out more
+
+abbrev pub entriesFromWithin : ℕ → List ℕ → List ℕ → List ℕ → List ℕ
+entriesFromWithin limit input out more = entriesWithin limit (olderWithin limit input) (newerWithin limit input) out more
 
 abbrev pub entriesFrom : List ℕ → List ℕ → List ℕ → List ℕ
-entriesFrom input out more = entriesAfter (olderIn input) (newerIn input) out more
+entriesFrom input out more = entriesFromWithin maxEntries input out more
 
 -- the program's answer: there is room for the most changes
-unfoldable pub wholeAnswer : List ℕ → Changes
-wholeAnswer input = answerFrom input maxRunWords maxEntryWords
+unfoldable pub wholeWithin : ℕ → List ℕ → Changes
+wholeWithin limit input = fromWithin limit input maxRunWords (entryWordsWithin limit)
+
+abbrev pub wholeAnswer : List ℕ → Changes
+wholeAnswer input = wholeWithin maxEntries input
 
 -- what each answer means, and what the two buffers then hold, which were `out` and `more`: 1 of an older image that doesn't come whole,
 -- and the buffers as they were; or what the image at the front gives with the one after it

@@ -17,7 +17,7 @@ use Rattle.lookup.specs.declared.Section.the-variants.{Ranges, Entries}
 use Rattle.compare.specs.Judged.{judgedBy}
 use Rattle.changes.specs.Change.{Change}
 use Rattle.changes.specs.ChangeList.{runsOf, entriesOf}
-use Rattle.changes.specs.Answer.{changeSize, listWords, listedOf, changesBy, answerOf, bufferAfter, runsAfter, entriesAfter}
+use Rattle.changes.specs.Answer.{changeSize, listWords, listedOf, changesBy, answerWithin, answerOf, bufferAfter, runsWithin, runsAfter, entriesWithin, entriesAfter}
 use Rattle.changes.specs.Means.{BothLists, ChangesMeans, bad-older, bad-newer, few-runs, few-entries, both-listed}
 use Rattle.changes.specs.declared.Changes.{Changes}
 use Rattle.changes.specs.declared.Changes.the-variants as changes
@@ -62,7 +62,7 @@ module _ (older newer out more : List ℕ) where
   pub changes-mean :
       (c : Changes) (words others : List ℕ) → answer ≡ c → runsAfter older newer out more ≡ words → entriesAfter older newer out more ≡ others
       → ChangesMeans older newer out more c words others
-  unfolding answerOf runsAfter entriesAfter
+  unfolding answerWithin runsWithin entriesWithin
   changes-mean c words others e f g = rw (← e, ← f, ← g) (means-by _ _ refl refl)
 
   -- and back: where it is so, that is the answer, and the buffers hold this

@@ -6,3 +6,4 @@ pub mod ChangeListLaws
 pub mod ProfileLaws
 pub mod ChangesLaws
 pub mod AnswerLaws
+pub mod LimitLaws

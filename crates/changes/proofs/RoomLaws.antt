@@ -16,7 +16,7 @@ use Rattle.lookup.specs.declared.Section.the-variants.{Ranges, Entries}
 use Rattle.compare.specs.declared.Judged.{Judged}
 use Rattle.compare.specs.Judged.{judgedBy}
 use Rattle.changes.specs.ChangeList.{runsOf, entriesOf}
-use Rattle.changes.specs.Answer.{changeSize, listedOf, changesBy, bufferAfter, answerOf, runsAfter, entriesAfter}
+use Rattle.changes.specs.Answer.{changeSize, listedOf, changesBy, bufferAfter, answerWithin, answerOf, runsWithin, runsAfter, entriesWithin, entriesAfter}
 use Rattle.changes.specs.Walked.{neededOf}
 use Rattle.changes.specs.declared.Changes.{Changes}
 use Rattle.changes.specs.declared.Changes.the-variants as changes
@@ -79,25 +79,25 @@ module _ (older newer : List ℕ) (words more : ℕ) where
 
   -- the answer, by what the two images are refused with
   pub older-answer : {r : Refusal} → refusalOf older ≡ some r → answerOf older newer words more ≡ changes.Older r
-  unfolding answerOf
+  unfolding answerWithin
   older-answer e = simp e
 
   pub newer-answer : {r : Refusal} → refusalOf older ≡ none → refusalOf newer ≡ some r → answerOf older newer words more ≡ changes.Newer r
-  unfolding answerOf
+  unfolding answerWithin
   newer-answer e f = simp (e, f)
 
   pub accepted-answer : refusalOf older ≡ none → refusalOf newer ≡ none → answerOf older newer words more ≡ listedOf older newer words more
-  unfolding answerOf
+  unfolding answerWithin
   accepted-answer e f = simp (e, f)
 
 -- the buffers after the call, by its answer
 module _ (older newer out more : List ℕ) {c : Changes} (e : c ≡ answerOf older newer (length out) (length more)) where
   pub runs-by : {words : List ℕ} → words ≡ bufferAfter Ranges older newer c out → words ≡ runsAfter older newer out more
-  unfolding runsAfter
+  unfolding runsWithin
   runs-by f = f ∙ ap (λ (d : Changes). bufferAfter Ranges older newer d out) e
 
   pub entries-by : {words : List ℕ} → words ≡ bufferAfter Entries older newer c more → words ≡ entriesAfter older newer out more
-  unfolding entriesAfter
+  unfolding entriesWithin
   entries-by f = f ∙ ap (λ (d : Changes). bufferAfter Entries older newer d more) e
 
 -- the call's answer and buffers, where the two images are judged so
@@ -106,7 +106,7 @@ pub answered-by :
     → c ≡ changesBy j (listedOf older newer (length out) (length more)) → {words others : List ℕ} → words ≡ bufferAfter Ranges older newer c out
     → others ≡ bufferAfter Entries older newer c more
     → (c ≡ answerOf older newer (length out) (length more)) × ((words ≡ runsAfter older newer out more) × (others ≡ entriesAfter older newer out more))
-unfolding answerOf
+unfolding answerWithin
 answered-by older newer out more j c e f g h =
     let a : c ≡ answerOf older newer (length out) (length more) = f ∙ ap (λ (k : Judged). changesBy k (listedOf older newer (length out) (length more))) (sym e) in
     (a, (runs-by older newer out more a g, entries-by older newer out more a h))

@@ -1,4 +1,5 @@
 -- What the list of changes answers, and what the two lent buffers then hold (docs/RULES.md, "What changed"; refusals 1 to 4 and 8).
+-- `limit` is how many profile entries an image may have; the names without `Within` have the limit in force.
 use Prim.Native.Nat.{ℕ, _/_}
 use mathlib.Core.Bool.{cond}
 use mathlib.Core.List.{List, [], _∷_, _++_}
@@ -6,7 +7,8 @@ use lib.ListN.{length}
 use lib.Dec.{ltb}
 use Rattle.lists.specs.Laid.{laid}
 use Rattle.refusal.specs.declared.Refusal.the-variants as refusal
-use Rattle.image.specs.Check.{refusalOf}
+use Rattle.image.specs.Limits.{maxEntries}
+use Rattle.image.specs.Check.{refusalWithin}
 use Rattle.lookup.specs.declared.Section.{Section}
 use Rattle.lookup.specs.declared.Section.the-variants.{Ranges, Entries}
 use Rattle.compare.specs.declared.Judged.{Judged}
@@ -52,9 +54,12 @@ changesBy (judged.Newer r) c = changes.Newer r
 changesBy judged.Accepted c = c
 
 -- the answer, with buffers of so many words
-unfoldable pub answerOf : List ℕ → List ℕ → ℕ → ℕ → Changes
-answerOf older newer runWords entryWords =
-    changesBy (judgedBy (refusalOf older) (refusalOf newer)) (listedOf older newer runWords entryWords)
+unfoldable pub answerWithin : ℕ → List ℕ → List ℕ → ℕ → ℕ → Changes
+answerWithin limit older newer runWords entryWords =
+    changesBy (judgedBy (refusalWithin limit older) (refusalWithin limit newer)) (listedOf older newer runWords entryWords)
+
+abbrev pub answerOf : List ℕ → List ℕ → ℕ → ℕ → Changes
+answerOf older newer runWords entryWords = answerWithin maxEntries older newer runWords entryWords
 
 -- what a buffer then holds: the list at its front, and past it what was there; a refusal leaves it as it was
 abbrev pub wordsBy : Changes → List ℕ → List ℕ → List ℕ
@@ -68,8 +73,14 @@ abbrev pub bufferAfter : Section → List ℕ → List ℕ → Changes → List 
 bufferAfter section older newer answer out = wordsBy answer out (listWords section (changesOf section older newer))
 
 -- the two buffers after the call: that for the runs, which was `out`, and that for the entries, which was `more`
-unfoldable pub runsAfter : List ℕ → List ℕ → List ℕ → List ℕ → List ℕ
-runsAfter older newer out more = bufferAfter Ranges older newer (answerOf older newer (length out) (length more)) out
+unfoldable pub runsWithin : ℕ → List ℕ → List ℕ → List ℕ → List ℕ → List ℕ
+runsWithin limit older newer out more = bufferAfter Ranges older newer (answerWithin limit older newer (length out) (length more)) out
 
-unfoldable pub entriesAfter : List ℕ → List ℕ → List ℕ → List ℕ → List ℕ
-entriesAfter older newer out more = bufferAfter Entries older newer (answerOf older newer (length out) (length more)) more
+abbrev pub runsAfter : List ℕ → List ℕ → List ℕ → List ℕ → List ℕ
+runsAfter older newer out more = runsWithin maxEntries older newer out more
+
+unfoldable pub entriesWithin : ℕ → List ℕ → List ℕ → List ℕ → List ℕ → List ℕ
+entriesWithin limit older newer out more = bufferAfter Entries older newer (answerWithin limit older newer (length out) (length more)) more
+
+abbrev pub entriesAfter : List ℕ → List ℕ → List ℕ → List ℕ → List ℕ
+entriesAfter older newer out more = entriesWithin maxEntries older newer out more

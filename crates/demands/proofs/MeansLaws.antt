@@ -25,7 +25,7 @@ use Rattle.grammar.specs.Scan.{Tok}
 use Rattle.grammar.specs.Grammar.{Kind}
 use Rattle.grammar.specs.Second.{firstRefused}
 use Rattle.grammar.specs.Record.{roomOf, listedWords}
-use Rattle.grammar.specs.Reading.{maxText, meaningOf, readingOf, lengthRefusal, formRefusalBy, formRefusal, markRefusalBy, markRefusal, judged, outcomeOf, countOf, roomed, writtenOf, listOf, laidBy, listWords}
+use Rattle.grammar.specs.Reading.{maxText, meaningOf, readingOf, lengthRefusal, formRefusalBy, formRefusal, markRefusalBy, markRefusal, judged, outcomeWithin, outcomeOf, countWithin, countOf, roomed, writtenWithin, listWithin, listOf, laidBy, listWordsWithin, listWords}
 use Rattle.grammar.proofs.AnswerLaws.{counts-given, counts-refused, roomed-in, roomed-out, roomed-given}
 use Rattle.grammar.proofs.BesideLaws.{placeOf}
 use Rattle.demands.specs.Demand2.{Divided, Stopped, FirstMark, NoMark}
@@ -71,7 +71,7 @@ module _ (s text : List ℕ) where
   length-means a false e = form-means a (ltb-false _ _ e) (textOf text) (text-means text (textOf text) refl)
 
   own-means : OutcomeMeans (outcomeOf s text)
-  unfolding outcomeOf lengthRefusal
+  unfolding outcomeWithin lengthRefusal
   own-means = go (refusalOf s) refl
     where
       go : (o : Option Refusal) → refusalOf s ≡ o →
@@ -84,7 +84,7 @@ module _ (s text : List ℕ) where
 
   -- a text that is none of 1 to 6 is judged by its one division
   judged-by : {ts : List (Tok Character Kind)} {left : List Character} → Divided s text ts left → outcomeOf s text ≡ judged s ts left
-  unfolding outcomeOf lengthRefusal
+  unfolding outcomeWithin lengthRefusal
   judged-by d =
       let h = d .readable in
       let u = divided-unique (reading-divides h) d in
@@ -100,7 +100,7 @@ module _ (s text : List ℕ) where
       go (some before) = refl
 
   pub means-outcome : (o : Outcome (List (Tok Character Kind))) → OutcomeMeans o → outcomeOf s text ≡ o
-  unfolding outcomeOf lengthRefusal
+  unfolding outcomeWithin lengthRefusal
   means-outcome o (divides d n) = marked-by none d (marked-none _ (marks d) n)
   means-outcome o (refuses (of-image {r} m)) = rw (means-refusal s (some r) m)
   means-outcome o (refuses (too-long a l)) = rw (refused-none s a, lt-ltb maxText (length text) l)
@@ -110,7 +110,7 @@ module _ (s text : List ℕ) where
 
   -- counting
   pub count-means : (a : Outcome ℕ) → countOf s text ≡ a → CountMeans s text a
-  unfolding countOf
+  unfolding countWithin
   count-means a e = subst (CountMeans s text) e (go (outcomeOf s text) own-means)
     where
       go : (o : Outcome (List (Tok Character Kind))) → OutcomeMeans o → CountMeans s text (outcomeMap length o)
@@ -118,14 +118,14 @@ module _ (s text : List ℕ) where
       go o (refuses r) = count-refuses r
 
   pub means-count : (a : Outcome ℕ) → CountMeans s text a → countOf s text ≡ a
-  unfolding countOf
+  unfolding countWithin
   means-count a (counts d m n) = ap (outcomeMap length) (means-outcome _ (divides d m)) ∙ ap given n
   means-count a (count-refuses r) = ap (outcomeMap length) (means-outcome _ (refuses r))
 
   -- writing the list into a buffer of so many words
   module _ (words : ℕ) where
     pub list-means : (a : Outcome ℕ) → listOf s text words ≡ a → ListMeans s text words a
-    unfolding listOf writtenOf
+    unfolding listWithin writtenWithin
     list-means a e = subst (ListMeans s text words) e (go (outcomeOf s text) own-means)
       where
         by-room : {ts : List (Tok Character Kind)} → Divided s text ts [] → NoMark s text → (b : Bool) → ltb (roomOf words) (length ts) ≡ b →
@@ -138,7 +138,7 @@ module _ (s text : List ℕ) where
         go o (refuses r) = list-refuses r
 
     pub means-list : (a : Outcome ℕ) → ListMeans s text words a → listOf s text words ≡ a
-    unfolding listOf writtenOf
+    unfolding listWithin writtenWithin
     means-list a (lists {ts = ts} d m n h) =
         ap (λ o. outcomeMap length (roomed words o)) (means-outcome _ (divides d m)) ∙ ap (outcomeMap length) (roomed-in words ts (rw n h)) ∙ ap given n
     means-list a (no-room {ts = ts} d m n h) =
@@ -148,7 +148,7 @@ module _ (s text : List ℕ) where
   -- what the buffer then holds: the words of the tokens' list in its front, and past them what it held
   pub list-written : (out : List ℕ) (n : ℕ) → listOf s text (length out) ≡ given n →
       (ts : List (Tok Character Kind)) × Divided s text ts [] × (length ts ≡ n) × (listWords s text out ≡ laid out 0 (listedWords text ts))
-  unfolding listOf listWords writtenOf
+  unfolding listWithin listWordsWithin writtenWithin
   list-written out n e =
       let (ts, g, l) = counts-given (roomed (length out) (outcomeOf s text)) n e in
       go (outcome-means (given ts) (roomed-given (length out) (outcomeOf s text) ts g .0)) l (ap (laidBy (listedWords text) out) g)
@@ -159,5 +159,5 @@ module _ (s text : List ℕ) where
 
   -- "a refused call leaves every word that was lent as it was"
   pub list-kept : (out : List ℕ) (r : Refusal) → listOf s text (length out) ≡ refused r → listWords s text out ≡ out
-  unfolding listOf listWords writtenOf
+  unfolding listWithin listWordsWithin writtenWithin
   list-kept out r e = ap (laidBy (listedWords text) out) (counts-refused (roomed (length out) (outcomeOf s text)) r e)

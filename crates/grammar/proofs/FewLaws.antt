@@ -25,7 +25,7 @@ use Rattle.grammar.specs.Meaning.{Meaning}
 use Rattle.grammar.specs.Grammar.{Kind, identifier, syntax, whitespace, Token}
 use Rattle.grammar.specs.Second.{firstRefused}
 use Rattle.grammar.specs.Record.{roomOf}
-use Rattle.grammar.specs.Reading.{maxText, meaningOf, readingOf, tokensOf, lengthRefusal, formRefusalBy, markRefusalBy, markRefusal, judged, outcomeOf, roomed, writtenOf, listOf}
+use Rattle.grammar.specs.Reading.{maxText, meaningOf, readingOf, tokensOf, lengthRefusal, formRefusalBy, markRefusalBy, markRefusal, judged, outcomeWithin, outcomeOf, roomed, writtenWithin, writtenOf, listWithin, listOf}
 use Rattle.grammar.proofs.GrammarLaws.{tokens-divide}
 use Rattle.grammar.proofs.AnswerLaws.{counts-given, roomed-in, roomed-given}
 
@@ -74,7 +74,7 @@ module _ (s text : List ℕ) where
   by-image (some r) o e h = λ n f. let k = ap numberOf f in omega (arith, refusal-number s r e)
 
   outcome-read : Read (outcomeOf s text)
-  unfolding outcomeOf lengthRefusal
+  unfolding outcomeWithin lengthRefusal
   outcome-read = by-image (refusalOf s) _ refl (by-length (ltb maxText (length text)) _ (by-form (textOf text) _ (by-left (readingOf s text .left))))
 
   -- 8 comes of the room alone
@@ -85,7 +85,7 @@ module _ (s text : List ℕ) where
 
   -- so nothing lacks room where there is room for a token at every byte
   pub written-all : (words : ℕ) → length text ≤ roomOf words → writtenOf s text words ≡ outcomeOf s text
-  unfolding writtenOf
+  unfolding writtenWithin
   written-all words h = go (outcomeOf s text) outcome-read
     where
       go : (o : Outcome (List (Tok Character Kind))) → Read o → roomed words o ≡ o
@@ -94,7 +94,7 @@ module _ (s text : List ℕ) where
 
   -- and what is listed has room
   pub list-fits : (words n : ℕ) → listOf s text words ≡ given n → n ≤ roomOf words
-  unfolding listOf writtenOf
+  unfolding listWithin writtenWithin
   list-fits words n e =
       let (ts, g, l) = counts-given (roomed words (outcomeOf s text)) n e in
       omega (arith, roomed-given words (outcomeOf s text) ts g .1)

@@ -1,5 +1,6 @@
 -- What counting a text's tokens and writing their list answer under an image (docs/RULES.md, "Tokens" and "Named refusals").
 -- An image and a text are lists of bytes.
+-- `limit` is how many profile entries an image may have; the names without `Within` have the limit in force.
 use Prim.Native.Nat.{ℕ}
 use mathlib.Core.List.{List, [], _∷_}
 use mathlib.Core.Option.{Option, none, some}
@@ -12,7 +13,8 @@ use Rattle.utf8.specs.declared.Text.{Text}
 use Rattle.utf8.specs.declared.Text.the-variants.{WellFormed, IllFormed}
 use Rattle.utf8.specs.Text.{Character, decode, textOf}
 use Rattle.image.specs.Class.{classNamed}
-use Rattle.image.specs.Check.{refusalOf, classOf, medialOf}
+use Rattle.image.specs.Limits.{maxEntries}
+use Rattle.image.specs.Check.{refusalWithin, classOf, medialOf}
 use Rattle.grammar.specs.Scan.{Tok, Reading, Rules, reading}
 use Rattle.grammar.specs.White.{whiteOf}
 use Rattle.grammar.specs.Meaning.{Meaning}
@@ -71,15 +73,21 @@ judged s ts [] = unless (markRefusal s ts) (given ts)
 judged s ts (c ∷ r) = refused (refusal.Characters (tokensWidth ts))
 
 -- 1 to 4 of the image, then 5, then 6, then 7, then 14; else the text's tokens
-unfoldable pub outcomeOf : List ℕ → List ℕ → Outcome (List (Tok Character Kind))
-outcomeOf s text =
-    unless (refusalOf s)
+unfoldable pub outcomeWithin : ℕ → List ℕ → List ℕ → Outcome (List (Tok Character Kind))
+outcomeWithin limit s text =
+    unless (refusalWithin limit s)
     (unless (lengthRefusal text)
     (unless (formRefusal text) (judged s (readingOf s text .tokens) (readingOf s text .left))))
 
+abbrev pub outcomeOf : List ℕ → List ℕ → Outcome (List (Tok Character Kind))
+outcomeOf s text = outcomeWithin maxEntries s text
+
 -- the answer of counting
-unfoldable pub countOf : List ℕ → List ℕ → Outcome ℕ
-countOf s text = outcomeMap length (outcomeOf s text)
+unfoldable pub countWithin : ℕ → List ℕ → List ℕ → Outcome ℕ
+countWithin limit s text = outcomeMap length (outcomeWithin limit s text)
+
+abbrev pub countOf : List ℕ → List ℕ → Outcome ℕ
+countOf s text = countWithin maxEntries s text
 
 -- of tokens, or of anything that has a record each
 module _ {T : Type 0} where
@@ -98,13 +106,22 @@ module _ {T : Type 0} where
   laidBy words out (refused r) = out
 
 -- the tokens that are written into a buffer of so many words
-unfoldable pub writtenOf : List ℕ → List ℕ → ℕ → Outcome (List (Tok Character Kind))
-writtenOf s text words = roomed words (outcomeOf s text)
+unfoldable pub writtenWithin : ℕ → List ℕ → List ℕ → ℕ → Outcome (List (Tok Character Kind))
+writtenWithin limit s text words = roomed words (outcomeWithin limit s text)
+
+abbrev pub writtenOf : List ℕ → List ℕ → ℕ → Outcome (List (Tok Character Kind))
+writtenOf s text words = writtenWithin maxEntries s text words
 
 -- the answer of writing the list
-unfoldable pub listOf : List ℕ → List ℕ → ℕ → Outcome ℕ
-listOf s text words = outcomeMap length (writtenOf s text words)
+unfoldable pub listWithin : ℕ → List ℕ → List ℕ → ℕ → Outcome ℕ
+listWithin limit s text words = outcomeMap length (writtenWithin limit s text words)
+
+abbrev pub listOf : List ℕ → List ℕ → ℕ → Outcome ℕ
+listOf s text words = listWithin maxEntries s text words
 
 -- what the buffer then holds
-unfoldable pub listWords : List ℕ → List ℕ → List ℕ → List ℕ
-listWords s text out = laidBy (listedWords text) out (writtenOf s text (length out))
+unfoldable pub listWordsWithin : ℕ → List ℕ → List ℕ → List ℕ → List ℕ
+listWordsWithin limit s text out = laidBy (listedWords text) out (writtenWithin limit s text (length out))
+
+abbrev pub listWords : List ℕ → List ℕ → List ℕ → List ℕ
+listWords s text out = listWordsWithin maxEntries s text out

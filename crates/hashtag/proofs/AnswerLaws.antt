@@ -19,7 +19,7 @@ use Rattle.grammar.specs.Record.{recordSize, roomOf}
 use Rattle.grammar.specs.Reading.{maxText, lengthRefusal, formRefusalBy, roomed, laidBy}
 use Rattle.grammar.proofs.AnswerLaws.{roomed-in, roomed-out}
 use Rattle.hashtag.specs.Find.{Span, hashtagsOf}
-use Rattle.hashtag.specs.Listed.{spansWords, listedBy, hashtagsThrough, countedThrough, hashtagsFound, hashtagsWritten, hashtagListOf, hashtagListWords}
+use Rattle.hashtag.specs.Listed.{spansWords, listedBy, hashtagsThrough, countedThrough, foundWithin, hashtagsFound, hashtagsWithin, hashtagListWithin, hashtagListOf, hashtagWordsWithin, hashtagListWords}
 use Rattle.hashtag.specs.declared.Listed.{Listed}
 use Rattle.hashtag.specs.declared.Listed.the-variants.{Refused, Hashtags}
 
@@ -29,23 +29,23 @@ module _ (s text out : List ℕ) where
   Gives r out′ = (r ≡ listedBy (hashtagListOf s text (length out))) × (out′ ≡ hashtagListWords s text out)
 
   gives : (o : Outcome (List Span)) → hashtagsFound s text ≡ o → Gives (listedBy (outcomeMap length (roomed (length out) o))) (laidBy (spansWords text) out (roomed (length out) o))
-  unfolding hashtagListOf hashtagListWords hashtagsWritten
+  unfolding hashtagListWithin hashtagWordsWithin hashtagsWithin
   gives o e = rw e (refl, refl)
 
   -- 1 to 4
   pub list-refused : {r : Refusal} → refusalOf s ≡ some r → Gives (Refused r) out
-  unfolding hashtagsFound
+  unfolding foundWithin
   list-refused {r} e = gives (refused r) (rw e)
 
   module _ (accepted : refusalOf s ≡ none) where
     -- 5
     pub list-long : maxText < length text → Gives (Refused refusal.TextLength) out
-    unfolding hashtagsFound lengthRefusal
+    unfolding foundWithin lengthRefusal
     list-long h = gives (refused refusal.TextLength) (rw (accepted, lt-ltb maxText (length text) h))
 
     module _ (short : length text ≤ maxText) where
       found-through : hashtagsFound s text ≡ hashtagsThrough s text
-      unfolding hashtagsFound lengthRefusal
+      unfolding foundWithin lengthRefusal
       found-through = rw (accepted, le-ltb maxText (length text) short)
 
       -- 6

@@ -1,5 +1,6 @@
 -- What writing the list of a text's hashtags answers under an image, and what the buffer then holds
 -- (docs/RULES.md, "Hashtags", "Lines" and "Named refusals").
+-- `limit` is how many profile entries an image may have; the names without `Within` have the limit in force.
 use Prim.Native.Nat.{ℕ, _+_}
 use mathlib.Core.List.{List, [], _∷_, _++_}
 use lib.ListN.{length}
@@ -8,7 +9,8 @@ use Rattle.refusal.specs.declared.Refusal.the-variants as refusal
 use Rattle.utf8.specs.declared.Text.{Text}
 use Rattle.utf8.specs.declared.Text.the-variants.{WellFormed, IllFormed}
 use Rattle.line.specs.Line.{lineOf}
-use Rattle.image.specs.Check.{refusalOf}
+use Rattle.image.specs.Limits.{maxEntries}
+use Rattle.image.specs.Check.{refusalWithin}
 use Rattle.grammar.specs.Record.{tokenWords}
 use Rattle.grammar.specs.Reading.{lengthRefusal, formRefusal, roomed, laidBy}
 use Rattle.hashtag.specs.Find.{Span, hashtagsOf}
@@ -45,17 +47,29 @@ closedBy at n WellFormed = Hashtags n
 closedBy at n (IllFormed p k) = Refused (refusal.IllFormed (at + p) k)
 
 -- 1 to 4 of the image, then 5, then 6; else the text's hashtags
-unfoldable pub hashtagsFound : List ℕ → List ℕ → Outcome (List Span)
-hashtagsFound s text = unless (refusalOf s) (unless (lengthRefusal text) (hashtagsThrough s text))
+unfoldable pub foundWithin : ℕ → List ℕ → List ℕ → Outcome (List Span)
+foundWithin limit s text = unless (refusalWithin limit s) (unless (lengthRefusal text) (hashtagsThrough s text))
+
+abbrev pub hashtagsFound : List ℕ → List ℕ → Outcome (List Span)
+hashtagsFound s text = foundWithin maxEntries s text
 
 -- the hashtags that are written into a buffer of so many words; 8 where they need more room
-unfoldable pub hashtagsWritten : List ℕ → List ℕ → ℕ → Outcome (List Span)
-hashtagsWritten s text words = roomed words (hashtagsFound s text)
+unfoldable pub hashtagsWithin : ℕ → List ℕ → List ℕ → ℕ → Outcome (List Span)
+hashtagsWithin limit s text words = roomed words (foundWithin limit s text)
+
+abbrev pub hashtagsWritten : List ℕ → List ℕ → ℕ → Outcome (List Span)
+hashtagsWritten s text words = hashtagsWithin maxEntries s text words
 
 -- the answer of writing the list
-unfoldable pub hashtagListOf : List ℕ → List ℕ → ℕ → Outcome ℕ
-hashtagListOf s text words = outcomeMap length (hashtagsWritten s text words)
+unfoldable pub hashtagListWithin : ℕ → List ℕ → List ℕ → ℕ → Outcome ℕ
+hashtagListWithin limit s text words = outcomeMap length (hashtagsWithin limit s text words)
+
+abbrev pub hashtagListOf : List ℕ → List ℕ → ℕ → Outcome ℕ
+hashtagListOf s text words = hashtagListWithin maxEntries s text words
 
 -- what the buffer then holds
-unfoldable pub hashtagListWords : List ℕ → List ℕ → List ℕ → List ℕ
-hashtagListWords s text out = laidBy (spansWords text) out (hashtagsWritten s text (length out))
+unfoldable pub hashtagWordsWithin : ℕ → List ℕ → List ℕ → List ℕ → List ℕ
+hashtagWordsWithin limit s text out = laidBy (spansWords text) out (hashtagsWithin limit s text (length out))
+
+abbrev pub hashtagListWords : List ℕ → List ℕ → List ℕ → List ℕ
+hashtagListWords s text out = hashtagWordsWithin maxEntries s text out

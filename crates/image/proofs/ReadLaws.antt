@@ -11,10 +11,10 @@ use borrow.Author.Tests.{ltb-true, ltb-false, lt-ltb, le-ltb}
 use Rattle.lists.proofs.BoolLaws.{impossible}
 use Rattle.refusal.specs.declared.Refusal.{Refusal}
 use Rattle.refusal.specs.declared.Refusal.the-variants as refusal
-use Rattle.image.specs.Limits.{wordsPerRange}
+use Rattle.image.specs.Limits.{maxEntries, wordsPerRange}
 use Rattle.image.specs.Header.{versionOf, rangeCount}
 use Rattle.image.specs.Means.{ReadMeans, read-refused, lacks-room, is-read}
-use Rattle.image.specs.Check.{refusalOf, checkBy, readRefusal, readOf, wordsBy, wordsAfter}
+use Rattle.image.specs.Check.{refusalOf, checkBy, readRefusal, readWithin, readOf, wordsBy, wordsWithin, wordsAfter}
 use Rattle.image.specs.declared.Answer.the-variants as answer
 use Rattle.image.specs.declared.Checked.{Checked}
 use Rattle.image.proofs.ImageLaws.{accepted, refused-none, refusal-means, means-refusal}
@@ -38,20 +38,20 @@ module _ (s out : List ℕ) where
     none-refuses l = simp (e, le-ltb _ _ l)
 
   -- the answer and the buffer, where that is known
-  pub read-by : (o : Option Refusal) → refuses ≡ o → (readOf s (length out) ≡ checkBy s o) × (wordsAfter s out ≡ wordsBy s out o)
-  unfolding readOf wordsAfter
-  read-by o e = (ap (checkBy s) e, ap (wordsBy s out) e)
+  pub read-by : (o : Option Refusal) → refuses ≡ o → (readOf s (length out) ≡ checkBy maxEntries s o) × (wordsAfter s out ≡ wordsBy s out o)
+  unfolding readWithin wordsWithin
+  read-by o e = (ap (checkBy maxEntries s) e, ap (wordsBy s out) e)
 
   means-by :
       (o : Option Refusal) → refusalOf s ≡ o → (b : Bool) → ltb room (rangeCount s) ≡ b
-      → ReadMeans s out (checkBy s (readRefusal s (length out) o)) (wordsBy s out (readRefusal s (length out) o))
+      → ReadMeans s out (checkBy maxEntries s (readRefusal s (length out) o)) (wordsBy s out (readRefusal s (length out) o))
   means-by none e true f = simp f (lacks-room (accepted s e) (ltb-true _ _ f))
   means-by none e false f = simp f (is-read (accepted s e) (ltb-false _ _ f))
   means-by (some r) e b f = read-refused (refusal-means s (some r) e)
 
   -- what the answer and the buffer say
   pub read-means : (k : Checked) (w : List ℕ) → readOf s (length out) ≡ k → wordsAfter s out ≡ w → ReadMeans s out k w
-  unfolding readOf wordsAfter
+  unfolding readWithin wordsWithin
   read-means k w e f = rw (← e, ← f) (means-by (refusalOf s) refl _ refl)
 
   -- and back: where it is so, those are they

@@ -9,9 +9,10 @@ use lib.Dec.{ltb, eqb}
 use borrow.Author.Tests.{lt-ltb, le-ltb, eqb-true, ne-eqb}
 use Rattle.lists.specs.First.{firstWhere}
 use Rattle.lists.proofs.FirstLaws.{first-same}
+use Rattle.image.specs.Limits.{maxEntries}
 use Rattle.image.specs.Class.{Start, Nonstart, Other, classNumber}
 use Rattle.image.specs.Header.{entryCount}
-use Rattle.image.specs.Profile.{pointAt, roleAt, pointIn, roleIn, profileOf, roleBy, roleOf, startRole, nonstartRole, medialRole, otherRole, hashtagRole, afterRole, isMedial, isHashtag}
+use Rattle.image.specs.Profile.{pointAt, roleAt, pointIn, roleIn, profileWithin, profileOf, roleBy, roleOf, startRole, nonstartRole, medialRole, otherRole, hashtagRole, afterRole, isMedial, isHashtag}
 use Rattle.image.specs.Check.{rangeClass, entryRole, classOf, medialOf, hashtagOf}
 use Rattle.image.proofs.ImageLaws.{entry-read}
 
@@ -30,10 +31,10 @@ role-same point role point' role' m x e f =
 
 module _ (s : List ℕ) (x : ℕ) where
   pub role-in-record : entryRole s x ≡ roleOf (profileOf s) x
-  unfolding entryRole roleOf profileOf
+  unfolding entryRole roleOf profileWithin
   role-in-record =
       role-same (pointAt s) (roleAt s) (pointIn (profileOf s)) (roleIn (profileOf s)) (entryCount s) x
-      (λ i l. sym (entry-read s i l .0)) (λ i l. sym (entry-read s i l .1))
+      (λ i l. sym (entry-read maxEntries s i l .0)) (λ i l. sym (entry-read maxEntries s i l .1))
 
   -- what a role does to the class of the ranges
   pub class-after : classOf s x ≡ afterRole (entryRole s x) (rangeClass s x)

@@ -1,4 +1,5 @@
--- What checking and reading an image give (docs/RULES.md, "Named refusals" 1 to 4 and 8).
+-- What checking and reading an image give (docs/RULES.md, "Named refusals" 1 to 4 and 8). What depends on the number of profile
+-- entries that an image may have has it as a parameter, `limit`; the names without `Within` have the limit in force, `maxEntries`.
 use Prim.Native.Nat.{ℕ, _/_}
 use mathlib.Core.List.{List}
 use mathlib.Core.Bool.{Bool, cond}
@@ -9,10 +10,10 @@ use Rattle.lists.specs.Each.{each}
 use Rattle.lists.specs.Laid.{laid}
 use Rattle.refusal.specs.declared.Refusal.{Refusal}
 use Rattle.refusal.specs.declared.Refusal.the-variants as refusal
-use Rattle.image.specs.Limits.{wordsPerRange}
-use Rattle.image.specs.Header.{versionOf, rangeCount, entryCount, lengthRight, headerRight}
+use Rattle.image.specs.Limits.{maxEntries, wordsPerRange}
+use Rattle.image.specs.Header.{versionOf, rangeCount, entryCount, lengthWithin, headerWithin}
 use Rattle.image.specs.Ranges.{rangeAt, rangeWords, firstBadRange, classIn}
-use Rattle.image.specs.Profile.{pointAt, roleAt, firstBadEntry, profileOf, noProfile, roleBy, afterRole, isMedial, isHashtag}
+use Rattle.image.specs.Profile.{pointAt, roleAt, firstBadEntry, profileWithin, noneWithin, roleBy, afterRole, isMedial, isHashtag}
 use Rattle.image.specs.declared.Range.{Range}
 use Rattle.image.specs.declared.Answer.the-variants as answer
 use Rattle.image.specs.declared.Checked.{Checked}
@@ -27,26 +28,38 @@ recordsRefusal at n point role m rest =
     refuseAt refusal.Range (firstBadRange at n) n (refuseAt refusal.Entry (firstBadEntry point role m) m rest)
 
 -- the first in number order of 1 to 4 that applies; none: the image is accepted
-unfoldable pub refusalOf : List ℕ → Option Refusal
-refusalOf s =
-    cond (lengthRight s)
-    (cond (headerRight s) (recordsRefusal (rangeAt s) (rangeCount s) (pointAt s) (roleAt s) (entryCount s) none) (some refusal.Header))
+unfoldable pub refusalWithin : ℕ → List ℕ → Option Refusal
+refusalWithin limit s =
+    cond (lengthWithin limit s)
+    (cond (headerWithin limit s) (recordsRefusal (rangeAt s) (rangeCount s) (pointAt s) (roleAt s) (entryCount s) none) (some refusal.Header))
     (some refusal.Length)
 
+abbrev pub refusalOf : List ℕ → Option Refusal
+refusalOf s = refusalWithin maxEntries s
+
 -- what an accepted image gives: version, number of ranges, and the profile
+abbrev pub acceptedWithin : ℕ → List ℕ → Checked
+acceptedWithin limit s = record { answer = answer.Accepted (versionOf s) (rangeCount s); profile = profileWithin limit s }
+
 abbrev pub acceptedOf : List ℕ → Checked
-acceptedOf s = record { answer = answer.Accepted (versionOf s) (rangeCount s); profile = profileOf s }
+acceptedOf s = acceptedWithin maxEntries s
+
+abbrev pub refusedWithin : ℕ → Refusal → Checked
+refusedWithin limit r = record { answer = answer.Refused r; profile = noneWithin limit }
 
 abbrev pub refusedBy : Refusal → Checked
-refusedBy r = record { answer = answer.Refused r; profile = noProfile }
+refusedBy r = refusedWithin maxEntries r
 
-abbrev pub checkBy : List ℕ → Option Refusal → Checked
-checkBy s none = acceptedOf s
-checkBy s (some r) = refusedBy r
+abbrev pub checkBy : ℕ → List ℕ → Option Refusal → Checked
+checkBy limit s none = acceptedWithin limit s
+checkBy limit s (some r) = refusedWithin limit r
 
 -- the answer of the check
-unfoldable pub checkOf : List ℕ → Checked
-checkOf s = checkBy s (refusalOf s)
+unfoldable pub checkWithin : ℕ → List ℕ → Checked
+checkWithin limit s = checkBy limit s (refusalWithin limit s)
+
+abbrev pub checkOf : List ℕ → Checked
+checkOf s = checkWithin maxEntries s
 
 -- refusals 1 to 4, then 8 with the records needed, for a buffer of `words` words
 abbrev pub readRefusal : List ℕ → ℕ → Option Refusal → Option Refusal
@@ -54,8 +67,11 @@ readRefusal s words none = cond (ltb (words / wordsPerRange) (rangeCount s)) (so
 readRefusal s words (some r) = some r
 
 -- the answer of reading
-unfoldable pub readOf : List ℕ → ℕ → Checked
-readOf s words = checkBy s (readRefusal s words (refusalOf s))
+unfoldable pub readWithin : ℕ → List ℕ → ℕ → Checked
+readWithin limit s words = checkBy limit s (readRefusal s words (refusalWithin limit s))
+
+abbrev pub readOf : List ℕ → ℕ → Checked
+readOf s words = readWithin maxEntries s words
 
 -- the ranges of an image, three words each
 abbrev pub rangesOf : List ℕ → List ℕ
@@ -66,8 +82,11 @@ abbrev pub wordsBy : List ℕ → List ℕ → Option Refusal → List ℕ
 wordsBy s out none = laid out 0 (rangesOf s)
 wordsBy s out (some r) = out
 
-unfoldable pub wordsAfter : List ℕ → List ℕ → List ℕ
-wordsAfter s out = wordsBy s out (readRefusal s (length out) (refusalOf s))
+unfoldable pub wordsWithin : ℕ → List ℕ → List ℕ → List ℕ
+wordsWithin limit s out = wordsBy s out (readRefusal s (length out) (refusalWithin limit s))
+
+abbrev pub wordsAfter : List ℕ → List ℕ → List ℕ
+wordsAfter s out = wordsWithin maxEntries s out
 
 -- the class of x in the ranges of an image, and its role in the profile
 unfoldable pub rangeClass : List ℕ → ℕ → ℕ

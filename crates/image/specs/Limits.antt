@@ -6,7 +6,7 @@ abbrev pub maxRanges : ℕ
 maxRanges = 4096
 
 abbrev pub maxEntries : ℕ
-maxEntries = 64
+maxEntries = 512
 
 -- bytes of a number, of the header, of a range and of a profile entry
 abbrev pub wordBytes : ℕ
@@ -25,9 +25,12 @@ entryBytes = 8
 abbrev pub wordsPerRange : ℕ
 wordsPerRange = 3
 
--- the largest image
+-- the largest image, where an image may have so many profile entries
+abbrev pub largestWithin : ℕ → ℕ
+largestWithin limit = headerBytes + rangeBytes * maxRanges + entryBytes * limit
+
 abbrev pub maxImage : ℕ
-maxImage = headerBytes + rangeBytes * maxRanges + entryBytes * maxEntries
+maxImage = largestWithin maxEntries
 
 -- the classes of ranges, and the roles, go from the first number to the last
 abbrev pub firstClass : ℕ

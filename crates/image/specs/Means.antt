@@ -8,24 +8,28 @@ use Rattle.lists.specs.First.{AllGood, FirstBad}
 use Rattle.lists.specs.Laid.{laid}
 use Rattle.refusal.specs.declared.Refusal.{Refusal}
 use Rattle.refusal.specs.declared.Refusal.the-variants as refusal
-use Rattle.image.specs.Limits.{wordsPerRange}
+use Rattle.image.specs.Limits.{maxEntries, wordsPerRange}
 use Rattle.image.specs.Header.{rangeCount, entryCount}
 use Rattle.image.specs.Ranges.{rangeAt}
 use Rattle.image.specs.Profile.{pointAt, roleAt}
 use Rattle.image.specs.Good.{GoodRange, GoodEntry}
-use Rattle.image.specs.Accepted.{Sized, Headed, Accepted}
+use Rattle.image.specs.Accepted.{SizedWithin, HeadedWithin, AcceptedWithin, Accepted}
 use Rattle.image.specs.Check.{acceptedOf, refusedBy, rangesOf}
 use Rattle.image.specs.declared.Checked.{Checked}
 
--- no refusal, or one of 1 to 4
-pub data RefusalMeans (s : List ℕ) : Option Refusal → Type 0 where
-  is-accepted : Accepted s → RefusalMeans s none
-  bad-length : (Sized s → ⊥) → RefusalMeans s (some refusal.Length)
-  bad-header : Sized s → (Headed s → ⊥) → RefusalMeans s (some refusal.Header)
-  bad-range : {i : ℕ} → Headed s → FirstBad (GoodRange (rangeAt s)) (rangeCount s) i → RefusalMeans s (some (refusal.Range i))
+-- no refusal, or one of 1 to 4, where an image may have up to `limit` profile entries
+pub data RefusalMeansWithin (limit : ℕ) (s : List ℕ) : Option Refusal → Type 0 where
+  is-accepted : AcceptedWithin limit s → RefusalMeansWithin limit s none
+  bad-length : (SizedWithin limit s → ⊥) → RefusalMeansWithin limit s (some refusal.Length)
+  bad-header : SizedWithin limit s → (HeadedWithin limit s → ⊥) → RefusalMeansWithin limit s (some refusal.Header)
+  bad-range : {i : ℕ} → HeadedWithin limit s → FirstBad (GoodRange (rangeAt s)) (rangeCount s) i → RefusalMeansWithin limit s (some (refusal.Range i))
   bad-entry :
-      {i : ℕ} → Headed s → AllGood (GoodRange (rangeAt s)) (rangeCount s) → FirstBad (GoodEntry (pointAt s) (roleAt s)) (entryCount s) i
-      → RefusalMeans s (some (refusal.Entry i))
+      {i : ℕ} → HeadedWithin limit s → AllGood (GoodRange (rangeAt s)) (rangeCount s) → FirstBad (GoodEntry (pointAt s) (roleAt s)) (entryCount s) i
+      → RefusalMeansWithin limit s (some (refusal.Entry i))
+
+-- .. with the limit in force
+abbrev pub RefusalMeans : List ℕ → Option Refusal → Type 0
+RefusalMeans s o = RefusalMeansWithin maxEntries s o
 
 -- a check: 1 to 4; or version, number of ranges and profile
 pub data CheckMeans (s : List ℕ) : Checked → Type 0 where

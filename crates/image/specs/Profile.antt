@@ -43,14 +43,20 @@ goodEntry point role i = goodEntryAlone (point i) (role i) && (eqb i 0 || ltb (p
 unfoldable pub firstBadEntry : (ℕ → ℕ) → (ℕ → ℕ) → ℕ → ℕ
 firstBadEntry point role m = firstWhere (λ (i : ℕ). not (goodEntry point role i)) m
 
--- the record of an image's profile: its entries, and zeros past them
-unfoldable pub profileOf : List ℕ → Profile
-profileOf s =
-    record { points = column maxEntries (pointAt s) (entryCount s); roles = column maxEntries (roleAt s) (entryCount s); used = entryCount s }
+-- the record of an image's profile, with room for so many entries: its entries, and zeros past them
+unfoldable pub profileWithin : ℕ → List ℕ → Profile
+profileWithin limit s =
+    record { points = column limit (pointAt s) (entryCount s); roles = column limit (roleAt s) (entryCount s); used = entryCount s }
+
+abbrev pub profileOf : List ℕ → Profile
+profileOf s = profileWithin maxEntries s
 
 -- the record that stands beside a refusal: no entries, all zeros
-unfoldable pub noProfile : Profile
-noProfile = record { points = replicate maxEntries 0; roles = replicate maxEntries 0; used = 0 }
+unfoldable pub noneWithin : ℕ → Profile
+noneWithin limit = record { points = replicate limit 0; roles = replicate limit 0; used = 0 }
+
+abbrev pub noProfile : Profile
+noProfile = noneWithin maxEntries
 
 -- the role of x among m entries: that of the entry with this code point; 0 where there is none
 unfoldable pub roleBy : (ℕ → ℕ) → (ℕ → ℕ) → ℕ → ℕ → ℕ

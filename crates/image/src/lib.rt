@@ -9,7 +9,7 @@ ghost use Rattle.lists.specs.Laid.{laid};
 ghost use Rattle.lists.specs.Each.{each};
 ghost use Rattle.image.specs.Word.{joinOf, wordAt};
 ghost use Rattle.image.specs.Limits.{maxRanges, maxEntries, wordBytes, headerBytes, rangeBytes, entryBytes, wordsPerRange, firstSurrogate, lastSurrogate};
-ghost use Rattle.image.specs.Header.{versionOf, totalOf, rangeCount, rangeOffset, entryCount, entryOffset, entriesAt, imageEnd, lengthRight, headerRight};
+ghost use Rattle.image.specs.Header.{versionOf, totalOf, rangeCount, rangeOffset, entryOffset, entriesAt, imageEnd, lengthRight, headerRight};
 ghost use Rattle.image.specs.Ranges.{rangeAt, rangeWords, goodAlone, follows, goodRange, firstBadRange};
 ghost use Rattle.image.specs.Profile.{pointAt, roleAt, goodEntryAlone, goodEntry, firstBadEntry, profileOf};
 ghost use Rattle.image.specs.Check.{refusalOf, acceptedOf, refusedBy, checkOf, readOf, wordsAfter};
@@ -18,7 +18,7 @@ use refusal::Refusal;
 // The most ranges and profile entries that an image may have.
 pub const MAX_RANGES: usize = 4096;
 
-pub const MAX_ENTRIES: usize = 64;
+pub const MAX_ENTRIES: usize = 512;
 
 // The bytes of a number, of the header, of a range and of a profile entry, and the words of a range.
 pub const WORD_BYTES: usize = 4;
@@ -308,13 +308,22 @@ fn first_bad_entry(image: &[u8], base: usize, m: usize) -> usize
     i
 }
 
-// The profile of an image with m entries from byte `base` on.
-fn read_profile(image: &[u8], base: usize, m: usize) -> Profile
-    requires { ⌜ (base ≡ entriesAt (rangeCount (now image))) × (m ≡ entryCount (now image)) × (m ≤ maxEntries) × (base + entryBytes * m ≤ length (now image)) ⌝ }
-    ensures { λ r. ⌜ r ≡ profileOf (now (image .entry)) ⌝ }
+// Writes the profile of an accepted image into two arrays, with zeros past its entries, and gives their number.
+pub fn put_profile(
+    image: &[u8],
+    points: &mut [u32; MAX_ENTRIES],
+    roles: &mut [u32; MAX_ENTRIES],
+) -> usize
+    requires { ⌜ refusalOf (now image) ≡ none ⌝ }
+    ensures { λ m. ⌜ m ≡ profileOf (now (image .entry)) .used ⌝ }
+    ensures { λ _. ⌜ now (points .exit) ≡ profileOf (now (image .entry)) .points ⌝ }
+    ensures { λ _. ⌜ now (roles .exit) ≡ profileOf (now (image .entry)) .roles ⌝ }
 {
-    let mut points = [0u32; MAX_ENTRIES];
-    let mut roles = [0u32; MAX_ENTRIES];
+    let n = word(image, RANGE_COUNT_AT) as usize;
+    let base = HEADER_BYTES + RANGE_BYTES * n;
+    let m = word(image, ENTRY_COUNT_AT) as usize;
+    *points = [0u32; MAX_ENTRIES];
+    *roles = [0u32; MAX_ENTRIES];
     let mut i = 0;
     while i < m {
         let at = base + ENTRY_BYTES * i;
@@ -322,23 +331,18 @@ fn read_profile(image: &[u8], base: usize, m: usize) -> Profile
         roles[i] = word(image, at + ROLE_AT);
         i += 1;
     }
-    Profile {
-        points,
-        roles,
-        used: m,
-    }
+    m
 }
 
 // The answer of a refusal, with an empty profile.
 fn refuse(r: Refusal) -> Checked
     ensures { λ k. ⌜ k ≡ refusedBy r ⌝ }
 {
-    let zeros = [0u32; MAX_ENTRIES];
     Checked {
         answer: Answer::Refused(r),
         profile: Profile {
-            points: zeros,
-            roles: zeros,
+            points: [0u32; MAX_ENTRIES],
+            roles: [0u32; MAX_ENTRIES],
             used: 0,
         },
     }
@@ -349,10 +353,16 @@ fn accept(image: &[u8], version: u32, n: usize) -> Checked
     requires { ⌜ (refusalOf (now image) ≡ none) × (version ≡ versionOf (now image)) × (n ≡ rangeCount (now image)) ⌝ }
     ensures { λ k. ⌜ k ≡ acceptedOf (now (image .entry)) ⌝ }
 {
-    let m = word(image, ENTRY_COUNT_AT) as usize;
+    let mut points = [0u32; MAX_ENTRIES];
+    let mut roles = [0u32; MAX_ENTRIES];
+    let used = put_profile(image, &mut points, &mut roles);
     Checked {
         answer: Answer::Accepted { version, ranges: n },
-        profile: read_profile(image, HEADER_BYTES + RANGE_BYTES * n, m),
+        profile: Profile {
+            points,
+            roles,
+            used,
+        },
     }
 }
 
@@ -425,19 +435,31 @@ fn write_ranges(image: &[u8], n: usize, out: &mut [u32])
     }
 }
 
-// Checks an image, and reads its ranges into a buffer and its profile. A refused call leaves the buffer as it was.
-pub fn read(image: &[u8], out: &mut [u32]) -> Checked
-    ensures { λ r. ⌜ (r ≡ readOf (now (image .entry)) (length (now (out .entry)))) × (now (out .exit) ≡ wordsAfter (now (image .entry)) (now (out .entry))) ⌝ }
+// Checks an image and reads its ranges into a buffer. A refused call leaves the buffer as it was.
+pub fn read_ranges(image: &[u8], out: &mut [u32]) -> Answer
+    ensures { λ a. ⌜ a ≡ readOf (now (image .entry)) (length (now (out .entry))) .answer ⌝ }
+    ensures { λ _. ⌜ now (out .exit) ≡ wordsAfter (now (image .entry)) (now (out .entry)) ⌝ }
 {
     let a = judge(image);
     match a {
-        Answer::Refused(r) => refuse(r),
+        Answer::Refused(r) => Answer::Refused(r),
         Answer::Accepted { version, ranges } => {
             if out.len() / RANGE_WORDS < ranges {
-                return refuse(Refusal::Room(ranges));
+                return Answer::Refused(Refusal::Room(ranges));
             }
             write_ranges(image, ranges, out);
-            accept(image, version, ranges)
+            Answer::Accepted { version, ranges }
         }
+    }
+}
+
+// As `read_ranges`, and reads the profile.
+pub fn read(image: &[u8], out: &mut [u32]) -> Checked
+    ensures { λ r. ⌜ (r ≡ readOf (now (image .entry)) (length (now (out .entry)))) × (now (out .exit) ≡ wordsAfter (now (image .entry)) (now (out .entry))) ⌝ }
+{
+    let a = read_ranges(image, out);
+    match a {
+        Answer::Refused(r) => refuse(r),
+        Answer::Accepted { version, ranges } => accept(image, version, ranges),
     }
 }

@@ -4,43 +4,54 @@ use mathlib.Core.Path.{_≡_, refl, sym, _∙_}
 use mathlib.Core.Bool.{Bool, true, false, true≢false}
 use mathlib.Core.List.{List, [], _∷_}
 use native.Mathlib.Omega.{arith}
+use native.Mathlib.Decide.{decLe}
 use lib.ListN.{length, take}
-use lib.Seq.{length-take-le}
+use lib.Seq.{take-all, length-take-le}
 use lib.Dec.{leb}
 use borrow.Author.Tests.{le-leb, leb-true}
 use Rattle.lists.proofs.BoolLaws.{split}
-use Rattle.image.specs.Limits.{headerBytes, maxImage}
+use Rattle.image.specs.Limits.{headerBytes, largestWithin, maxImage}
 use Rattle.image.specs.Header.{totalOf}
+use Rattle.image.specs.Accepted.{SizedWithin}
 use Rattle.image.proofs.ImageLaws.{word-take}
-use Rattle.input.specs.Input.{comesWhole, endIn, ComesWhole, EndMeans, no-end, whole-end}
+use Rattle.input.specs.Input.{imageIn, comesWithin, endWithin, endIn, WholeWithin, ComesWhole, EndMeans, no-end, whole-end}
 
 -- the test of whether the image comes whole, and what it means
-module _ (input : List ℕ) where
-  pub means-whole : ComesWhole input → comesWhole input ≡ true
-  unfolding comesWhole
+module _ {limit : ℕ} (input : List ℕ) where
+  pub means-whole : WholeWithin limit input → comesWithin limit input ≡ true
+  unfolding comesWithin
   means-whole w = simp (le-leb _ _ (w .header), le-leb _ _ (w .long), le-leb _ _ (w .short), le-leb _ _ (w .comes))
 
-  pub whole-means : comesWhole input ≡ true → ComesWhole input
-  unfolding comesWhole
+  pub whole-means : comesWithin limit input ≡ true → WholeWithin limit input
+  unfolding comesWithin
   whole-means e =
       let (a, (b, (c, d))) =
-      split (leb headerBytes (length input)) (leb headerBytes (totalOf input) ∷ leb (totalOf input) maxImage ∷ leb (totalOf input) (length input) ∷ []) e in
+      split (leb headerBytes (length input)) (leb headerBytes (totalOf input) ∷ leb (totalOf input) (largestWithin limit) ∷ leb (totalOf input) (length input) ∷ []) e in
       record { header = leb-true _ _ a; long = leb-true _ _ b; short = leb-true _ _ c; comes = leb-true _ _ d }
 
-  pub dec-whole : Dec (ComesWhole input)
-  dec-whole = go (comesWhole input) refl
+  pub dec-whole : Dec (WholeWithin limit input)
+  dec-whole = go (comesWithin limit input) refl
     where
-      go : (b : Bool) → comesWhole input ≡ b → Dec (ComesWhole input)
+      go : (b : Bool) → comesWithin limit input ≡ b → Dec (WholeWithin limit input)
       go true e = yes (whole-means e)
       go false e = no (λ w. true≢false (sym (means-whole w) ∙ e))
 
-  pub not-whole : (ComesWhole input → ⊥) → comesWhole input ≡ false
-  not-whole f = go (comesWhole input) refl
+  pub not-whole : (WholeWithin limit input → ⊥) → comesWithin limit input ≡ false
+  not-whole f = go (comesWithin limit input) refl
     where
-      go : (b : Bool) → comesWhole input ≡ b → b ≡ false
+      go : (b : Bool) → comesWithin limit input ≡ b → b ≡ false
       go true e = absurd (f (whole-means e))
       go false e = refl
 
+  pub end-whole : WholeWithin limit input → endWithin limit input ≡ totalOf input
+  unfolding endWithin
+  end-whole w = simp (means-whole w)
+
+  pub end-cut : (WholeWithin limit input → ⊥) → endWithin limit input ≡ 0
+  unfolding endWithin
+  end-cut f = simp (not-whole f)
+
+module _ (input : List ℕ) where
   -- by the image's end
   pub no-image : {end : ℕ} → EndMeans input end → end ≡ 0 → ComesWhole input → ⊥
   no-image (no-end f) z w = f w
@@ -54,18 +65,24 @@ module _ (input : List ℕ) where
   end-within (no-end f) = omega arith
   end-within (whole-end n w e) = omega (arith, w .comes)
 
-  -- the end, in both cases
-  pub end-whole : ComesWhole input → endIn input ≡ totalOf input
-  unfolding endIn
-  end-whole w = simp (means-whole w)
-
-  pub end-cut : (ComesWhole input → ⊥) → endIn input ≡ 0
-  unfolding endIn
-  end-cut f = simp (not-whole f)
-
   pub end-is : {end : ℕ} → EndMeans input end → end ≡ endIn input
-  end-is (no-end f) = sym (end-cut f)
-  end-is (whole-end n w e) = e ∙ sym (end-whole w)
+  end-is (no-end f) = sym (end-cut input f)
+  end-is (whole-end n w e) = e ∙ sym (end-whole input w)
+
+-- an image at the front that has its own total length comes whole
+module _ {limit : ℕ} (input : List ℕ) (z : SizedWithin limit (imageIn input)) where
+  total-comes : Dec (totalOf input ≤ length input) → totalOf input ≤ length input
+  total-comes (yes h) = h
+  total-comes (no h) = let e = take-all (totalOf input) input (omega arith) in let t = rw e at (z .total) in omega arith
+
+  pub image-total : length (imageIn input) ≡ totalOf input
+  image-total = length-take-le (totalOf input) input (total-comes (decLe _ _))
+
+  pub sized-whole : WholeWithin limit input
+  sized-whole =
+      let c = total-comes (decLe _ _) in
+      let l = image-total in
+      record { header = omega (arith, z .long); long = omega (arith, z .long); short = omega (arith, z .short); comes = c }
 
 -- the first k bytes of a longer input: the same total length, and the image comes whole in both or in neither
 module _ (input : List ℕ) (k : ℕ) (enough : maxImage ≤ k) where

@@ -17,34 +17,34 @@ use Rattle.grammar.specs.Scan.{Tok}
 use Rattle.grammar.specs.Grammar.{Kind}
 use Rattle.refusal.specs.Outcome.{Outcome, refused, outcomeMap}
 use Rattle.grammar.specs.Record.{listedWords}
-use Rattle.grammar.specs.Reading.{writtenOf, laidBy, listOf, listWords}
+use Rattle.grammar.specs.Reading.{writtenOf, laidBy, listWithin, listOf, listWordsWithin, listWords}
 use Rattle.scan.specs.declared.Counted.{Counted}
 use Rattle.scan.specs.declared.Counted.the-variants as counted
 use Rattle.scan.specs.Counted.{countedBy}
-use Rattle.listing.specs.Input.{maxScript, writtenWithin, writtenFrom, listedFrom, wordsAfter}
+use Rattle.listing.specs.Input.{maxScript, scriptWithin, scriptWritten, fromWithin, writtenFrom, listedWithin, listedFrom, wordsWithin, wordsAfter}
 
 -- what is written, by the cases in turn
 module _ (input : List ℕ) (words : ℕ) where
   pub written-cut : (ComesWhole input → ⊥) → writtenFrom input words ≡ refused refusal.Length
-  unfolding writtenFrom
+  unfolding fromWithin
   written-cut f = rw (not-whole input f)
 
-  pub written-whole : ComesWhole input → writtenFrom input words ≡ writtenWithin (imageIn input) (textIn input) words
-  unfolding writtenFrom
+  pub written-whole : ComesWhole input → writtenFrom input words ≡ scriptWritten (imageIn input) (textIn input) words
+  unfolding fromWithin
   written-whole w = rw (means-whole input w)
 
 module _ (image text : List ℕ) (words : ℕ) where
-  pub within-refused : {r : Refusal} → refusalOf image ≡ some r → writtenWithin image text words ≡ refused r
-  unfolding writtenWithin
+  pub within-refused : {r : Refusal} → refusalOf image ≡ some r → scriptWritten image text words ≡ refused r
+  unfolding scriptWithin
   within-refused e = rw e
 
   module _ (accepted : refusalOf image ≡ none) where
-    pub within-long : maxScript < length text → writtenWithin image text words ≡ refused refusal.TextLength
-    unfolding writtenWithin
+    pub within-long : maxScript < length text → scriptWritten image text words ≡ refused refusal.TextLength
+    unfolding scriptWithin
     within-long h = rw (accepted, lt-ltb maxScript (length text) h)
 
-    pub within-listed : length text ≤ maxScript → writtenWithin image text words ≡ writtenOf image text words
-    unfolding writtenWithin
+    pub within-listed : length text ≤ maxScript → scriptWritten image text words ≡ writtenOf image text words
+    unfolding scriptWithin
     within-listed h = rw (accepted, le-ltb maxScript (length text) h)
 
 -- an answer and a buffer that an outcome gives for a text
@@ -56,17 +56,17 @@ gives-refused text out e = rw e (refl, refl)
 
 pub gives-listed : (image text out : List ℕ) {o : Outcome (List (Tok Character Kind))} {r : Counted} {out′ : List ℕ} → o ≡ writtenOf image text (length out) →
     (r ≡ countedBy (listOf image text (length out))) × (out′ ≡ listWords image text out) → Gives text o r out out′
-unfolding listOf listWords
+unfolding listWithin listWordsWithin
 gives-listed image text out e p = rw e p
 
 module _ (input out : List ℕ) where
   pub from-refused : {r : Refusal} → writtenFrom input (length out) ≡ refused r → (counted.Refused r ≡ countedBy (listedFrom input (length out))) × (out ≡ wordsAfter input out)
-  unfolding listedFrom wordsAfter
+  unfolding listedWithin wordsWithin
   from-refused e = gives-refused (textIn input) out e
 
   pub from-whole : (end : ℕ) → ComesWhole input × (end ≡ totalOf input) → {r : Counted} {out′ : List ℕ} →
       let text = take (length input - end) (drop end input) in
-      Gives text (writtenWithin (take end input) text (length out)) r out out′ →
+      Gives text (scriptWritten (take end input) text (length out)) r out out′ →
       (r ≡ countedBy (listedFrom input (length out))) × (out′ ≡ wordsAfter input out)
-  unfolding listedFrom wordsAfter
+  unfolding listedWithin wordsWithin
   from-whole end (w, e) p = rw (written-whole input (length out) w, ← e, ← rest input end) p

@@ -15,17 +15,17 @@ use Rattle.image.proofs.ImageLaws.{refusal-number}
 use Rattle.input.specs.Input.{imageIn, restIn as textIn, ComesWhole}
 use Rattle.input.proofs.InputLaws.{dec-whole}
 use Rattle.grammar.specs.Record.{recordSize, roomOf}
-use Rattle.grammar.specs.Reading.{outcomeOf, listOf}
+use Rattle.grammar.specs.Reading.{outcomeOf, listWithin}
 use Rattle.grammar.proofs.AnswerLaws.{counts-refused}
 use Rattle.grammar.proofs.FewLaws.{outcome-no-room, written-all, list-fits}
 use Rattle.scan.specs.declared.Counted.the-variants as counted
 use Rattle.scan.specs.Counted.{countedBy}
-use Rattle.listing.specs.Input.{maxScript, listedFrom, wholeAnswer, ListingMeans, cut-off, bad-image, long-text, listed}
+use Rattle.listing.specs.Input.{maxScript, listedWithin, listedFrom, wholeWithin, wholeAnswer, ListingMeans, cut-off, bad-image, long-text, listed}
 use Rattle.listing.proofs.InputLaws.{written-cut, written-whole, within-refused, within-long, within-listed}
 
 module _ (input : List ℕ) (words : ℕ) where
   pub means-listing : (o : Outcome ℕ) → ListingMeans input words o → listedFrom input words ≡ o
-  unfolding listedFrom listOf
+  unfolding listedWithin listWithin
   means-listing o (cut-off f) = ap (outcomeMap length) (written-cut input words f)
   means-listing o (bad-image r w e) = ap (outcomeMap length) (written-whole input words w ∙ within-refused (imageIn input) (textIn input) words e)
   means-listing o (long-text w a h) = ap (outcomeMap length) (written-whole input words w ∙ within-long (imageIn input) (textIn input) words a h)
@@ -63,7 +63,7 @@ module _ (input : List ℕ) (words : ℕ) where
   -- there is room for a token at every byte of the longest text
   module _ (enough : maxScript ≤ roomOf words) where
     pub listing-has-room : (n : ℕ) → listedFrom input words ≡ refused (refusal.Room n) → ⊥
-    unfolding listOf
+    unfolding listWithin
     listing-has-room n e = go (listing-means (refused (refusal.Room n)) e)
       where
         go : ListingMeans input words (refused (refusal.Room n)) → ⊥
@@ -74,7 +74,7 @@ module _ (input : List ℕ) (words : ℕ) where
 
 -- so the program never answers 8
 pub never-room : (input : List ℕ) (n : ℕ) → wholeAnswer input ≡ counted.Refused (refusal.Room n) → ⊥
-unfolding wholeAnswer
+unfolding wholeWithin
 never-room input n e = go (listedFrom input (recordSize * maxScript)) refl e
   where
     go : (o : Outcome ℕ) → listedFrom input (recordSize * maxScript) ≡ o → countedBy o ≡ counted.Refused (refusal.Room n) → ⊥

@@ -16,19 +16,19 @@ use Rattle.input.specs.Input.{imageIn, restIn as textIn, ComesWhole}
 use Rattle.input.proofs.InputLaws.{dec-whole, total, front-whole, whole-front}
 use Rattle.grammar.specs.Record.{recordSize}
 use Rattle.scan.specs.Counted.{countedBy}
-use Rattle.listing.specs.Input.{maxScript, writtenWithin, writtenFrom, listedFrom, wholeAnswer}
+use Rattle.listing.specs.Input.{maxScript, scriptWritten, writtenFrom, listedWithin, listedFrom, wholeWithin, wholeAnswer}
 use Rattle.listing.proofs.InputLaws.{written-cut, written-whole, within-refused, within-long}
 
 module _ (input : List ℕ) (k words : ℕ) (enough : maxImage + maxScript < k) where
   module _ (long : k ≤ length input) where
     -- the same image, and both texts are longer than the longest
-    same-within : totalOf input ≤ maxImage → writtenWithin (imageIn (take k input)) (textIn (take k input)) words ≡ writtenWithin (imageIn input) (textIn input) words
+    same-within : totalOf input ≤ maxImage → scriptWritten (imageIn (take k input)) (textIn (take k input)) words ≡ scriptWritten (imageIn input) (textIn input) words
     same-within h = rw (total input k (omega arith), take-take (totalOf input) k input (omega arith)) (go (refusalOf (imageIn input)) refl)
       where
         front : List ℕ
         front = drop (totalOf input) (take k input)
 
-        go : (a : Option Refusal) → refusalOf (imageIn input) ≡ a → writtenWithin (imageIn input) front words ≡ writtenWithin (imageIn input) (textIn input) words
+        go : (a : Option Refusal) → refusalOf (imageIn input) ≡ a → scriptWritten (imageIn input) front words ≡ scriptWritten (imageIn input) (textIn input) words
         go (some r) e = within-refused (imageIn input) front words e ∙ sym (within-refused (imageIn input) (textIn input) words e)
         go none e =
             let m = length-drop (totalOf input) (take k input) in
@@ -51,5 +51,5 @@ module _ (input : List ℕ) (k words : ℕ) (enough : maxImage + maxScript < k) 
 -- so is the program's answer, where there is room for the longest text's tokens
 pub whole-answer : (input : List ℕ) (limit : ℕ) → maxImage + maxScript < limit → (read : List ℕ) → take limit input ≡ read → (words : ℕ) → words ≡ recordSize * maxScript →
     countedBy (listedFrom read words) ≡ wholeAnswer input
-unfolding wholeAnswer listedFrom
+unfolding wholeWithin listedWithin
 whole-answer input limit h read e words w = rw (← e, w) (ap (λ o. countedBy (outcomeMap length o)) (looks-no-further input limit (recordSize * maxScript) h))

@@ -1,4 +1,5 @@
 -- An image and right after it a text, as the token lister reads them (docs/RULES.md, "Small image M and its readings").
+-- `limit` is how many profile entries an image may have; the names without `Within` have the limit in force.
 use Prim.Native.Nat.{ℕ, _*_, _≤_, _<_}
 use mathlib.Core.Path.{_≡_}
 use mathlib.Core.Bool.{Bool, true, false}
@@ -9,13 +10,14 @@ use lib.Dec.{ltb}
 use Rattle.refusal.specs.declared.Refusal.{Refusal}
 use Rattle.refusal.specs.declared.Refusal.the-variants as refusal
 use Rattle.utf8.specs.Text.{Character}
-use Rattle.image.specs.Check.{refusalOf}
-use Rattle.input.specs.Input.{imageIn, restIn as textIn, comesWhole, ComesWhole}
+use Rattle.image.specs.Limits.{maxEntries}
+use Rattle.image.specs.Check.{refusalWithin, refusalOf}
+use Rattle.input.specs.Input.{imageIn, restIn as textIn, comesWithin, ComesWhole}
 use Rattle.grammar.specs.Scan.{Tok}
 use Rattle.grammar.specs.Grammar.{Kind}
 use Rattle.refusal.specs.Outcome.{Outcome, refused, unless, refusedIf, outcomeMap}
 use Rattle.grammar.specs.Record.{recordSize, listedWords}
-use Rattle.grammar.specs.Reading.{writtenOf, laidBy, listOf}
+use Rattle.grammar.specs.Reading.{writtenWithin, laidBy, listOf}
 use Rattle.scan.specs.declared.Counted.{Counted}
 use Rattle.scan.specs.Counted.{countedBy}
 
@@ -24,28 +26,43 @@ abbrev pub maxScript : ℕ
 maxScript = 8192
 
 -- 1 to 4 of the image, then 5 above 8,192 bytes of text, then what writing the list gives
-unfoldable pub writtenWithin : List ℕ → List ℕ → ℕ → Outcome (List (Tok Character Kind))
-writtenWithin image text words =
-    unless (refusalOf image) (unless (refusedIf (ltb maxScript (length text)) refusal.TextLength) (writtenOf image text words))
+unfoldable pub scriptWithin : ℕ → List ℕ → List ℕ → ℕ → Outcome (List (Tok Character Kind))
+scriptWithin limit image text words =
+    unless (refusalWithin limit image) (unless (refusedIf (ltb maxScript (length text)) refusal.TextLength) (writtenWithin limit image text words))
+
+abbrev pub scriptWritten : List ℕ → List ℕ → ℕ → Outcome (List (Tok Character Kind))
+scriptWritten image text words = scriptWithin maxEntries image text words
 
 -- 1 where the image doesn't come whole; else what the image gives with the text after it
-abbrev pub writtenBy : Bool → List ℕ → ℕ → Outcome (List (Tok Character Kind))
-writtenBy true input words = writtenWithin (imageIn input) (textIn input) words
-writtenBy false input words = refused refusal.Length
+abbrev pub writtenBy : ℕ → Bool → List ℕ → ℕ → Outcome (List (Tok Character Kind))
+writtenBy limit true input words = scriptWithin limit (imageIn input) (textIn input) words
+writtenBy limit false input words = refused refusal.Length
 
-unfoldable pub writtenFrom : List ℕ → ℕ → Outcome (List (Tok Character Kind))
-writtenFrom input words = writtenBy (comesWhole input) input words
+unfoldable pub fromWithin : ℕ → List ℕ → ℕ → Outcome (List (Tok Character Kind))
+fromWithin limit input words = writtenBy limit (comesWithin limit input) input words
+
+abbrev pub writtenFrom : List ℕ → ℕ → Outcome (List (Tok Character Kind))
+writtenFrom input words = fromWithin maxEntries input words
 
 -- the answer, and what the lent words then hold
-unfoldable pub listedFrom : List ℕ → ℕ → Outcome ℕ
-listedFrom input words = outcomeMap length (writtenFrom input words)
+unfoldable pub listedWithin : ℕ → List ℕ → ℕ → Outcome ℕ
+listedWithin limit input words = outcomeMap length (fromWithin limit input words)
 
-unfoldable pub wordsAfter : List ℕ → List ℕ → List ℕ
-wordsAfter input out = laidBy (listedWords (textIn input)) out (writtenFrom input (length out))
+abbrev pub listedFrom : List ℕ → ℕ → Outcome ℕ
+listedFrom input words = listedWithin maxEntries input words
+
+unfoldable pub wordsWithin : ℕ → List ℕ → List ℕ → List ℕ
+wordsWithin limit input out = laidBy (listedWords (textIn input)) out (fromWithin limit input (length out))
+
+abbrev pub wordsAfter : List ℕ → List ℕ → List ℕ
+wordsAfter input out = wordsWithin maxEntries input out
 
 -- the program's answer: there is room for a token at every byte of the longest text
-unfoldable pub wholeAnswer : List ℕ → Counted
-wholeAnswer input = countedBy (listedFrom input (recordSize * maxScript))
+unfoldable pub wholeWithin : ℕ → List ℕ → Counted
+wholeWithin limit input = countedBy (listedWithin limit input (recordSize * maxScript))
+
+abbrev pub wholeAnswer : List ℕ → Counted
+wholeAnswer input = wholeWithin maxEntries input
 
 -- what each answer means
 pub data ListingMeans (input : List ℕ) (words : ℕ) : Outcome ℕ → Type 0 where

@@ -8,7 +8,7 @@ ghost use lib.ListN.{length, take};
 ghost use Rattle.refusal.specs.Outcome.{outcomeMap};
 ghost use Rattle.grammar.specs.Reading.{laidBy};
 ghost use Rattle.scan.specs.Counted.{countedBy};
-ghost use Rattle.listing.specs.Input.{writtenWithin, listedFrom, wordsAfter, maxScript, wholeAnswer};
+ghost use Rattle.listing.specs.Input.{scriptWritten, listedFrom, wordsAfter, maxScript, wholeAnswer};
 use image::Answer;
 use image::MAX_IMAGE;
 use refusal::Refusal;
@@ -24,8 +24,8 @@ pub const MAX_WORDS: usize = scan::RECORD_WORDS * MAX_SCRIPT;
 
 // The list of the tokens of a text of at most 8,192 bytes.
 fn list_script<'a>(image: &'a [u8], text: &'a [u8], out: &mut [u32]) -> Counted
-    ensures { λ r. ⌜ r ≡ countedBy (outcomeMap length (writtenWithin (now (image .entry)) (now (text .entry)) (length (now (out .entry))))) ⌝ }
-    ensures { λ r. ⌜ now (out .exit) ≡ laidBy (listedWords (now (text .entry))) (now (out .entry)) (writtenWithin (now (image .entry)) (now (text .entry)) (length (now (out .entry)))) ⌝ }
+    ensures { λ r. ⌜ r ≡ countedBy (outcomeMap length (scriptWritten (now (image .entry)) (now (text .entry)) (length (now (out .entry))))) ⌝ }
+    ensures { λ r. ⌜ now (out .exit) ≡ laidBy (listedWords (now (text .entry))) (now (out .entry)) (scriptWritten (now (image .entry)) (now (text .entry)) (length (now (out .entry)))) ⌝ }
 {
     let answer = image::judge(image);
     match answer {

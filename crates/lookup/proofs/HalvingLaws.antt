@@ -6,7 +6,7 @@ use native.Mathlib.Nat.{pow-suc}
 use native.Mathlib.Omega.{arith}
 use lib.Dec.{leb, ltb}
 use borrow.Author.Tests.{le-leb, lt-leb, lt-ltb, le-ltb, leb-false}
-use Rattle.image.specs.Limits.{maxRanges}
+use Rattle.image.specs.Limits.{maxRanges, maxEntries}
 use Rattle.image.specs.Ranges.{holds}
 use Rattle.image.specs.declared.Range.{Range}
 use Rattle.lookup.specs.declared.Probe.{Probe}
@@ -100,3 +100,7 @@ module _ (at : ℕ → Range) (x : ℕ) where
   -- at most 13 steps in at most 4,096 ranges
   pub seek-thirteen : (n : ℕ) → n ≤ maxRanges → seekOf at 0 n x .count ≤ 13
   seek-thirteen n h = seek-count 13 0 n (omega arith)
+
+  -- at most 10 steps in at most 512 profile entries
+  pub seek-ten : (m : ℕ) → m ≤ maxEntries → seekOf at 0 m x .count ≤ 10
+  seek-ten m h = seek-count 10 0 m (omega arith)

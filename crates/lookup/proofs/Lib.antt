@@ -3,3 +3,4 @@ pub mod RisingLaws
 pub mod ClassLaws
 pub mod RecordLaws
 pub mod LookupLaws
+pub mod LimitLaws

@@ -21,7 +21,7 @@ use Rattle.lookup.specs.declared.Found.{Found}
 use Rattle.lookup.specs.declared.Found.the-variants as found
 use Rattle.lookup.specs.Records.{entryRange, recordAt, recordCount}
 use Rattle.lookup.specs.Halving.{seekOf}
-use Rattle.lookup.specs.Lookup.{foundIn, lookupBy, lookupOf}
+use Rattle.lookup.specs.Lookup.{foundIn, lookupBy, lookupWithin, lookupOf}
 use Rattle.lookup.specs.Means.{HasClass, held, in-none, HasRole, named, no-entry, LookupMeans, image-refused, not-scalar, found-class}
 use Rattle.lookup.proofs.HalvingLaws.{seek-thirteen}
 use Rattle.lookup.proofs.RisingLaws.{class-cases, class-of}
@@ -30,11 +30,11 @@ use Rattle.lookup.proofs.RecordLaws.{fits, records-rise, found-at, rang
 -- the answer by the image's refusal
 module _ (s : List ℕ) (x : ℕ) where
   pub refused : (r : Refusal) → refusalOf s ≡ some r → lookupOf s x ≡ found.Refused r
-  unfolding lookupOf
+  unfolding lookupWithin
   refused r e = simp e
 
   pub checked : refusalOf s ≡ none → lookupOf s x ≡ foundIn s x
-  unfolding lookupOf
+  unfolding lookupWithin
   checked e = simp e
 
 module _ (s : List ℕ) (x : ℕ) (a : refusalOf s ≡ none) where
@@ -85,7 +85,7 @@ module _ (s : List ℕ) (x : ℕ) where
 
   -- what each answer says
   pub lookup-means : (f : Found) → lookupOf s x ≡ f → LookupMeans s x f
-  unfolding lookupOf
+  unfolding lookupWithin
   lookup-means f e = subst (LookupMeans s x) e (means-by (refusalOf s) refl)
 
   -- and back

@@ -1,7 +1,7 @@
 -- A reply of equal answers is the same, and a result tells whether the answer is a refusal. Assumes nothing.
 use Prim.Native.Nat.{ℕ, _≤_}
-use mathlib.Core.Path.{_≡_, refl, subst, sym, ap}
-use mathlib.Core.List.{List, [], _∷_}
+use mathlib.Core.Path.{_≡_, subst, sym, ap}
+use mathlib.Core.List.{List}
 use native.Mathlib.Omega.{arith}
 use Rattle.refusal.specs.Refusal.{numberOf}
 use Rattle.refusal.specs.declared.Refusal.{Refusal}
@@ -52,18 +52,11 @@ known (Mark p) = (omega arith, omega arith)
 pub apart : (r : Refusal) → (numberOf r ≡ 0 → ⊥) × (numberOf r ≡ done → ⊥)
 apart r = (λ e. omega (arith, known r), λ e. omega (arith, known r))
 
--- what a check or a read gave, told
+-- a refused check or read, told: the arrays stay
 module _ (k : Checked) {ps rs a : List ℕ} where
   pub told-refused : {r : Refusal} {n : ℕ} → k .answer ≡ answer.Refused r → Tells (refuses r) n a → TellsChecked k ps rs n a ps rs
   told-refused e h = record {
     told = told (λ (x : Answer). checkedBy x (k .profile .used)) e h;
-    pointsKept = ap (λ (x : Answer). arrayBy x (k .profile .points) ps) (sym e);
-    rolesKept = ap (λ (x : Answer). arrayBy x (k .profile .roles) rs) (sym e);
-  }
-
-  pub told-accepted : {v m : ℕ} → k .answer ≡ answer.Accepted v m → a ≡ v ∷ m ∷ k .profile .used ∷ 0 ∷ [] → TellsChecked k ps rs 0 a (k .profile .points) (k .profile .roles)
-  told-accepted e h = record {
-    told = told (λ (x : Answer). checkedBy x (k .profile .used)) e (record { number = refl; values = h });
     pointsKept = ap (λ (x : Answer). arrayBy x (k .profile .points) ps) (sym e);
     rolesKept = ap (λ (x : Answer). arrayBy x (k .profile .roles) rs) (sym e);
   }

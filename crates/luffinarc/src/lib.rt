@@ -7,7 +7,8 @@ ghost use mathlib.Core.List.{[], _∷_};
 ghost use mathlib.Core.Option.{none};
 ghost use lib.ListN.{length};
 ghost use Rattle.image.specs.Profile.{profileBy};
-ghost use Rattle.image.specs.Check.{refusalOf, checkOf, readOf, wordsAfter};
+ghost use Rattle.image.specs.Header.{versionOf, rangeCount};
+ghost use Rattle.image.specs.Check.{refusalOf, acceptedOf, checkOf, readOf, wordsAfter};
 ghost use Rattle.writer.specs.Write.{writeOf, bytesAfter};
 ghost use Rattle.lookup.specs.Lookup.{lookupOf};
 ghost use Rattle.pair.specs.Pair.{pairOf};
@@ -23,9 +24,7 @@ ghost use Rattle.luffinarc.specs.TokenReply.{countedReply, takenReply, l
 use changes::Changes;
 use hashtag::Listed;
 use image::Answer;
-use image::Checked;
 use image::MAX_ENTRIES;
-use image::Profile;
 use lookup::Found;
 use pair::Pair;
 use refusal::Refusal;
@@ -53,34 +52,21 @@ fn refuse(r: Refusal, which: u64, answer: &mut [u64; 4]) -> u32
     refusal::number(r)
 }
 
-// Tells what checking or reading an image gave.
-fn tell_checked(
-    checked: Checked,
+// Tells the version, the ranges and the profile of an accepted image.
+fn tell_profile(
+    image: &[u8],
+    version: u32,
+    ranges: usize,
     points: &mut [u32; MAX_ENTRIES],
     roles: &mut [u32; MAX_ENTRIES],
     answer: &mut [u64; 4],
 ) -> u32
-    ensures { λ n. ⌜ TellsChecked checked (now (points .entry)) (now (roles .entry)) n (now (answer .exit)) (now (points .exit)) (now (roles .exit)) ⌝ }
+    requires { ⌜ (refusalOf (now image) ≡ none) × (version ≡ versionOf (now image)) × (ranges ≡ rangeCount (now image)) ⌝ }
+    ensures { λ n. ⌜ TellsChecked (acceptedOf (now (image .entry))) (now (points .entry)) (now (roles .entry)) n (now (answer .exit)) (now (points .exit)) (now (roles .exit)) ⌝ }
 {
-    let a = checked.answer;
-    match a {
-        Answer::Refused(r) => refuse(r, 0, answer),
-        Answer::Accepted { version, ranges } => {
-            let profile = checked.profile;
-            let new_points = profile.points;
-            let new_roles = profile.roles;
-            *points = new_points;
-            *roles = new_roles;
-            put(
-                answer,
-                version as u64,
-                ranges as u64,
-                profile.used as u64,
-                0,
-            );
-            0
-        }
-    }
+    let used = image::put_profile(image, points, roles);
+    put(answer, version as u64, ranges as u64, used as u64, 0);
+    0
 }
 
 // Tells what a lookup gave.
@@ -119,8 +105,13 @@ pub extern "C" fn luffinarc_check(
 ) -> u32
     ensures { λ n. ⌜ TellsChecked (checkOf (now (image .entry))) (now (points .entry)) (now (roles .entry)) n (now (answer .exit)) (now (points .exit)) (now (roles .exit)) ⌝ }
 {
-    let checked = image::check(image);
-    tell_checked(checked, points, roles, answer)
+    let a = image::judge(image);
+    match a {
+        Answer::Refused(r) => refuse(r, 0, answer),
+        Answer::Accepted { version, ranges } => {
+            tell_profile(image, version, ranges, points, roles, answer)
+        }
+    }
 }
 
 // Reads an image: its ranges go into `words`. Answer: version, number of ranges, number of profile entries.
@@ -135,8 +126,13 @@ pub extern "C" fn luffinarc_read(
     ensures { λ n. ⌜ TellsChecked (readOf (now (image .entry)) (length (now (words .entry)))) (now (points .entry)) (now (roles .entry)) n (now (answer .exit)) (now (points .exit)) (now (roles .exit)) ⌝ }
     ensures { λ _. ⌜ now (words .exit) ≡ wordsAfter (now (image .entry)) (now (words .entry)) ⌝ }
 {
-    let checked = image::read(image, words);
-    tell_checked(checked, points, roles, answer)
+    let a = image::read_ranges(image, words);
+    match a {
+        Answer::Refused(r) => refuse(r, 0, answer),
+        Answer::Accepted { version, ranges } => {
+            tell_profile(image, version, ranges, points, roles, answer)
+        }
+    }
 }
 
 // Writes the image with this version, these ranges and this profile. Answer: bytes of the image.
@@ -153,12 +149,7 @@ pub extern "C" fn luffinarc_write<'a>(
     ensures { λ n. ⌜ Tells (writtenReply (writeOf (now (words .entry)) (profileBy (now (points .entry)) (now (roles .entry)) used) (length (now (out .entry))))) n (now (answer .exit)) ⌝ }
     ensures { λ _. ⌜ now (out .exit) ≡ bytesAfter version (now (words .entry)) (profileBy (now (points .entry)) (now (roles .entry)) used) (now (out .entry)) ⌝ }
 {
-    let profile = Profile {
-        points: *points,
-        roles: *roles,
-        used,
-    };
-    let written = writer::write(version, words, profile, out);
+    let written = writer::write_arrays(version, words, points, roles, used, out);
     tell_written(written, answer)
 }
 

@@ -3,3 +3,4 @@ pub mod ForbidLaws
 pub mod RequiredLaws
 pub mod ProfileLaws
 pub mod PairLaws
+pub mod LimitLaws

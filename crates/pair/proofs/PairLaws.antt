@@ -36,7 +36,7 @@ use Rattle.pair.specs.Means.{
   bad-change,
   all-permitted,
 }
-use Rattle.pair.specs.Pair.{forbiddenAt, firstForbidden, differsAt, sameEntries, sameProfile, comparedOf, pairBy, pairOf}
+use Rattle.pair.specs.Pair.{forbiddenAt, firstForbidden, differsAt, sameEntries, sameProfile, comparedOf, pairBy, pairWithin, pairOf}
 use Rattle.compare.specs.Walk.{codePoints}
 use Rattle.pair.specs.declared.Pair.{Pair}
 use Rattle.pair.specs.declared.Pair.the-variants as pair
@@ -141,7 +141,7 @@ module _ (older newer : List ℕ) where
     means-compared false e = other-profile a b (λ s. true≢false (sym (profile-same s) ∙ e))
 
     compared : pairOf older newer ≡ comparedOf older newer
-    unfolding pairOf
+    unfolding pairWithin
     compared = simp (refused-none older a, refused-none newer b)
 
   means-by : (o p : Option Refusal) → refusalOf older ≡ o → refusalOf newer ≡ p → PairMeans older newer (pairBy older newer (judgedBy o p))
@@ -152,12 +152,12 @@ module _ (older newer : List ℕ) where
 
   -- what an answer says
   pub pair-means : (p : Pair) → pairOf older newer ≡ p → PairMeans older newer p
-  unfolding pairOf
+  unfolding pairWithin
   pair-means p e = subst (PairMeans older newer) e (means-by _ _ refl refl)
 
   -- and back: where it is so, that is the answer
   pub means-pair : (p : Pair) → PairMeans older newer p → pairOf older newer ≡ p
-  unfolding pairOf comparedOf
+  unfolding pairWithin comparedOf
   means-pair _ (bad-older {r} m) = simp (means-refusal older (some r) m)
   means-pair _ (bad-newer {r} a m) = simp (refused-none older a, means-refusal newer (some r) m)
   means-pair _ (other-profile a b d) = compared a b ∙ simp (profile-differs d _ refl)

@@ -1,4 +1,5 @@
 -- What the pair check of two images answers (docs/RULES.md, "Permitted changes", and refusals 10 and 11).
+-- `limit` is how many profile entries an image may have; the names without `Within` have the limit in force.
 use Prim.Native.Nat.{ℕ}
 use mathlib.Core.List.{List}
 use mathlib.Core.Bool.{Bool, not, _&&_, _||_, cond}
@@ -6,9 +7,10 @@ use lib.Dec.{ltb, eqb}
 use Rattle.lists.specs.First.{firstWhere}
 use Rattle.utf8.specs.Scalar.{isScalar}
 use Rattle.refusal.specs.declared.Refusal.the-variants as refusal
+use Rattle.image.specs.Limits.{maxEntries}
 use Rattle.image.specs.Header.{entryCount}
 use Rattle.image.specs.Profile.{pointAt, roleAt}
-use Rattle.image.specs.Check.{refusalOf, rangeClass}
+use Rattle.image.specs.Check.{refusalWithin, rangeClass}
 use Rattle.compare.specs.declared.Judged.{Judged}
 use Rattle.compare.specs.declared.Judged.the-variants as judged
 use Rattle.compare.specs.Judged.{judgedBy}
@@ -50,5 +52,8 @@ pairBy older newer (judged.Newer r) = pair.Newer r
 pairBy older newer judged.Accepted = comparedOf older newer
 
 -- the older image is judged wholly, then the newer, then the pair
-unfoldable pub pairOf : List ℕ → List ℕ → Pair
-pairOf older newer = pairBy older newer (judgedBy (refusalOf older) (refusalOf newer))
+unfoldable pub pairWithin : ℕ → List ℕ → List ℕ → Pair
+pairWithin limit older newer = pairBy older newer (judgedBy (refusalWithin limit older) (refusalWithin limit newer))
+
+abbrev pub pairOf : List ℕ → List ℕ → Pair
+pairOf older newer = pairWithin maxEntries older newer

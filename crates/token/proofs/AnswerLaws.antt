@@ -17,7 +17,7 @@ use Rattle.grammar.specs.Scan.{Tok}
 use Rattle.grammar.specs.Grammar.{Kind}
 use Rattle.refusal.specs.Outcome.{Outcome, given, refused, unless, outcomeMap}
 use Rattle.grammar.specs.Record.{recordSize, roomOf, listedWords}
-use Rattle.grammar.specs.Reading.{maxText, readingOf, tokensOf, lengthRefusal, formRefusal, markRefusal, judged, outcomeOf, countOf, roomed, laidBy, writtenOf, listOf, listWords}
+use Rattle.grammar.specs.Reading.{maxText, readingOf, tokensOf, lengthRefusal, formRefusal, markRefusal, judged, outcomeWithin, outcomeOf, countWithin, countOf, roomed, laidBy, writtenWithin, writtenOf, listWithin, listOf, listWordsWithin, listWords}
 use Rattle.grammar.proofs.AnswerLaws.{counts-given, counts-refused, roomed-in, roomed-out}
 use Rattle.scan.specs.declared.Counted.{Counted}
 use Rattle.scan.specs.declared.Counted.the-variants as counted
@@ -44,26 +44,26 @@ given-by s (some r) ts us l e = cc
 module _ (s text : List ℕ) where
   -- 1 to 4
   pub count-refused : {r : Refusal} → refusalOf s ≡ some r → counted.Refused r ≡ countedBy (countOf s text)
-  unfolding countOf outcomeOf
+  unfolding countWithin outcomeWithin
   count-refused e = rw e
 
   module _ (accepted : refusalOf s ≡ none) where
     -- 5
     outcome-long : maxText < length text → outcomeOf s text ≡ refused refusal.TextLength
-    unfolding outcomeOf lengthRefusal
+    unfolding outcomeWithin lengthRefusal
     outcome-long h = rw (accepted, lt-ltb maxText (length text) h)
 
     pub count-long : maxText < length text → counted.Refused refusal.TextLength ≡ countedBy (countOf s text)
-    unfolding countOf
+    unfolding countWithin
     count-long h = rw (outcome-long h)
 
     -- else what is read
     outcome-through : length text ≤ maxText → outcomeOf s text ≡ readThrough s text
-    unfolding outcomeOf lengthRefusal readThrough
+    unfolding outcomeWithin lengthRefusal readThrough
     outcome-through h = rw (accepted, le-ltb maxText (length text) h)
 
     pub count-through : length text ≤ maxText → countThrough s text ≡ countedBy (countOf s text)
-    unfolding countOf countThrough
+    unfolding countWithin countThrough
     count-through h = ap (λ o. countedBy (outcomeMap length o)) (sym (outcome-through h))
 
   -- writing the list, from what the count gives
@@ -73,12 +73,12 @@ module _ (s text : List ℕ) where
     Gives r out′ = (r ≡ countedBy (listOf s text (length out))) × (out′ ≡ listWords s text out)
 
     gives : (o : Outcome (List (Tok Character Kind))) → writtenOf s text (length out) ≡ o → Gives (countedBy (outcomeMap length o)) (laidBy (listedWords text) out o)
-    unfolding listOf listWords
+    unfolding listWithin listWordsWithin
     gives o e = rw e (refl, refl)
 
     -- what refuses the count: nothing is written
     pub list-refused : {r : Refusal} → counted.Refused r ≡ countedBy (countOf s text) → Gives (counted.Refused r) out
-    unfolding countOf writtenOf
+    unfolding countWithin writtenWithin
     list-refused {r} e = gives (refused r) (ap (roomed (length out)) (counts-refused (outcomeOf s text) r (by-refused _ r e)))
 
     module _ (accepted : refusalOf s ≡ none) (n : ℕ) (e : counted.Tokens n ≡ countedBy (countOf s text)) where
@@ -88,7 +88,7 @@ module _ (s text : List ℕ) where
         number : n ≡ length (tokensOf s text)
 
       is-given : Given
-      unfolding countOf readThrough
+      unfolding countWithin readThrough
       is-given = go (decLt maxText (length text))
         where
           go : Dec (maxText < length text) → Given
@@ -100,7 +100,7 @@ module _ (s text : List ℕ) where
 
       -- 8: nothing is written
       pub list-no-room : roomOf (length out) < n → Gives (counted.Refused (refusal.Room n)) out
-      unfolding writtenOf
+      unfolding writtenWithin
       list-no-room h =
           let g = is-given in
           let m = g .number in
@@ -112,7 +112,7 @@ module _ (s text : List ℕ) where
 
         -- all is written
         pub list-given : Gives (counted.Tokens n) (laid out 0 (listedWords text (tokensOf s text)))
-        unfolding writtenOf
+        unfolding writtenWithin
         list-given =
             let g = is-given in
             let m = g .number in

@@ -31,7 +31,7 @@ use Rattle.scan.specs.Counted.{stopRefusal}
 use Rattle.scan.specs.First.{firstIn, firstBy, firstOf}
 use Rattle.token.specs.declared.Taken.{Taken}
 use Rattle.token.specs.declared.Taken.the-variants.{Refused, Done, Token}
-use Rattle.token.specs.Taken.{placeRefusal, stopBy, stopOf, firstAt, tokenAt, takenOf}
+use Rattle.token.specs.Taken.{placeRefusal, stopBy, stopOf, firstAt, tokenAt, takenWithin, takenOf}
 
 -- the first token of a part that begins at a place, at its places in the whole text
 abbrev pub takenBy : List ℕ → ℕ → First → Taken
@@ -129,22 +129,22 @@ first-within s text k e f =
 module _ (s text : List ℕ) (place : ℕ) where
   -- 1 to 4
   pub taken-refused : {r : Refusal} → refusalOf s ≡ some r → Refused r ≡ takenOf s text place
-  unfolding takenOf
+  unfolding takenWithin
   taken-refused e = rw e
 
   module _ (accepted : refusalOf s ≡ none) where
     -- 5
     pub taken-long : maxText < length text → Refused refusal.TextLength ≡ takenOf s text place
-    unfolding takenOf lengthRefusal
+    unfolding takenWithin lengthRefusal
     taken-long h = rw (accepted, lt-ltb maxText (length text) h)
 
     module _ (short : length text ≤ maxText) where
       -- 13
       pub taken-past : length text < place → Refused refusal.Shape ≡ takenOf s text place
-      unfolding takenOf lengthRefusal placeRefusal
+      unfolding takenWithin lengthRefusal placeRefusal
       taken-past h = rw (accepted, le-ltb maxText (length text) short, lt-ltb (length text) place h)
 
       -- else what stands at the place
       pub taken-first : place ≤ length text → (f : First) → firstOf s (drop place text) ≡ f → takenBy text place f ≡ takenOf s text place
-      unfolding takenOf lengthRefusal placeRefusal
+      unfolding takenWithin lengthRefusal placeRefusal
       taken-first h f e = rw (accepted, le-ltb maxText (length text) short, le-ltb (length text) place h) (ap (takenBy text place) (sym e) ∙ sym (token-at s text place h))

@@ -1,4 +1,5 @@
 -- One token at a place (docs/RULES.md, "Tokens" and "Named refusals").
+-- `limit` is how many profile entries an image may have; the names without `Within` have the limit in force.
 use Prim.Native.Nat.{ℕ, _+_, _-_}
 use mathlib.Core.Bool.{not, _&&_, cond}
 use mathlib.Core.List.{List, [], _∷_}
@@ -11,7 +12,8 @@ use Rattle.utf8.specs.declared.Text.{Text}
 use Rattle.utf8.specs.declared.Text.the-variants.{WellFormed, IllFormed}
 use Rattle.utf8.specs.Subpart.{subpartOf}
 use Rattle.utf8.specs.Text.{Character, textOf}
-use Rattle.image.specs.Check.{refusalOf}
+use Rattle.image.specs.Limits.{maxEntries}
+use Rattle.image.specs.Check.{refusalWithin}
 use Rattle.grammar.specs.Scan.{Tok}
 use Rattle.grammar.specs.Grammar.{Kind}
 use Rattle.grammar.specs.Kinds.{kindNumber}
@@ -51,6 +53,9 @@ tokenAt s text place =
     (cond (eqb place (length text)) Done (firstAt place (tokensOf s (take (q - place) (drop place text)))))
 
 -- 1 to 4 of the image, then 5, then 13 for the place; else what stands there
-unfoldable pub takenOf : List ℕ → List ℕ → ℕ → Taken
-takenOf s text place =
-    unlessTaken (refusalOf s) (unlessTaken (lengthRefusal text) (unlessTaken (placeRefusal text place) (tokenAt s text place)))
+unfoldable pub takenWithin : ℕ → List ℕ → List ℕ → ℕ → Taken
+takenWithin limit s text place =
+    unlessTaken (refusalWithin limit s) (unlessTaken (lengthRefusal text) (unlessTaken (placeRefusal text place) (tokenAt s text place)))
+
+abbrev pub takenOf : List ℕ → List ℕ → ℕ → Taken
+takenOf s text place = takenWithin maxEntries s text place

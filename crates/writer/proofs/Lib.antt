@@ -3,3 +3,4 @@ pub mod LayLaws
 pub mod PartLaws
 pub mod WriteLaws
 pub mod RoundTrip
+pub mod LimitLaws

@@ -22,7 +22,7 @@ use Rattle.image.specs.Limits.{maxRanges, maxEntries, wordBytes, headerBytes, r
 use Rattle.image.specs.Word.{AllBytes, AllWords, IsWord, wordAt}
 use Rattle.image.specs.Header.{versionOf, rangeCount, entryCount, format, entriesAt, imageEnd}
 use Rattle.image.specs.Ranges.{rangeAt, rangeIn, rangeWords}
-use Rattle.image.specs.Profile.{pointAt, roleAt, pointIn, roleIn, goodEntry, firstBadEntry, profileOf}
+use Rattle.image.specs.Profile.{pointAt, roleAt, pointIn, roleIn, goodEntry, firstBadEntry, profileWithin, profileOf}
 use Rattle.image.specs.Good.{GoodRange, GoodEntry}
 use Rattle.image.specs.Image.{headerWords, entryWords, imageWords, bytesOfAll, imageOf}
 use Rattle.image.specs.Check.{recordsRefusal, refusalOf, readOf, rangesOf, wordsAfter}
@@ -33,8 +33,9 @@ use Rattle.image.proofs.ImageLaws.{accepted, refused-none, accepted-size, entry
 use Rattle.image.proofs.ReadLaws.{means-read}
 use Rattle.writer.specs.declared.Written.the-variants as written
 use Rattle.writer.specs.Writable.{Shaped, Writable, is-written}
-use Rattle.writer.specs.Back.{SameEntries, ReadBack}
-use Rattle.writer.specs.Write.{rangesIn, bytesNeeded, writeRefusal, writtenBy, writeOf, bytesBy, bytesAfter}
+use Rattle.image.specs.Same.{SameEntries}
+use Rattle.writer.specs.Back.{ReadBack}
+use Rattle.writer.specs.Write.{rangesIn, bytesNeeded, writeRefusalWithin, writtenBy, writeWithin, writeOf, bytesBy, bytesWithin, bytesAfter}
 use Rattle.writer.proofs.WordLaws.{word-is, wordsFrom, bytes-from, bytes-each, all-append}
 use Rattle.writer.proofs.PartLaws.{wordsOf, whole, words-back, image-words, length-words, length-image}
 use Rattle.writer.proofs.WriteLaws.{means-write, written-means}
@@ -178,7 +179,7 @@ module _
 
     -- reading back what was written
     pub read-back : ReadBack version words p image
-    unfolding profileOf
+    unfolding profileWithin
     read-back =
         let u = used-back in
         record {
@@ -189,10 +190,10 @@ module _
           same-entries =
               record {
                 count = sym u;
-                point = λ i l. sym (entry-read image i (omega arith) .0 ∙ point-back i l);
-                role = λ i l. sym (entry-read image i (omega arith) .1 ∙ role-back i l);
+                point = λ i l. sym (entry-read maxEntries image i (omega arith) .0 ∙ point-back i l);
+                role = λ i l. sym (entry-read maxEntries image i (omega arith) .1 ∙ role-back i l);
               };
-          zeros = λ i l. zeros-past image i (omega arith);
+          zeros = λ i l. zeros-past maxEntries image i (omega arith);
         }
 
 -- an image depends on the ranges below n and on the entries before the used length only
@@ -207,7 +208,7 @@ image-same v f g n p q e h =
     ap bytesOfAll (λ d. headerWords v n (h .count d) ++ (r d ++ u d))
 
 -- the writer doesn't look at entries past the used length: same answer, same bytes
-module _ (words : List ℕ) (p q : Profile) (h : SameEntries p q) where
+module _ (limit : ℕ) (words : List ℕ) (p q : Profile) (h : SameEntries p q) where
   bad-same : firstBadEntry (pointIn p) (roleIn p) (p .used) ≡ firstBadEntry (pointIn q) (roleIn q) (q .used)
   unfolding firstBadEntry
   bad-same =
@@ -215,21 +216,21 @@ module _ (words : List ℕ) (p q : Profile) (h : SameEntries p q) where
       (λ i l. ap not (good-entry-same (pointIn p) (pointIn q) (roleIn p) (roleIn q) i (h .point i l) (h .point (i - 1) (omega arith)) (h .role i l)))
       ∙ ap (λ (k : ℕ). firstWhere (λ (i : ℕ). not (goodEntry (pointIn q) (roleIn q) i)) k) (h .count)
 
-  refusal-same : (room : ℕ) → writeRefusal words p room ≡ writeRefusal words q room
-  unfolding writeRefusal recordsRefusal
+  refusal-same : (room : ℕ) → writeRefusalWithin limit words p room ≡ writeRefusalWithin limit words q room
+  unfolding writeRefusalWithin recordsRefusal
   refusal-same room = rw (bad-same, h .count)
 
-  pub answer-same : (room : ℕ) → writeOf words p room ≡ writeOf words q room
-  unfolding writeOf
-  answer-same room = ap (writtenBy words p) (refusal-same room) ∙ go (writeRefusal words q room)
+  pub answer-same : (room : ℕ) → writeWithin limit words p room ≡ writeWithin limit words q room
+  unfolding writeWithin
+  answer-same room = ap (writtenBy words p) (refusal-same room) ∙ go (writeRefusalWithin limit words q room)
     where
       go : (o : Option Refusal) → writtenBy words p o ≡ writtenBy words q o
       go none = ap (λ (k : ℕ). written.Image (imageEnd (rangesIn words) k)) (h .count)
       go (some r) = refl
 
-  pub bytes-same : (version : ℕ) (out : List ℕ) → bytesAfter version words p out ≡ bytesAfter version words q out
-  unfolding bytesAfter
-  bytes-same version out = ap (bytesBy version words p out) (refusal-same (length out)) ∙ go (writeRefusal words q (length out))
+  pub bytes-same : (version : ℕ) (out : List ℕ) → bytesWithin limit version words p out ≡ bytesWithin limit version words q out
+  unfolding bytesWithin
+  bytes-same version out = ap (bytesBy version words p out) (refusal-same (length out)) ∙ go (writeRefusalWithin limit words q (length out))
     where
       go : (o : Option Refusal) → bytesBy version words p out o ≡ bytesBy version words q out o
       go none = ap (laid out 0) (image-same version (rangeIn words) (rangeIn words) (rangesIn words) p q (λ i l. refl) h)
@@ -264,12 +265,12 @@ module _ (s : List ℕ) (b : AllBytes s) (a : refusalOf s ≡ none) where
       (rangeCount s) 0 headerBytes (omega arith) (omega arith)
 
   entry-bytes : bytesOfAll (each (entryWords (profileOf s)) (entryCount s)) ≡ take (entryBytes * entryCount s) (drop (entriesAt (rangeCount s)) s)
-  unfolding each profileOf pointAt roleAt
+  unfolding each profileWithin pointAt roleAt
   entry-bytes =
       let l = size in
       let m = entryCount s in
       let f : ℕ → List ℕ = λ j. pointAt s j ∷ roleAt s j ∷ [] in
-      ap bytesOfAll (each-same (entryWords (profileOf s)) f m 0 (λ i _ u. let (p, r) = entry-read s i (omega arith) in λ d. p d ∷ r d ∷ []))
+      ap bytesOfAll (each-same (entryWords (profileOf s)) f m 0 (λ i _ u. let (p, r) = entry-read maxEntries s i (omega arith) in λ d. p d ∷ r d ∷ []))
       ∙ bytes-each s b f 2 entryBytes (entriesAt (rangeCount s)) refl (λ j. refl) m 0 (entriesAt (rangeCount s)) (omega arith) (omega arith)
 
   cut :
@@ -287,7 +288,7 @@ module _ (s : List ℕ) (b : AllBytes s) (a : refusalOf s ≡ none) where
 
   -- an accepted image is the image of what is read from it
   pub image-read : imageOf (versionOf s) (rangeAt s) (rangeCount s) (profileOf s) ≡ s
-  unfolding imageOf imageWords profileOf
+  unfolding imageOf imageWords profileWithin
   image-read =
       let hd = headerWords (versionOf s) (rangeCount s) (entryCount s) in
       let es = each (entryWords (profileOf s)) (entryCount s) in
@@ -319,11 +320,11 @@ module _ (s : List ℕ) (b : AllBytes s) (a : refusalOf s ≡ none) where
 
   -- what was read from an accepted image may be written
   pub may-rewrite : Writable (rangesOf s) (profileOf s)
-  unfolding profileOf
+  unfolding profileWithin
   may-rewrite =
       let k = accepted s a in
       let n = count-read in
-      let e = entry-read s in
+      let e = entry-read maxEntries s in
       record {
         counted =
             record {
@@ -400,7 +401,7 @@ read-gives version words p s buffer k l =
 pub write-again :
     (s : List ℕ) → AllBytes s → refusalOf s ≡ none → (out : List ℕ) → length s ≤ length out
     → (writeOf (rangesOf s) (profileOf s) (length out) ≡ written.Image (length s)) × (bytesAfter (versionOf s) (rangesOf s) (profileOf s) out ≡ laid out 0 s)
-unfolding profileOf
+unfolding profileWithin
 write-again s b a out l =
     let z : bytesNeeded (rangesOf s) (profileOf s) ≡ length s = omega (arith, count-read s b a, accepted-size s a) in
     let (e, f) = means-write (versionOf s) (rangesOf s) (profileOf s) out _ _ (is-written (may-rewrite s b a) (omega arith)) in

@@ -31,7 +31,7 @@ use Rattle.writer.specs.Writable.{
   lacks-room,
   is-written,
 }
-use Rattle.writer.specs.Write.{rangesIn, bytesNeeded, writeRefusal, writtenBy, writeOf, bytesBy, bytesAfter}
+use Rattle.writer.specs.Write.{rangesIn, bytesNeeded, writeRefusalWithin, writeRefusal, writtenBy, writeWithin, writeOf, bytesBy, bytesWithin, bytesAfter}
 
 module _ (words : List ℕ) (p : Profile) (room : ℕ) where
   -- what is left to refuse after the records, each count and the shape
@@ -48,7 +48,7 @@ module _ (words : List ℕ) (p : Profile) (room : ℕ) where
   afterShape = cond (leb (rangesIn words) maxRanges) afterFirst (some refusal.Header)
 
   past-shape : Shaped words → writeRefusal words p room ≡ afterShape
-  unfolding writeRefusal
+  unfolding writeRefusalWithin
   past-shape t = simp (eq-eqb (length words % wordsPerRange) 0 t)
 
   pub past-counts : Counted words p → writeRefusal words p room ≡ afterCounts
@@ -63,7 +63,7 @@ module _ (words : List ℕ) (p : Profile) (room : ℕ) where
 
   -- the answer, where it is known what refuses
   pub answer-by : (o : Option Refusal) → writeRefusal words p room ≡ o → writtenBy words p o ≡ writeOf words p room
-  unfolding writeOf
+  unfolding writeWithin
   answer-by o e = ap (writtenBy words p) (sym e)
 
 module _ (version : ℕ) (words : List ℕ) (p : Profile) (out : List ℕ) where
@@ -97,19 +97,19 @@ module _ (version : ℕ) (words : List ℕ) (p : Profile) (out : List ℕ) where
 
   -- what the answer and the buffer say
   pub write-means : (a : Written) (b : List ℕ) → writeOf words p room ≡ a → bytesAfter version words p out ≡ b → WriteMeans version words p out a b
-  unfolding writeOf bytesAfter writeRefusal
+  unfolding writeWithin bytesWithin writeRefusalWithin
   write-means a b e f = rw (← e, ← f) (by-shape _ refl)
 
   write-by :
       (o : Option Refusal) → writeRefusal words p room ≡ o
       → (writeOf words p room ≡ writtenBy words p o) × (bytesAfter version words p out ≡ bytesBy version words p out o)
-  unfolding writeOf bytesAfter
+  unfolding writeWithin bytesWithin
   write-by o e = (ap (writtenBy words p) e, ap (bytesBy version words p out) e)
 
   -- and back: where it is so, those are they
   pub means-write :
       (a : Written) (b : List ℕ) → WriteMeans version words p out a b → (writeOf words p room ≡ a) × (bytesAfter version words p out ≡ b)
-  unfolding writeRefusal
+  unfolding writeRefusalWithin
   means-write _ _ (bad-shape n) = write-by (some refusal.Shape) (simp (ne-eqb (length words % wordsPerRange) 0 n))
   means-write _ _ (many-ranges t l) = write-by (some refusal.Header) (past-shape words p room t ∙ simp (lt-leb _ _ l))
   means-write _ _ (many-entries t l) =

@@ -1,19 +1,14 @@
 -- What reading gives back of what was written (demand 2; docs/RULES.md, "The class image").
-use Prim.Native.Nat.{ℕ, _≤_, _<_}
+use Prim.Native.Nat.{ℕ, _≤_}
 use mathlib.Core.Path.{_≡_}
 use mathlib.Core.List.{List}
 use mathlib.Core.Option.{none}
 use Rattle.image.specs.declared.Profile.{Profile}
 use Rattle.image.specs.Header.{versionOf, rangeCount}
 use Rattle.image.specs.Profile.{pointIn, roleIn, profileOf}
+use Rattle.image.specs.Same.{SameEntries}
 use Rattle.image.specs.Check.{refusalOf, rangesOf}
 use Rattle.writer.specs.Write.{rangesIn}
-
--- profiles are the same if the used lengths and the entries before them are
-pub record SameEntries (p q : Profile) : Type 0 where
-  pub count : p .used ≡ q .used
-  pub point : (i : ℕ) → i < p .used → pointIn p i ≡ pointIn q i
-  pub role : (i : ℕ) → i < p .used → roleIn p i ≡ roleIn q i
 
 -- what an image gives back
 pub record ReadBack (version : ℕ) (words : List ℕ) (p : Profile) (s : List ℕ) : Type 0 where

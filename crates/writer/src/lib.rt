@@ -228,17 +228,38 @@ fn judge<'a>(
     Written::Image { len }
 }
 
-// Writes the image with this version, these ranges and this profile at the front of `out`, or leaves `out` as it was.
-pub fn write(version: u32, words: &[u32], profile: Profile, out: &mut [u8]) -> Written
-    ensures { λ r. ⌜ (r ≡ writeOf (now (words .entry)) profile (length (now (out .entry)))) × (now (out .exit) ≡ bytesAfter version (now (words .entry)) profile (now (out .entry))) ⌝ }
+// Writes the image with this version, these ranges and the first `used` profile entries at the front of `out`, or leaves
+// `out` as it was.
+pub fn write_arrays<'a>(
+    version: u32,
+    words: &[u32],
+    points: &'a [u32; MAX_ENTRIES],
+    roles: &'a [u32; MAX_ENTRIES],
+    used: usize,
+    out: &mut [u8],
+) -> Written
+    ensures { λ r. ⌜ (r ≡ writeOf (now (words .entry)) (profileBy (now (points .entry)) (now (roles .entry)) used) (length (now (out .entry)))) × (now (out .exit) ≡ bytesAfter version (now (words .entry)) (profileBy (now (points .entry)) (now (roles .entry)) used) (now (out .entry))) ⌝ }
 {
-    let m = profile.used;
-    let answer = judge(words, &profile.points, &profile.roles, m, out.len());
+    let answer = judge(words, points, roles, used, out.len());
     match answer {
         Written::Refused(r) => Written::Refused(r),
         Written::Image { len } => {
-            put_image(version, words, &profile.points, &profile.roles, m, out);
+            put_image(version, words, points, roles, used, out);
             Written::Image { len }
         }
     }
+}
+
+// As `write_arrays`, of a profile record.
+pub fn write(version: u32, words: &[u32], profile: Profile, out: &mut [u8]) -> Written
+    ensures { λ r. ⌜ (r ≡ writeOf (now (words .entry)) profile (length (now (out .entry)))) × (now (out .exit) ≡ bytesAfter version (now (words .entry)) profile (now (out .entry))) ⌝ }
+{
+    write_arrays(
+        version,
+        words,
+        &profile.points,
+        &profile.roles,
+        profile.used,
+        out,
+    )
 }

@@ -70,10 +70,23 @@ fn on_the_texts() {
         [(0x2D, Role::Medial), (0x2E, Role::Medial), (0x5F, Role::Start), (0xB7, Role::Medial)];
     for sample in texts::all() {
         assert_eq!(sample.text.len(), texts::LENGTH);
-        let counts = [&[][..], &texts::MEDIALS, &more]
+        let counts = [sample.profile, &[], &texts::MEDIALS, &more]
             .map(|profile| agree(&with_profile(profile), sample.name, &sample.text));
         assert!(counts.iter().all(|&count| count > 50_000), "{}: {counts:?}", sample.name);
     }
+}
+
+/// Most characters of the text of entries are entries of its profile, which changes no token.
+#[test]
+fn text_of_entries() {
+    let text = texts::of_entries();
+    let entry = |c: &char| texts::LETTERS.iter().any(|entry| entry.0 == u32::from(*c));
+    let (entries, all) = (text.chars().filter(entry).count(), text.chars().count());
+    assert!(3 * entries > 2 * all, "{entries} of {all}");
+    assert!(texts::LETTERS.iter().all(|entry| text.contains(char::from_u32(entry.0).unwrap())));
+    let lists =
+        [&texts::LETTERS[..], &[]].map(|profile| read(&with_profile(profile), text.as_bytes()));
+    assert!(lists[0].is_ok() && lists[0] == lists[1]);
 }
 
 /// On short texts with marks, under images in which the same few characters have any class and role.

@@ -81,10 +81,12 @@ fn given_role(number: u32) -> Option<Role> {
 ///
 /// The refusal of the older image, else of the newer; none of the pair.
 pub fn list_changes(older: &[u8], newer: &[u8]) -> Result<Changes, PairRefusal> {
-    // A run begins at a range's first code point or after its last, and a range has twelve bytes: this is room for all.
-    let ranges = (older.len() + newer.len()) / (4 * RANGE_WORDS);
+    // A run begins at a range's first code point or after its last. A range has twelve bytes, a profile entry eight:
+    // this is room for all.
+    let bytes = older.len() + newer.len();
+    let (ranges, changed) = (bytes / (4 * RANGE_WORDS), bytes / 8);
     let mut runs = vec![0; RUN_WORDS * (2 * ranges).min(MAX_RUNS)];
-    let mut entries = [0; CHANGED_ENTRY_WORDS * MAX_CHANGED_ENTRIES];
+    let mut entries = vec![0; CHANGED_ENTRY_WORDS * changed.min(MAX_CHANGED_ENTRIES)];
     let mut answer = Answer::default();
     let number = calls::changes(older, newer, &mut runs, &mut entries, &mut answer);
     let [run_count, entry_count, ..] = pair_result(number, answer)?;

@@ -3,12 +3,13 @@
 use crate::calls::{self, Answer, Entries};
 use crate::names::{Class, Role};
 use crate::refusal::{pair_result, result, PairRefusal, Refusal};
+use std::fmt;
 
 /// The most ranges that an image may have.
 pub const MAX_RANGES: usize = 4096;
 
 /// The most profile entries that an image may have.
-pub const MAX_ENTRIES: usize = 64;
+pub const MAX_ENTRIES: usize = 512;
 
 /// The bytes of the largest image.
 pub const MAX_IMAGE: usize = 32 + 12 * MAX_RANGES + 8 * MAX_ENTRIES;
@@ -32,8 +33,8 @@ pub struct Range {
     pub class: Class,
 }
 
-/// A profile: code points with roles.
-#[derive(Clone, Copy, Debug)]
+/// A profile: code points with roles. It has room for [`MAX_ENTRIES`], some 4 KiB, and is not copied unasked.
+#[derive(Clone)]
 pub struct Profile {
     points: Entries,
     roles: Entries,
@@ -67,6 +68,14 @@ impl Default for Profile {
     }
 }
 
+/// Shows the entries alone.
+impl fmt::Debug for Profile {
+    fn fmt(&self, f: &mut fmt::Formatter) -> fmt::Result {
+        f.write_str("Profile ")?;
+        f.debug_list().entries(self.entries()).finish()
+    }
+}
+
 impl PartialEq for Profile {
     fn eq(&self, other: &Profile) -> bool {
         self.used == other.used && self.entries().eq(other.entries())
@@ -91,11 +100,10 @@ pub struct Image<'a> {
     bytes: &'a [u8],
 }
 
-/// All that an image holds.
+/// What an image holds beside its profile.
 struct Contents {
     version: u32,
     words: Vec<u32>,
-    profile: Profile,
 }
 
 impl<'a> Image<'a> {
@@ -116,34 +124,37 @@ impl<'a> Image<'a> {
         self.bytes
     }
 
-    /// Reads the image.
-    fn read(&self) -> Contents {
+    /// Reads the image; its profile takes the place of the one given.
+    fn read(&self, profile: &mut Profile) -> Contents {
         let mut words = vec![0; RANGE_WORDS * MAX_RANGES];
-        let (mut profile, mut answer) = (Profile::default(), Answer::default());
+        let mut answer = Answer::default();
         let (points, roles) = (&mut profile.points, &mut profile.roles);
         let number = calls::read(self.bytes, &mut words, points, roles, &mut answer);
         assert_eq!(number, 0, "an accepted image is read, and its ranges have room");
         let [version, ranges, used, _] = answer;
         words.truncate(RANGE_WORDS * ranges as usize);
         profile.used = used as usize;
-        Contents { version: version as u32, words, profile }
+        Contents { version: version as u32, words }
     }
 
     /// The version word. As [`profile`](Image::profile) and [`ranges`](Image::ranges), it is read from the bytes when it
     /// is asked for.
     pub fn version(&self) -> u32 {
-        self.read().version
+        self.read(&mut Profile::default()).version
     }
 
     /// The profile.
     pub fn profile(&self) -> Profile {
-        self.read().profile
+        let mut profile = Profile::default();
+        self.read(&mut profile);
+        profile
     }
 
     /// The ranges, rising.
     pub fn ranges(&self) -> Vec<Range> {
         let range = |w: &[u32]| Range { first: w[0], last: w[1], class: given_class(w[2]) };
-        self.read().words.chunks_exact(RANGE_WORDS).map(range).collect()
+        let words = self.read(&mut Profile::default()).words;
+        words.chunks_exact(RANGE_WORDS).map(range).collect()
     }
 
     /// The class of a number after the profile, and how many ranges were looked at.

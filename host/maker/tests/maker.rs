@@ -238,6 +238,22 @@ fn profiles() {
     assert_eq!(image.version, 0x100000);
 }
 
+/// As many entries as an image may have, and the profile for Thai and Tibetan.
+#[test]
+fn large_profiles() {
+    let room = room("large-profiles");
+    let (folder, file, out) = (copy(&room), room.join("profile"), room.join("image"));
+    let most = luffinarc::MAX_ENTRIES;
+    let lines: String = (0..most).map(|i| format!("{:X} 3\n", 0x100 + i)).collect();
+    fs::write(&file, lines).unwrap();
+    let thai_tibetan = format!("{DATA}/profiles/thai-tibetan.profile");
+    for (file, count) in [(&file, most), (&thai_tibetan.into(), 74)] {
+        assert!(run("16.0.0", &folder, Some(file), &out).status.success());
+        let image = luffinarc_reader::image::parse(&fs::read(&out).unwrap()).unwrap();
+        assert_eq!(image.profile.entries().len(), count);
+    }
+}
+
 #[test]
 fn command_line_and_output() {
     let room = room("command");

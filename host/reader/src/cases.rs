@@ -7,7 +7,8 @@ mod tally;
 mod texts;
 
 pub use images::{
-    damaged_image, hashtag_image, image_of, large_image, marked_images, small_image, valid_image,
+    damaged_image, hashtag_image, image_of, large_image, marked_images, small_image, spread_image,
+    valid_image,
 };
 pub use pairs::{forbidden_change, most_changes, permitted_changes, unequal_profile};
 pub use tally::Tally;
@@ -223,7 +224,7 @@ pub fn write_case(rng: &mut Rng) -> WriteCase {
     while rng.once_in(2) {
         spoil(rng, &mut words, &mut profile);
     }
-    let used = profile.used.min(100) as usize;
+    let used = (profile.used as usize).min(MAX_ENTRIES + 1);
     let length = room(rng, total_length(words.len() / RANGE_WORDS, used));
     WriteCase { version: rng.word(), words, profile, length }
 }

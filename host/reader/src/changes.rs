@@ -1,6 +1,6 @@
 //! What changed between two images, by going through every scalar value.
 
-use crate::image::{parse, Image, CODE_POINTS};
+use crate::image::{parse, Image, CODE_POINTS, MAX_ENTRIES};
 use crate::refusal::{PairRefusal, Refusal};
 use crate::utf8::is_scalar;
 
@@ -12,7 +12,7 @@ pub const CHANGED_ENTRY_WORDS: usize = 3;
 
 /// The most runs and changed entries.
 pub const MAX_RUNS: usize = 16_383;
-pub const MAX_CHANGED_ENTRIES: usize = 128;
+pub const MAX_CHANGED_ENTRIES: usize = 2 * MAX_ENTRIES;
 
 type Run = [u32; RUN_WORDS];
 type Entry = [u32; CHANGED_ENTRY_WORDS];

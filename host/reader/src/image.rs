@@ -6,8 +6,8 @@ use crate::utf8::is_scalar;
 
 /// The most ranges and profile entries of an image, and its most bytes.
 pub const MAX_RANGES: usize = 4096;
-pub const MAX_ENTRIES: usize = 64;
-pub const MAX_IMAGE: usize = 49_696;
+pub const MAX_ENTRIES: usize = 512;
+pub const MAX_IMAGE: usize = total_length(MAX_RANGES, MAX_ENTRIES);
 
 /// The bytes of the header, of a range and of a profile entry.
 pub const HEADER_BYTES: usize = 32;
@@ -24,12 +24,12 @@ pub const RANGE_WORDS: usize = 3;
 pub const CODE_POINTS: usize = 0x110000;
 
 /// The bytes before the profile of an image with so many ranges.
-pub fn profile_offset(ranges: usize) -> usize {
+pub const fn profile_offset(ranges: usize) -> usize {
     HEADER_BYTES + RANGE_BYTES * ranges
 }
 
 /// The bytes of an image with so many ranges and profile entries.
-pub fn total_length(ranges: usize, entries: usize) -> usize {
+pub const fn total_length(ranges: usize, entries: usize) -> usize {
     profile_offset(ranges) + ENTRY_BYTES * entries
 }
 
@@ -69,7 +69,7 @@ impl Profile {
 }
 
 /// An accepted image.
-#[derive(Clone, Debug)]
+#[derive(Clone, Debug, PartialEq, Eq)]
 pub struct Image {
     pub version: u32,
     pub ranges: Vec<Range>,
@@ -175,9 +175,9 @@ fn check_profile(entries: &[(u32, u32)]) -> Result<(), Refusal> {
     Ok(())
 }
 
-/// The range count and profile count of a good header.
-fn check_header(image: &[u8]) -> Result<(usize, usize), Refusal> {
-    if image.len() < HEADER_BYTES || image.len() > MAX_IMAGE {
+/// The range count and profile count of a good header, with at most so many entries.
+fn check_header(most: usize, image: &[u8]) -> Result<(usize, usize), Refusal> {
+    if image.len() < HEADER_BYTES || image.len() > total_length(MAX_RANGES, most) {
         return Err(Refusal::Length);
     }
     let word = words_of(&image[..HEADER_BYTES]);
@@ -185,7 +185,7 @@ fn check_header(image: &[u8]) -> Result<(usize, usize), Refusal> {
         return Err(Refusal::Length);
     }
     let (n, m) = (word[3] as usize, word[5] as usize);
-    if word[0] != FORMAT || word[7] != 0 || n > MAX_RANGES || m > MAX_ENTRIES {
+    if word[0] != FORMAT || word[7] != 0 || n > MAX_RANGES || m > most {
         return Err(Refusal::Header);
     }
     let offsets = word[4] as usize == HEADER_BYTES && word[6] as usize == profile_offset(n);
@@ -204,7 +204,13 @@ fn ranges_of(words: &[u32]) -> Vec<Range> {
 
 /// The whole image, or the first of refusals 1 to 4.
 pub fn parse(image: &[u8]) -> Result<Image, Refusal> {
-    let (n, _) = check_header(image)?;
+    parse_within(MAX_ENTRIES, image)
+}
+
+/// The same, of a reader that takes at most so many entries. No more than `MAX_ENTRIES` have room in the record.
+pub fn parse_within(most: usize, image: &[u8]) -> Result<Image, Refusal> {
+    assert!(most <= MAX_ENTRIES);
+    let (n, _) = check_header(most, image)?;
     let words = words_of(image);
     let (front, back) = words.split_at(profile_offset(n) / 4);
     let ranges = ranges_of(&front[HEADER_BYTES / 4..]);

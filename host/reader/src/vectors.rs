@@ -206,6 +206,15 @@ fn run(calls: &impl Calls, call: &str, args: &[&str]) -> Option<String> {
     })
 }
 
+/// All that the vectors hold as bytes, in arguments and answers, of at least so many.
+pub fn all_bytes(least: usize) -> Vec<Vec<u8>> {
+    let is_hex =
+        |field: &&str| field.len() >= 2 * least && field.bytes().all(|b| b.is_ascii_hexdigit());
+    let read = |file: &&str| std::fs::read_to_string(format!("{FOLDER}{file}")).unwrap();
+    let files: Vec<String> = FILES.iter().map(read).collect();
+    files.iter().flat_map(|file| file.split_whitespace()).filter(is_hex).map(bytes).collect()
+}
+
 /// Runs every vector of a file, adds how many of each call were run, and gives the number of wrong answers.
 fn run_file(calls: &impl Calls, file: &str, counts: &mut BTreeMap<String, usize>) -> usize {
     let vectors = std::fs::read_to_string(format!("{FOLDER}{file}")).unwrap();

@@ -2,7 +2,9 @@
 
 use luffinarc_reader::changes::changes_of;
 use luffinarc_reader::class::{NONSTART, OTHER, START, SYNTAX, WHITE};
-use luffinarc_reader::image::{profile_offset, MAX_IMAGE, MAX_RANGES, RANGE_BYTES};
+use luffinarc_reader::image::{
+    parse, parse_within, profile_offset, Image, MAX_ENTRIES, MAX_IMAGE, MAX_RANGES, RANGE_BYTES,
+};
 use luffinarc_reader::lister::MAX_SCRIPT;
 use luffinarc_reader::record::RECORD_WORDS;
 use luffinarc_reader::token::MAX_TEXT;
@@ -292,6 +294,28 @@ fn counts_at_their_limits() {
     over[12..16].copy_from_slice(&(most + 1).to_le_bytes());
     over[24..28].copy_from_slice(&total.to_le_bytes());
     assert_eq!(check(&over), Err(Refusal::Header));
+}
+
+/// The limit of entries bears on 1 and 2 alone: an image is refused by its length, else by its count.
+#[test]
+fn limits_of_entries() {
+    assert_eq!((MAX_ENTRIES, MAX_IMAGE), (512, 53_280));
+    let words: Vec<u32> = (0..MAX_RANGES as u32).flat_map(|i| [2 * i, 2 * i, START]).collect();
+    let made = |words: &[u32], m: u32| {
+        image(1, words, &(0..m).map(|i| (3 * i, role::MEDIAL)).collect::<Vec<_>>())
+    };
+    let cases = [(0, 64, 544, 0), (0, 65, 552, 2), (4096, 64, 49_696, 0), (4096, 65, 49_704, 1)];
+    for (n, m, bytes, of_64) in cases {
+        let image = made(&words[..3 * n], m);
+        assert_eq!(image.len(), bytes);
+        let number = |read: &Result<Image, Refusal>| read.as_ref().err().map_or(0, Refusal::number);
+        assert_eq!(number(&parse_within(64, &image)), of_64);
+        let read = parse(&image);
+        assert_eq!(number(&read), 0);
+        assert_eq!(parse_within(m as usize, &image), read);
+    }
+    let long = Profile { used: 513, ..Profile::of(&[]) };
+    assert_eq!(write(1, &[], &long, &mut [0; 9000]), Err(Refusal::Header));
 }
 
 #[test]

@@ -44,12 +44,39 @@ fn pair_values<const N: usize>(number: u32, answer: Answer) -> Result<[u64; N], 
     })
 }
 
-/// The profile that a call gave; after a refusal the arrays are as they were.
-fn profile(number: u32, points: Entries, roles: Entries, answer: Answer) -> Profile {
-    if number != 0 {
-        assert!(points == OLD_POINTS && roles == OLD_ROLES, "a refused call changes nothing");
+/// The arrays of a profile, lent to a call.
+struct Arrays {
+    points: Lent<u32>,
+    roles: Lent<u32>,
+}
+
+impl Arrays {
+    fn new(points: &Entries, roles: &Entries) -> Arrays {
+        Arrays { points: Lent::new(points, 0xAA), roles: Lent::new(roles, 0xAA) }
     }
-    Profile { points, roles, used: answer[2] as u32 }
+
+    fn both(&mut self) -> (&mut Entries, &mut Entries) {
+        let (points, roles) = (self.points.slice_mut(), self.roles.slice_mut());
+        (points.try_into().unwrap(), roles.try_into().unwrap())
+    }
+
+    /// The profile that a call gave; after a refusal the arrays are as they were.
+    fn profile(self, number: u32, answer: Answer) -> Profile {
+        let mut profile = Profile { used: answer[2] as u32, ..Profile::of(&[]) };
+        self.points.back(&mut profile.points);
+        self.roles.back(&mut profile.roles);
+        if number != 0 {
+            let same = profile.points == OLD_POINTS && profile.roles == OLD_ROLES;
+            assert!(same, "a refused call changes nothing");
+        }
+        profile
+    }
+
+    /// The arrays are as they were.
+    fn same(self) {
+        self.points.same();
+        self.roles.same();
+    }
 }
 
 /// Whether the call with this result accepted the image: 1 to 4 are the refusals of an image. It is then made again as
@@ -95,22 +122,26 @@ pub struct Library;
 impl Calls for Library {
     fn check(&self, image: &[u8]) -> Result<Checked, Refusal> {
         let image = Lent::new(image, 0xAA);
-        let (mut points, mut roles, mut answer) = (OLD_POINTS, OLD_ROLES, OLD);
-        let number = calls::check(image.slice(), &mut points, &mut roles, &mut answer);
+        let (mut arrays, mut answer) = (Arrays::new(&OLD_POINTS, &OLD_ROLES), OLD);
+        let (points, roles) = arrays.both();
+        let number = calls::check(image.slice(), points, roles, &mut answer);
         image.same();
-        profile(number, points, roles, answer);
+        let profile = arrays.profile(number, answer);
         let [version, ranges, entries] = values(number, answer)?;
+        let rest = entries as usize..;
+        let mut past = profile.points[rest.clone()].iter().chain(&profile.roles[rest]);
+        assert!(past.all(|&number| number == 0), "entries past the profile are zero");
         Ok(Checked { version: version as u32, ranges: ranges as usize, entries: entries as usize })
     }
 
     fn read(&self, image: &[u8], words: &mut [u32]) -> Result<Read, Refusal> {
         let (image, mut lent) = (Lent::new(image, 0xAA), Lent::new(words, 0xAA));
-        let (mut points, mut roles, mut answer) = (OLD_POINTS, OLD_ROLES, OLD);
-        let number =
-            calls::read(image.slice(), lent.slice_mut(), &mut points, &mut roles, &mut answer);
+        let (mut arrays, mut answer) = (Arrays::new(&OLD_POINTS, &OLD_ROLES), OLD);
+        let (points, roles) = arrays.both();
+        let number = calls::read(image.slice(), lent.slice_mut(), points, roles, &mut answer);
         image.same();
         lent.back(words);
-        let profile = profile(number, points, roles, answer);
+        let profile = arrays.profile(number, answer);
         let [version, ranges, _] = values(number, answer)?;
         Ok(Read { version: version as u32, ranges: ranges as usize, profile })
     }
@@ -123,19 +154,20 @@ impl Calls for Library {
         out: &mut [u8],
     ) -> Result<usize, Refusal> {
         let (words, mut lent) = (Lent::new(words, 0xAA), Lent::new(out, 0xAA));
-        let (points, roles, used) = (profile.points, profile.roles, profile.used as usize);
-        let mut answer = OLD;
+        let mut arrays = Arrays::new(&profile.points, &profile.roles);
+        let (points, roles) = arrays.both();
+        let (used, mut answer) = (profile.used as usize, OLD);
         let number = calls::write(
             version,
             words.slice(),
-            &points,
-            &roles,
+            points,
+            roles,
             used,
             lent.slice_mut(),
             &mut answer,
         );
         words.same();
-        assert!(points == profile.points && roles == profile.roles);
+        arrays.same();
         lent.back(out);
         let [total] = values(number, answer)?;
         Ok(total as usize)

@@ -1,5 +1,6 @@
 //! The change lister against the independent reader, run as a program.
 
+use luffinarc::MAX_IMAGE;
 use luffinarc_reader::cases::*;
 use luffinarc_reader::Calls;
 use luffinarc_tests::{data, runs, Library};
@@ -39,11 +40,12 @@ fn small_images() {
 #[test]
 fn total_lengths() {
     let both = [data("images/m.img"), data("images/m2.img")].concat();
-    for total in [0, 31, 32, 33, 99, 100, 101, 211, 212, 213, 49_696, 49_697, u32::MAX] {
+    const MOST: u32 = MAX_IMAGE as u32;
+    for total in [0, 31, 32, 33, 99, 100, 101, 211, 212, 213, MOST, MOST + 1, u32::MAX] {
         let mut input = both.clone();
         input[8..12].copy_from_slice(&total.to_le_bytes());
         output(&input);
-        input.resize(49_696 + 112, 0);
+        input.resize(MAX_IMAGE + 112, 0);
         output(&input);
     }
 }
@@ -61,8 +63,8 @@ fn large_images() {
     let (older, newer) = most_changes();
     let mut input = [image_of(&older), image_of(&newer)].concat();
     let all = output(&input);
-    assert!(all.starts_with("changes 16383 128\n"));
-    assert_eq!(all.lines().count(), 1 + 16_383 + 128);
+    assert!(all.starts_with("changes 16383 1024\n"));
+    assert_eq!(all.lines().count(), 1 + 16_383 + 1024);
     for length in [input.len() + 1, 200_000, 1 << 20] {
         input.resize(length, 0);
         assert_eq!(output(&input), "refused newer 1\n");

@@ -2,7 +2,7 @@
 
 use luffinarc::{
     list_changes, ChangedEntry, PairRefusal, Refusal, Run, CHANGED_ENTRY_WORDS,
-    MAX_CHANGED_ENTRIES, MAX_RUNS, RUN_WORDS,
+    MAX_CHANGED_ENTRIES, MAX_IMAGE, MAX_RUNS, RUN_WORDS,
 };
 use luffinarc_reader::cases::*;
 use luffinarc_reader::changes::changes_of;
@@ -169,7 +169,7 @@ fn surrogates() {
     }
 }
 
-/// Two images of 4,096 ranges and 64 entries, between which are the most runs and the most entries.
+/// Two images of 4,096 ranges and 512 entries, between which are the most runs and the most entries.
 #[test]
 fn most_runs_and_entries() {
     let (older, newer) = most_changes();
@@ -219,7 +219,7 @@ fn runs_come_first() {
 #[test]
 fn images_of_any_length() {
     let m = data("images/m.img");
-    for length in [0, 1, 31, 32, 49_696, 49_697, 1 << 20] {
+    for length in [0, 1, 31, 32, MAX_IMAGE, MAX_IMAGE + 1, 1 << 20] {
         let long = vec![1; length];
         let older = list_changes(&long, &m);
         assert_eq!(older, Err(PairRefusal::Older(Refusal::Length)));

@@ -1,7 +1,7 @@
 -- `image::check` meets its contract. Assumes nothing.
-use mathlib.Core.Path.{sym, ap, _∙_}
-use Rattle.image.specs.Check.{checkBy, checkOf}
+use mathlib.Core.Path.{sym, _∙_}
 use Rattle.image.proofs.ImageLaws.{refused-by, accepted-by}
+use Rattle.image.proofs.AnswerLaws.{record-accepted, record-refused}
 use borrow.Author.Needs.{needs}
 use Rattle.image.proofs.check.Statement.{statement}
 use Rattle.image.proofs.check.Tie as tie
@@ -10,14 +10,16 @@ accept-requires : tie.Need-accept-requires
 accept-requires c κs = accepted-by _ _ (c .before .before .before .judge .ensures) _ _ (c .before .a2 .given .1)
 
 returns : tie.Need-returns
-unfolding checkOf
-returns c = let s = c .before .before .before .before .before .before .args .image .now in
-    c .refuse .ensures ∙ ap (checkBy s) (sym (refused-by s _ (c .before .before .before .before .judge .ensures) _ (c .before .before .a .given .1)))
+returns c =
+    let s = c .before .before .before .before .before .before .args .image .now in
+    let e = refused-by s _ (c .before .before .before .before .judge .ensures) _ (c .before .before .a .given .1) in
+    c .refuse .ensures ∙ sym (record-refused s _ e)
 
 returns-2 : tie.Need-returns-2
-unfolding checkOf
-returns-2 c = let s = c .before .before .before .before .before .before .args .image .now in
-    c .accept .ensures ∙ ap (checkBy s) (sym (accepted-by s _ (c .before .before .before .before .judge .ensures) _ _ (c .before .before .a2 .given .1) .0))
+returns-2 c =
+    let s = c .before .before .before .before .before .before .args .image .now in
+    let k = accepted-by s _ (c .before .before .before .before .judge .ensures) _ _ (c .before .before .a2 .given .1) in
+    c .accept .ensures ∙ sym (record-accepted s (k .0))
 
 pub check-spec : {M : Type 1} → statement M
 check-spec =

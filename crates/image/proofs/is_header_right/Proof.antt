@@ -1,22 +1,22 @@
 -- `image::is_header_right` meets its contract. Assumes nothing.
 use borrow.Author.Tests.{le-leb, lt-leb, eq-eqb, ne-eqb}
-use Rattle.image.specs.Header.{headerRight}
+use Rattle.image.specs.Header.{headerWithin}
 use borrow.Author.Needs.{needs}
 use Rattle.image.proofs.is_header_right.Statement.{statement}
 use Rattle.image.proofs.is_header_right.Tie as tie
 
 returns : tie.Need-returns
-unfolding headerRight
+unfolding headerWithin
 returns c = simp (← c .before .word .ensures, ne-eqb _ _ (c .if1 .taken))
 
 returns-2 : tie.Need-returns-2
-unfolding headerRight
+unfolding headerWithin
 returns-2 c =
     let f = c .before .before in
     simp (← f .before .word .ensures, ← c .before .word2 .ensures, eq-eqb _ _ (f .if1 .left), ne-eqb _ _ (c .if2 .taken))
 
 returns-3 : tie.Need-returns-3
-unfolding headerRight
+unfolding headerWithin
 returns-3 c =
     let z = c .before .before in
     let f = z .before .before in
@@ -30,7 +30,7 @@ returns-3 c =
     )
 
 returns-4 : tie.Need-returns-4
-unfolding headerRight
+unfolding headerWithin
 returns-4 c =
     let n = c .before .before in
     let z = n .before .before in
@@ -47,7 +47,7 @@ returns-4 c =
     )
 
 returns-5 : tie.Need-returns-5
-unfolding headerRight
+unfolding headerWithin
 returns-5 c =
     let m = c .before in
     let n = m .before .before in

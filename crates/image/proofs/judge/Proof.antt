@@ -15,10 +15,10 @@ judge-records-requires c κs =
 returns-2 : tie.Need-returns-2
 returns-2 c =
     let b = c .before .before in
-    refuses _ _ (header-refused _ (sym (b .before .is-length-right .ensures) ∙ b .if1 .taken) (sym (c .before .is-header-right .ensures) ∙ c .if2 .left))
+    refuses _ _ (header-refused _ _ (sym (b .before .is-length-right .ensures) ∙ b .if1 .taken) (sym (c .before .is-header-right .ensures) ∙ c .if2 .left))
 
 returns-3 : tie.Need-returns-3
-returns-3 c = refuses _ _ (length-refused _ (sym (c .before .is-length-right .ensures) ∙ c .if1 .left))
+returns-3 c = refuses _ _ (length-refused _ _ (sym (c .before .is-length-right .ensures) ∙ c .if1 .left))
 
 pub judge-spec : {M : Type 1} → statement M
 judge-spec =

@@ -1,56 +1,31 @@
 -- `image::read` meets its contract. Assumes nothing.
-use Prim.Native.Nat.{ℕ}
-use mathlib.Core.Path.{sym, ap, _∙_}
-use native.Mathlib.Omega.{arith}
-use Rattle.lists.specs.Laid.{laid}
-use Rattle.lists.specs.Each.{each}
-use Rattle.refusal.specs.declared.Refusal.the-variants as refusal
-use Rattle.image.specs.Ranges.{rangeAt, rangeWords}
-use Rattle.image.specs.Check.{refusedBy}
-use Rattle.image.proofs.ImageLaws.{accepted, refused-by, accepted-by}
-use Rattle.image.proofs.ReadLaws.{image-refuses, room-refuses, none-refuses, read-by}
+use mathlib.Core.Path.{sym, _∙_}
+use Rattle.image.proofs.ReadLaws.{read-accepts}
+use Rattle.image.proofs.AnswerLaws.{read-accepted, read-refuses}
 use borrow.Author.Needs.{needs}
 use Rattle.image.proofs.read.Statement.{statement}
 use Rattle.image.proofs.read.Tie as tie
 
-returns : tie.Need-returns
-returns c =
-    let a = c .before .before .before .before .before .before .before .before .args in
-    let k = accepted-by (a .image .now) _ (c .before .before .before .before .before .judge .ensures) _ _ (c .before .before .before .a2 .given .1) in
-    let w = read-by (a .image .now) (a .out .now) _ (room-refuses _ (a .out .now) (k .0) (rw (k .2) at (c .before .if1 .taken))) in
-    (c .refuse2 .ensures ∙ ap (λ (n : ℕ). refusedBy (refusal.Room n)) (k .2) ∙ sym (w .0), sym (w .1))
-
-write-ranges-requires : tie.Need-write-ranges-requires
-write-ranges-requires c κs =
-    let a = c .before .before .before .before .before .before .before .before .args in
-    let k = accepted-by (a .image .now) _ (c .before .before .before .before .before .judge .ensures) _ _ (c .before .before .before .a2 .given .1) in
-    let h = accepted (a .image .now) (k .0) .header in
-    (omega arith, omega arith)
-
 accept-requires : tie.Need-accept-requires
 accept-requires c κs =
+    let b = c .before .before .before .before .before in
+    let a = b .before .before .before .before .args in
+    let k = read-accepts (a .image .now) (a .out .now) _ _ .0 (sym (b .read-ranges .ensures .0) ∙ c .before .a2 .given .1) in
+    (k .0, k .2, k .3)
+
+returns : tie.Need-returns
+returns c =
     let b = c .before .before .before .before .before .before in
-    accepted-by _ _ (b .before .before .judge .ensures) _ _ (b .a2 .given .1)
+    let a = b .before .before .before .before .args in
+    let e = sym (b .read-ranges .ensures .0) ∙ c .before .before .a .given .1 in
+    (c .refuse .ensures ∙ sym (read-refuses (a .image .now) (a .out .now) _ e), b .read-ranges .ensures .1)
 
 returns-2 : tie.Need-returns-2
 returns-2 c =
-    let a = c .before .before .before .before .before .before .before .args in
-    let e = refused-by (a .image .now) _ (c .before .before .before .before .judge .ensures) _ (c .before .before .a .given .1) in
-    let w = read-by (a .image .now) (a .out .now) _ (image-refuses _ (a .out .now) _ e) in
-    (c .refuse .ensures ∙ sym (w .0), sym (w .1))
-
-returns-3 : tie.Need-returns-3
-returns-3 c =
-    let b = c .before .before .before .before .before .before .before in
-    let a = b .before .before .before .before .before .args in
-    let k = accepted-by (a .image .now) _ (b .before .before .judge .ensures) _ _ (b .a2 .given .1) in
-    let fits = rw (k .2) at (c .before .before .before .before .before .if1 .left) in
-    let w = read-by (a .image .now) (a .out .now) _ (none-refuses _ (a .out .now) (k .0) fits) in (
-      c .accept .ensures ∙ sym (w .0),
-      c .before .before .before .write-ranges .ensures
-          ∙ ap (λ (n : ℕ). laid (a .out .now) 0 (each (λ (i : ℕ). rangeWords (rangeAt (a .image .now) i)) n)) (k .2)
-          ∙ sym (w .1),
-    )
+    let b = c .before .before .before .before .before .before in
+    let a = b .before .before .before .before .args in
+    let e = sym (b .read-ranges .ensures .0) ∙ c .before .before .a2 .given .1 in
+    (c .accept .ensures ∙ sym (read-accepted (a .image .now) (a .out .now) _ _ e), b .read-ranges .ensures .1)
 
 pub read-spec : {M : Type 1} → statement M
 read-spec =
@@ -60,10 +35,8 @@ read-spec =
     (λ c. search needs)
     (λ c κs. search needs)
     (λ c. search needs)
-    (λ c κs. search needs)
-    returns
-    write-ranges-requires
     accept-requires
-    returns-2
     (λ c. search needs)
-    returns-3)
+    returns
+    (λ c. search needs)
+    returns-2)

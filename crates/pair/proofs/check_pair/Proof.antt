@@ -1,7 +1,7 @@
 -- `pair::check_pair` meets its contract. Assumes nothing.
 use mathlib.Core.Path.{sym, _∙_}
 use Rattle.compare.proofs.JudgedLaws.{both-accepted}
-use Rattle.pair.specs.Pair.{pairOf}
+use Rattle.pair.specs.Pair.{pairWithin}
 use borrow.Author.Needs.{needs}
 use Rattle.pair.proofs.check_pair.Statement.{statement}
 use Rattle.pair.proofs.check_pair.Tie as tie
@@ -10,15 +10,15 @@ compare-accepted-requires : tie.Need-compare-accepted-requires
 compare-accepted-requires c κs = both-accepted _ _ _ (c .before .before .judge-both .ensures) (c .enum-told .given .1)
 
 returns : tie.Need-returns
-unfolding pairOf
+unfolding pairWithin
 returns c = simp (sym (c .before .before .before .judge-both .ensures) ∙ c .before .judged .given .1)
 
 returns-2 : tie.Need-returns-2
-unfolding pairOf
+unfolding pairWithin
 returns-2 c = simp (sym (c .before .before .before .judge-both .ensures) ∙ c .before .judged2 .given .1)
 
 returns-3 : tie.Need-returns-3
-unfolding pairOf
+unfolding pairWithin
 returns-3 c = c .compare-accepted .ensures ∙ simp (sym (c .before .before .before .judge-both .ensures) ∙ c .before .enum-told .given .1)
 
 pub check-pair-spec : {M : Type 1} → statement M

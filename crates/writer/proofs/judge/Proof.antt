@@ -10,7 +10,7 @@ use Rattle.image.specs.Ranges.{rangeIn, firstBadRange}
 use Rattle.image.specs.Profile.{pointIn, roleIn, firstBadEntry}
 use Rattle.image.proofs.RecordsLaws.{range-found, entry-found, none-found}
 use Rattle.writer.specs.declared.Written.the-variants as written
-use Rattle.writer.specs.Write.{rangesIn, bytesNeeded, writeOf, writeRefusal}
+use Rattle.writer.specs.Write.{rangesIn, bytesNeeded, writeWithin, writeOf, writeRefusalWithin, writeRefusal}
 use Rattle.writer.specs.Writable.{Shaped}
 use Rattle.writer.proofs.WriteLaws.{afterRecords, afterCounts, past-counts, answer-by}
 use borrow.Author.Needs.{needs}
@@ -36,23 +36,23 @@ module _
       none-bad k = past ∙ none-found _ _ _ _ _ _ i ei l j ej k
 
       lacks-room : p .used ≤ j → room < bytesNeeded words p → written.Refused (refusal.Buffer (bytesNeeded words p)) ≡ writeOf words p room
-      unfolding writeOf
+      unfolding writeWithin
       lacks-room k r = rw (none-bad k) (simp (lt-leb _ _ r))
 
       has-room : p .used ≤ j → bytesNeeded words p ≤ room → written.Image (bytesNeeded words p) ≡ writeOf words p room
-      unfolding writeOf
+      unfolding writeWithin
       has-room k r = rw (none-bad k) (simp (le-leb _ _ r))
 
 returns : tie.Need-returns
-unfolding writeOf writeRefusal
+unfolding writeWithin writeRefusalWithin
 returns c = simp (ne-eqb _ _ (c .if1 .taken))
 
 returns-2 : tie.Need-returns-2
-unfolding writeOf writeRefusal
+unfolding writeWithin writeRefusalWithin
 returns-2 c = simp (eq-eqb _ _ (c .before .if1 .left), lt-leb _ _ (c .if2 .taken))
 
 returns-3 : tie.Need-returns-3
-unfolding writeOf writeRefusal
+unfolding writeWithin writeRefusalWithin
 returns-3 c = simp (eq-eqb _ _ (c .before .before .if1 .left), le-leb _ _ (c .before .if2 .left), lt-leb _ _ (c .if3 .taken))
 
 returns-4 : tie.Need-returns-4

@@ -179,7 +179,7 @@ fn script_image(rng: &mut Rng) -> Image {
 }
 
 /// An image of so many ranges and entries, spread over all code points.
-fn spread_image(rng: &mut Rng, n: usize, m: usize) -> Image {
+pub fn spread_image(rng: &mut Rng, n: usize, m: usize) -> Image {
     let mut ranges: Vec<Range> = Vec::new();
     let mut next = 0;
     while ranges.len() < n {

@@ -1,0 +1,3 @@
+pub mod AgreeLaws
+pub mod RefusesLaws
+pub mod Former

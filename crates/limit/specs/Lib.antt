@@ -1,0 +1,3 @@
+pub mod Former
+pub mod Agree
+pub mod Refuses

@@ -1,0 +1,1 @@
+// What readers with different limits of profile entries have in common. There is no code here.
