@@ -20,7 +20,7 @@ use Rattle.changes.proofs.AnswerLaws.{changes-mean, Answers, means-changes}
 use Rattle.changes.proofs.BoundLaws.{runs-by-limits, entries-by-limits}
 use Rattle.input.specs.Input.{imageIn, restIn, ComesWhole}
 use Rattle.input.proofs.InputLaws.{dec-whole, end-whole}
-use Rattle.change_listing.specs.Input.{olderIn, newerIn, maxRunWords, maxEntryWords, wholeWithin, wholeAnswer, ChangeListingMeans, cut-off, whole}
+use Rattle.change_listing.specs.Input.{olderIn, newerIn, maxRunWords, maxEntryWords, wholeAnswerWithin, wholeAnswer, ChangeListingMeans, cut-off, whole}
 use Rattle.change_listing.proofs.InputLaws.{Gives, cut-refused}
 
 module _ (input out more : List ℕ) where
@@ -63,7 +63,7 @@ module _ (older newer out more : List ℕ) where
 
 -- there is room for the most changes, so the program never answers 8
 pub never-room : (input : List ℕ) (r : Refusal) → wholeAnswer input ≡ changes.Refused r → ⊥
-unfolding wholeWithin
+unfolding wholeAnswerWithin
 never-room input r e = go (refusalOf older) (refusalOf newer) refl refl
   where
     older : List ℕ

@@ -16,7 +16,7 @@ use Rattle.changes.specs.Answer.{answerOf}
 use Rattle.changes.proofs.RoomLaws.{older-answer, newer-answer}
 use Rattle.input.specs.Input.{imageIn, restIn, ComesWhole}
 use Rattle.input.proofs.InputLaws.{dec-whole, total, front-whole, whole-front}
-use Rattle.change_listing.specs.Input.{answerFrom, maxRunWords, maxEntryWords, wholeWithin, wholeAnswer}
+use Rattle.change_listing.specs.Input.{answerFrom, maxRunWords, maxEntryWords, wholeAnswerWithin, wholeAnswer}
 use Rattle.change_listing.proofs.InputLaws.{answer-cut, answer-whole}
 
 module _ (words more : ℕ) where
@@ -61,5 +61,5 @@ module _ (words more : ℕ) where
 pub whole-answer :
     (input : List ℕ) (limit : ℕ) → 2 * maxImage < limit → (read : List ℕ) → take limit input ≡ read
     → (words more : ℕ) → words ≡ maxRunWords → more ≡ maxEntryWords → answerFrom read words more ≡ wholeAnswer input
-unfolding wholeWithin
+unfolding wholeAnswerWithin
 whole-answer input limit h read e words more v w = rw (← e, v, w) (looks-no-further maxRunWords maxEntryWords input limit h)

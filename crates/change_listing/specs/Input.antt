@@ -36,11 +36,11 @@ abbrev pub maxEntryWords : ℕ
 maxEntryWords = entryWordsWithin maxEntries
 
 -- the answer, with buffers of so many words
-abbrev pub fromWithin : ℕ → List ℕ → ℕ → ℕ → Changes
-fromWithin limit input words more = answerWithin limit (olderWithin limit input) (newerWithin limit input) words more
+abbrev pub answerFromWithin : ℕ → List ℕ → ℕ → ℕ → Changes
+answerFromWithin limit input words more = answerWithin limit (olderWithin limit input) (newerWithin limit input) words more
 
 abbrev pub answerFrom : List ℕ → ℕ → ℕ → Changes
-answerFrom input words more = fromWithin maxEntries input words more
+answerFrom input words more = answerFromWithin maxEntries input words more
 
 -- the two buffers after the call, which were `out` and `more`
 abbrev pub runsFromWithin : ℕ → List ℕ → List ℕ → List ℕ → List ℕ
@@ -56,11 +56,11 @@ abbrev pub entriesFrom : List ℕ → List ℕ → List ℕ → List ℕ
 entriesFrom input out more = entriesFromWithin maxEntries input out more
 
 -- the program's answer: there is room for the most changes
-unfoldable pub wholeWithin : ℕ → List ℕ → Changes
-wholeWithin limit input = fromWithin limit input maxRunWords (entryWordsWithin limit)
+unfoldable pub wholeAnswerWithin : ℕ → List ℕ → Changes
+wholeAnswerWithin limit input = answerFromWithin limit input maxRunWords (entryWordsWithin limit)
 
 abbrev pub wholeAnswer : List ℕ → Changes
-wholeAnswer input = wholeWithin maxEntries input
+wholeAnswer input = wholeAnswerWithin maxEntries input
 
 -- what each answer means, and what the two buffers then hold, which were `out` and `more`: 1 of an older image that doesn't come whole,
 -- and the buffers as they were; or what the image at the front gives with the one after it

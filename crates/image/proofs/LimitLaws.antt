@@ -11,7 +11,7 @@ use Rattle.refusal.specs.declared.Refusal.{Refusal}
 use Rattle.refusal.specs.declared.Refusal.the-variants as refusal
 use Rattle.image.specs.Limits.{largestWithin}
 use Rattle.image.specs.Header.{entryCount}
-use Rattle.image.specs.Profile.{profileWithin, noneWithin}
+use Rattle.image.specs.Profile.{profileWithin, noProfileWithin}
 use Rattle.image.specs.Same.{SameEntries, SameChecked}
 use Rattle.image.specs.Accepted.{HeadedWithin, AcceptedWithin}
 use Rattle.image.specs.Means.{bad-length, bad-header}
@@ -67,8 +67,8 @@ module _ (k l : ℕ) (s : List ℕ) where
         role = λ i m. entry-read k s i m .1 ∙ sym (entry-read l s i m .1);
       }
 
-  no-profile : SameEntries (noneWithin k) (noneWithin l)
-  unfolding noneWithin
+  no-profile : SameEntries (noProfileWithin k) (noProfileWithin l)
+  unfolding noProfileWithin
   no-profile = record { count = refl; point = λ i m. absurd (omega arith); role = λ i m. absurd (omega arith) }
 
   same-by : (o : Option Refusal) → SameChecked (checkBy k s o) (checkBy l s o)

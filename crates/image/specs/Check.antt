@@ -13,7 +13,7 @@ use Rattle.refusal.specs.declared.Refusal.the-variants as refusal
 use Rattle.image.specs.Limits.{maxEntries, wordsPerRange}
 use Rattle.image.specs.Header.{versionOf, rangeCount, entryCount, lengthWithin, headerWithin}
 use Rattle.image.specs.Ranges.{rangeAt, rangeWords, firstBadRange, classIn}
-use Rattle.image.specs.Profile.{pointAt, roleAt, firstBadEntry, profileWithin, noneWithin, roleBy, afterRole, isMedial, isHashtag}
+use Rattle.image.specs.Profile.{pointAt, roleAt, firstBadEntry, profileWithin, noProfileWithin, roleBy, afterRole, isMedial, isHashtag}
 use Rattle.image.specs.declared.Range.{Range}
 use Rattle.image.specs.declared.Answer.the-variants as answer
 use Rattle.image.specs.declared.Checked.{Checked}
@@ -45,7 +45,7 @@ abbrev pub acceptedOf : List ℕ → Checked
 acceptedOf s = acceptedWithin maxEntries s
 
 abbrev pub refusedWithin : ℕ → Refusal → Checked
-refusedWithin limit r = record { answer = answer.Refused r; profile = noneWithin limit }
+refusedWithin limit r = record { answer = answer.Refused r; profile = noProfileWithin limit }
 
 abbrev pub refusedBy : Refusal → Checked
 refusedBy r = refusedWithin maxEntries r

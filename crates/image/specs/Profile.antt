@@ -52,11 +52,11 @@ abbrev pub profileOf : List ℕ → Profile
 profileOf s = profileWithin maxEntries s
 
 -- the record that stands beside a refusal: no entries, all zeros
-unfoldable pub noneWithin : ℕ → Profile
-noneWithin limit = record { points = replicate limit 0; roles = replicate limit 0; used = 0 }
+unfoldable pub noProfileWithin : ℕ → Profile
+noProfileWithin limit = record { points = replicate limit 0; roles = replicate limit 0; used = 0 }
 
 abbrev pub noProfile : Profile
-noProfile = noneWithin maxEntries
+noProfile = noProfileWithin maxEntries
 
 -- the role of x among m entries: that of the entry with this code point; 0 where there is none
 unfoldable pub roleBy : (ℕ → ℕ) → (ℕ → ℕ) → ℕ → ℕ → ℕ

@@ -30,8 +30,8 @@ use Rattle.grammar.specs.Reading.{outcomeWithin, countWithin, roomed, writtenWi
 use Rattle.token.specs.Taken.{takenWithin}
 use Rattle.hashtag.specs.Listed.{spansWords, foundWithin, hashtagsWithin, hashtagListWithin, hashtagWordsWithin}
 use Rattle.scan.specs.Counted.{countedBy}
-use Rattle.listing.specs.Input.{maxScript, scriptWithin, fromWithin as writtenFrom, listedWithin, wordsWithin as scriptWords, wholeWithin as wholeList}
-use Rattle.change_listing.specs.Input.{maxRunWords, entryWordsWithin, fromWithin, wholeWithin as wholeChanges}
+use Rattle.listing.specs.Input.{maxScript, scriptWithin, writtenFromWithin as writtenFrom, listedWithin, wordsWithin as scriptWords, wholeAnswerWithin as wholeList}
+use Rattle.change_listing.specs.Input.{maxRunWords, entryWordsWithin, answerFromWithin, wholeAnswerWithin as wholeChanges}
 use Rattle.limit.specs.Agree.{AgreeOnImage, AgreeOnPair, AgreeOnWriting, AgreeOnScript, AgreeOnChanges}
 
 module _ (k l : ℕ) where
@@ -118,7 +118,7 @@ module _ (k l : ℕ) (fewer : k ≤ l) where
       abbrev images : AgreeOnPair k l (imageIn input) (restIn input)
       images = pair-agree (imageIn input) (restIn input) h g
 
-      same-changes : (words more : ℕ) → fromWithin k input words more ≡ fromWithin l input words more
+      same-changes : (words more : ℕ) → answerFromWithin k input words more ≡ answerFromWithin l input words more
       same-changes words more = rw (end-whole input whole, end-whole input whole-more) (images .changes words more)
 
       -- the program's room is enough by either limit

@@ -28,8 +28,8 @@ use Rattle.grammar.specs.Reading.{outcomeWithin, countWithin, roomed, writtenWi
 use Rattle.token.specs.Taken.{takenWithin}
 use Rattle.hashtag.specs.Listed.{spansWords, foundWithin, hashtagsWithin, hashtagListWithin, hashtagWordsWithin}
 use Rattle.scan.specs.Counted.{countedBy}
-use Rattle.listing.specs.Input.{maxScript, scriptWithin, fromWithin as writtenFrom, listedWithin, wordsWithin as scriptWords, wholeWithin as wholeList}
-use Rattle.change_listing.specs.Input.{olderWithin, newerWithin, maxRunWords, entryWordsWithin, wholeWithin as wholeChanges}
+use Rattle.listing.specs.Input.{maxScript, scriptWithin, writtenFromWithin as writtenFrom, listedWithin, wordsWithin as scriptWords, wholeAnswerWithin as wholeList}
+use Rattle.change_listing.specs.Input.{olderWithin, newerWithin, maxRunWords, entryWordsWithin, wholeAnswerWithin as wholeChanges}
 use Rattle.change_listing.proofs.InputLaws.{cut-refused}
 use Rattle.limit.specs.Former.{refusalAbove}
 use Rattle.limit.specs.Refuses.{RefusesChanges, RefusesScript, RefusesInput, RefusesImage}

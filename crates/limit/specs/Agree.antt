@@ -13,8 +13,8 @@ use Rattle.changes.specs.Answer.{answerWithin, runsWithin, entriesWithin}
 use Rattle.grammar.specs.Reading.{countWithin, listWithin, listWordsWithin}
 use Rattle.token.specs.Taken.{takenWithin}
 use Rattle.hashtag.specs.Listed.{hashtagListWithin, hashtagWordsWithin}
-use Rattle.listing.specs.Input.{listedWithin, wordsWithin as scriptWords, wholeWithin as wholeList}
-use Rattle.change_listing.specs.Input.{fromWithin, runsFromWithin, entriesFromWithin, wholeWithin as wholeChanges}
+use Rattle.listing.specs.Input.{listedWithin, wordsWithin as scriptWords, wholeAnswerWithin as wholeList}
+use Rattle.change_listing.specs.Input.{answerFromWithin, runsFromWithin, entriesFromWithin, wholeAnswerWithin as wholeChanges}
 
 module _ (k l : ℕ) where
   -- the calls on one image
@@ -50,7 +50,7 @@ module _ (k l : ℕ) where
 
   -- the change lister's call and program, on two images one after the other
   pub record AgreeOnChanges (input : List ℕ) : Type 0 where
-    pub changes : (runWords entryWords : ℕ) → fromWithin k input runWords entryWords ≡ fromWithin l input runWords entryWords
+    pub changes : (runWords entryWords : ℕ) → answerFromWithin k input runWords entryWords ≡ answerFromWithin l input runWords entryWords
     pub runs : (out more : List ℕ) → runsFromWithin k input out more ≡ runsFromWithin l input out more
     pub entries : (out more : List ℕ) → entriesFromWithin k input out more ≡ entriesFromWithin l input out more
     pub whole : wholeChanges k input ≡ wholeChanges l input

@@ -24,8 +24,8 @@ use Rattle.token.specs.declared.Taken.the-variants as taken
 use Rattle.hashtag.specs.Listed.{hashtagListWithin, hashtagWordsWithin}
 use Rattle.scan.specs.declared.Counted.the-variants as counted
 use Rattle.input.specs.Input.{imageIn, restIn}
-use Rattle.listing.specs.Input.{listedWithin, wordsWithin as scriptWords, wholeWithin as wholeList}
-use Rattle.change_listing.specs.Input.{fromWithin, runsFromWithin, entriesFromWithin, wholeWithin as wholeChanges}
+use Rattle.listing.specs.Input.{listedWithin, wordsWithin as scriptWords, wholeAnswerWithin as wholeList}
+use Rattle.change_listing.specs.Input.{answerFromWithin, runsFromWithin, entriesFromWithin, wholeAnswerWithin as wholeChanges}
 
 module _ (limit : ℕ) where
   -- the writer, with 2, and the buffer stays
@@ -47,7 +47,7 @@ module _ (limit : ℕ) where
 
   -- the change lister's call and program
   pub record RefusesInput (input : List ℕ) (c : Changes) : Type 0 where
-    pub answer : (runWords entryWords : ℕ) → fromWithin limit input runWords entryWords ≡ c
+    pub answer : (runWords entryWords : ℕ) → answerFromWithin limit input runWords entryWords ≡ c
     pub runs : (out more : List ℕ) → runsFromWithin limit input out more ≡ out
     pub entries : (out more : List ℕ) → entriesFromWithin limit input out more ≡ more
     pub whole : wholeChanges limit input ≡ c

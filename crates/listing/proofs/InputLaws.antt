@@ -21,16 +21,16 @@ use Rattle.grammar.specs.Reading.{writtenOf, laidBy, listWithin, listOf, listWo
 use Rattle.scan.specs.declared.Counted.{Counted}
 use Rattle.scan.specs.declared.Counted.the-variants as counted
 use Rattle.scan.specs.Counted.{countedBy}
-use Rattle.listing.specs.Input.{maxScript, scriptWithin, scriptWritten, fromWithin, writtenFrom, listedWithin, listedFrom, wordsWithin, wordsAfter}
+use Rattle.listing.specs.Input.{maxScript, scriptWithin, scriptWritten, writtenFromWithin, writtenFrom, listedWithin, listedFrom, wordsWithin, wordsAfter}
 
 -- what is written, by the cases in turn
 module _ (input : List ℕ) (words : ℕ) where
   pub written-cut : (ComesWhole input → ⊥) → writtenFrom input words ≡ refused refusal.Length
-  unfolding fromWithin
+  unfolding writtenFromWithin
   written-cut f = rw (not-whole input f)
 
   pub written-whole : ComesWhole input → writtenFrom input words ≡ scriptWritten (imageIn input) (textIn input) words
-  unfolding fromWithin
+  unfolding writtenFromWithin
   written-whole w = rw (means-whole input w)
 
 module _ (image text : List ℕ) (words : ℕ) where

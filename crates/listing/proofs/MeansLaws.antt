@@ -20,7 +20,7 @@ use Rattle.grammar.proofs.AnswerLaws.{counts-refused}
 use Rattle.grammar.proofs.FewLaws.{outcome-no-room, written-all, list-fits}
 use Rattle.scan.specs.declared.Counted.the-variants as counted
 use Rattle.scan.specs.Counted.{countedBy}
-use Rattle.listing.specs.Input.{maxScript, listedWithin, listedFrom, wholeWithin, wholeAnswer, ListingMeans, cut-off, bad-image, long-text, listed}
+use Rattle.listing.specs.Input.{maxScript, listedWithin, listedFrom, wholeAnswerWithin, wholeAnswer, ListingMeans, cut-off, bad-image, long-text, listed}
 use Rattle.listing.proofs.InputLaws.{written-cut, written-whole, within-refused, within-long, within-listed}
 
 module _ (input : List ℕ) (words : ℕ) where
@@ -74,7 +74,7 @@ module _ (input : List ℕ) (words : ℕ) where
 
 -- so the program never answers 8
 pub never-room : (input : List ℕ) (n : ℕ) → wholeAnswer input ≡ counted.Refused (refusal.Room n) → ⊥
-unfolding wholeWithin
+unfolding wholeAnswerWithin
 never-room input n e = go (listedFrom input (recordSize * maxScript)) refl e
   where
     go : (o : Outcome ℕ) → listedFrom input (recordSize * maxScript) ≡ o → countedBy o ≡ counted.Refused (refusal.Room n) → ⊥

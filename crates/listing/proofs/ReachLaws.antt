@@ -16,7 +16,7 @@ use Rattle.input.specs.Input.{imageIn, restIn as textIn, ComesWhole}
 use Rattle.input.proofs.InputLaws.{dec-whole, total, front-whole, whole-front}
 use Rattle.grammar.specs.Record.{recordSize}
 use Rattle.scan.specs.Counted.{countedBy}
-use Rattle.listing.specs.Input.{maxScript, scriptWritten, writtenFrom, listedWithin, listedFrom, wholeWithin, wholeAnswer}
+use Rattle.listing.specs.Input.{maxScript, scriptWritten, writtenFrom, listedWithin, listedFrom, wholeAnswerWithin, wholeAnswer}
 use Rattle.listing.proofs.InputLaws.{written-cut, written-whole, within-refused, within-long}
 
 module _ (input : List ℕ) (k words : ℕ) (enough : maxImage + maxScript < k) where
@@ -51,5 +51,5 @@ module _ (input : List ℕ) (k words : ℕ) (enough : maxImage + maxScript < k) 
 -- so is the program's answer, where there is room for the longest text's tokens
 pub whole-answer : (input : List ℕ) (limit : ℕ) → maxImage + maxScript < limit → (read : List ℕ) → take limit input ≡ read → (words : ℕ) → words ≡ recordSize * maxScript →
     countedBy (listedFrom read words) ≡ wholeAnswer input
-unfolding wholeWithin listedWithin
+unfolding wholeAnswerWithin listedWithin
 whole-answer input limit h read e words w = rw (← e, w) (ap (λ o. countedBy (outcomeMap length o)) (looks-no-further input limit (recordSize * maxScript) h))

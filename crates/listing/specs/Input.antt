@@ -38,31 +38,31 @@ abbrev pub writtenBy : ℕ → Bool → List ℕ → ℕ → Outcome (List (Tok 
 writtenBy limit true input words = scriptWithin limit (imageIn input) (textIn input) words
 writtenBy limit false input words = refused refusal.Length
 
-unfoldable pub fromWithin : ℕ → List ℕ → ℕ → Outcome (List (Tok Character Kind))
-fromWithin limit input words = writtenBy limit (comesWithin limit input) input words
+unfoldable pub writtenFromWithin : ℕ → List ℕ → ℕ → Outcome (List (Tok Character Kind))
+writtenFromWithin limit input words = writtenBy limit (comesWithin limit input) input words
 
 abbrev pub writtenFrom : List ℕ → ℕ → Outcome (List (Tok Character Kind))
-writtenFrom input words = fromWithin maxEntries input words
+writtenFrom input words = writtenFromWithin maxEntries input words
 
 -- the answer, and what the lent words then hold
 unfoldable pub listedWithin : ℕ → List ℕ → ℕ → Outcome ℕ
-listedWithin limit input words = outcomeMap length (fromWithin limit input words)
+listedWithin limit input words = outcomeMap length (writtenFromWithin limit input words)
 
 abbrev pub listedFrom : List ℕ → ℕ → Outcome ℕ
 listedFrom input words = listedWithin maxEntries input words
 
 unfoldable pub wordsWithin : ℕ → List ℕ → List ℕ → List ℕ
-wordsWithin limit input out = laidBy (listedWords (textIn input)) out (fromWithin limit input (length out))
+wordsWithin limit input out = laidBy (listedWords (textIn input)) out (writtenFromWithin limit input (length out))
 
 abbrev pub wordsAfter : List ℕ → List ℕ → List ℕ
 wordsAfter input out = wordsWithin maxEntries input out
 
 -- the program's answer: there is room for a token at every byte of the longest text
-unfoldable pub wholeWithin : ℕ → List ℕ → Counted
-wholeWithin limit input = countedBy (listedWithin limit input (recordSize * maxScript))
+unfoldable pub wholeAnswerWithin : ℕ → List ℕ → Counted
+wholeAnswerWithin limit input = countedBy (listedWithin limit input (recordSize * maxScript))
 
 abbrev pub wholeAnswer : List ℕ → Counted
-wholeAnswer input = wholeWithin maxEntries input
+wholeAnswer input = wholeAnswerWithin maxEntries input
 
 -- what each answer means
 pub data ListingMeans (input : List ℕ) (words : ℕ) : Outcome ℕ → Type 0 where
