@@ -1,8 +1,11 @@
 /* How much stack each function takes, under an image with 512 profile entries: stack IMAGE TEXT
  *
- * IMAGE is an image without a profile; the calls get its ranges with 512 entries. Each call runs in a thread on a stack
- * that was painted before, and what it overwrote, less what an empty call does, is what it took. Prints a line for each
- * call, and last the counts; a call passes with at most 16 KB.
+ * IMAGE is an image without a profile; the calls get its ranges with 512 entries. Each call runs in a thread that first
+ * paints its own stack below itself; the lowest byte that lost its paint tells how deep the call went. It is run in two
+ * paints, on the image and the text, on a text that ends ill-formed with too short a buffer for an image, and, where the
+ * call checks the image, on one whose last entry is bad. Prints for each call the most that it took, and last the counts.
+ * A call passes below 4 KB, the bytes of a profile's record: so none holds a copy of one. Link with `-z now`, or the
+ * dynamic linker counts too.
  */
 #define _POSIX_C_SOURCE 200809L
 #include <pthread.h>
@@ -13,75 +16,102 @@
 #include "luffinarc.h"
 
 #define STACK (256 * 1024)
-#define MOST (16 * 1024)
-#define PAINT 0xA5
+#define MOST 4096
+/* Bytes below the thread's own that are not painted: painting needs some itself. */
+#define SLACK 256
+
+enum { WORDS = 4 * 65536, ENTRY_WORDS = LUFFINARC_CHANGED_ENTRY_WORDS * LUFFINARC_MAX_CHANGED_ENTRIES };
 
 static uint8_t stack[STACK] __attribute__((aligned(4096)));
-static uint8_t image[LUFFINARC_MAX_IMAGE], given[LUFFINARC_MAX_IMAGE], out[LUFFINARC_MAX_IMAGE];
-static uint8_t text[65536];
-static size_t image_len, given_len, text_len;
+static uint8_t given[LUFFINARC_MAX_IMAGE], image[LUFFINARC_MAX_IMAGE], out[LUFFINARC_MAX_IMAGE];
+static uint8_t text[65537];
+static size_t given_len, image_len, text_len, out_len;
 static uint32_t points[LUFFINARC_MAX_ENTRIES], roles[LUFFINARC_MAX_ENTRIES];
-static uint32_t words[4 * 65536], entries[3 * LUFFINARC_MAX_CHANGED_ENTRIES];
-static size_t range_words;
+static uint32_t all_points[LUFFINARC_MAX_ENTRIES], all_roles[LUFFINARC_MAX_ENTRIES];
+static uint32_t range_words[LUFFINARC_RANGE_WORDS * LUFFINARC_MAX_RANGES], words[WORDS], entries[ENTRY_WORDS];
+static size_t range_len;
 static uint64_t answer[LUFFINARC_ANSWER];
 
-/* The calls, all on the same image and text; none is refused. */
-static uint32_t none(void) { return 0; }
 static uint32_t check(void) { return luffinarc_check(image, image_len, points, roles, answer); }
-static uint32_t read_image(void)
-{
-    return luffinarc_read(image, image_len, words, 4 * 65536, points, roles, answer);
-}
+static uint32_t read_image(void) { return luffinarc_read(image, image_len, words, WORDS, points, roles, answer); }
 static uint32_t write_image(void)
 {
-    return luffinarc_write(1, words, range_words, points, roles, LUFFINARC_MAX_ENTRIES, out, sizeof out, answer);
+    return luffinarc_write(1, range_words, range_len, all_points, all_roles, LUFFINARC_MAX_ENTRIES, out, out_len, answer);
 }
 static uint32_t lookup(void) { return luffinarc_lookup(image, image_len, 0x0F0B, answer); }
 static uint32_t pair(void) { return luffinarc_pair(image, image_len, image, image_len, answer); }
 static uint32_t list_changes(void)
 {
-    return luffinarc_changes(given, given_len, image, image_len, words, 4 * 65536, entries,
-                             3 * LUFFINARC_MAX_CHANGED_ENTRIES, answer);
+    return luffinarc_changes(given, given_len, image, image_len, words, WORDS, entries, ENTRY_WORDS, answer);
 }
 static uint32_t count(void) { return luffinarc_count(image, image_len, text, text_len, answer); }
-static uint32_t list(void) { return luffinarc_list(image, image_len, text, text_len, words, 4 * 65536, answer); }
+static uint32_t list(void) { return luffinarc_list(image, image_len, text, text_len, words, WORDS, answer); }
 static uint32_t token(void) { return luffinarc_token(image, image_len, text, text_len, 0, answer); }
-static uint32_t hashtags(void)
-{
-    return luffinarc_hashtags(image, image_len, text, text_len, words, 4 * 65536, answer);
-}
+static uint32_t hashtags(void) { return luffinarc_hashtags(image, image_len, text, text_len, words, WORDS, answer); }
 static uint32_t part(void) { return luffinarc_part(text, text_len, 0, text_len, answer); }
+static uint32_t lookup_known(void) { return luffinarc_lookup_checked(image, image_len, 0x0F0B, answer); }
+static uint32_t count_known(void) { return luffinarc_count_checked(image, image_len, text, text_len, answer); }
+static uint32_t list_known(void)
+{
+    return luffinarc_list_checked(image, image_len, text, text_len, words, WORDS, answer);
+}
+static uint32_t token_known(void) { return luffinarc_token_checked(image, image_len, text, text_len, 0, answer); }
+static uint32_t hashtags_known(void)
+{
+    return luffinarc_hashtags_checked(image, image_len, text, text_len, words, WORDS, answer);
+}
 
 static const struct {
     const char *name;
     uint32_t (*call)(void);
+    int known; /* the image must be an accepted one */
 } CALLS[] = {
-    {"check", check}, {"read", read_image}, {"write", write_image}, {"lookup", lookup}, {"pair", pair},
-    {"changes", list_changes}, {"count", count}, {"list", list}, {"token", token}, {"hashtags", hashtags},
-    {"part", part},
+    {"check", check, 0}, {"read", read_image, 0}, {"write", write_image, 0}, {"lookup", lookup, 0},
+    {"pair", pair, 0}, {"changes", list_changes, 0}, {"count", count, 0}, {"list", list, 0}, {"token", token, 0},
+    {"hashtags", hashtags, 0}, {"part", part, 0}, {"lookup_checked", lookup_known, 1},
+    {"count_checked", count_known, 1}, {"list_checked", list_known, 1}, {"token_checked", token_known, 1},
+    {"hashtags_checked", hashtags_known, 1},
+};
+enum { COUNT = sizeof CALLS / sizeof CALLS[0] };
+
+/* A call, the colour of the paint, and what it gave and took. */
+struct run {
+    uint32_t (*call)(void);
+    int paint;
+    uint32_t result;
+    size_t taken;
 };
 
-static uint32_t result;
-
-static void *run(void *call)
+static void *run(void *argument)
 {
-    result = (*(uint32_t (**)(void))call)();
+    struct run *r = argument;
+    uint8_t here = 0;
+    size_t top = (size_t)(&here - stack), at = 0;
+    memset(stack, r->paint, top - SLACK);
+    r->result = r->call();
+    while (at < top - SLACK && stack[at] == r->paint)
+        at++;
+    r->taken = top - at;
     return NULL;
 }
 
-/* The bytes from the lowest that the call overwrote to the stack's top; 0 where the thread can't be made. */
-static size_t depth(uint32_t (*call)(void))
+/* Runs a call on a stack of its own; what it took counts if it is the most. Gives its result. */
+static uint32_t measure(uint32_t (*call)(void), size_t *most)
 {
-    pthread_attr_t attributes;
-    pthread_t thread;
-    size_t at = 0;
-    memset(stack, PAINT, STACK);
-    if (pthread_attr_init(&attributes) != 0 || pthread_attr_setstack(&attributes, stack, STACK) != 0 ||
-        pthread_create(&thread, &attributes, run, &call) != 0 || pthread_join(thread, NULL) != 0)
-        return 0;
-    while (at < STACK && stack[at] == PAINT)
-        at++;
-    return STACK - at;
+    static const int PAINTS[] = {0xA5, 0x3C};
+    struct run r = {call, 0, 0, 0};
+    for (int i = 0; i < 2; i++) {
+        pthread_attr_t attributes;
+        pthread_t thread;
+        r.paint = PAINTS[i];
+        if (pthread_attr_init(&attributes) != 0 || pthread_attr_setstack(&attributes, stack, STACK) != 0 ||
+            pthread_create(&thread, &attributes, run, &r) != 0 || pthread_join(thread, NULL) != 0) {
+            fprintf(stderr, "no thread\n");
+            exit(2);
+        }
+        *most = r.taken > *most ? r.taken : *most;
+    }
+    return r.result;
 }
 
 static size_t read_file(const char *name, uint8_t *bytes, size_t most)
@@ -99,31 +129,43 @@ static size_t read_file(const char *name, uint8_t *bytes, size_t most)
 /* The image: the ranges of the given one, and 512 hashtag entries. */
 static void make_image(void)
 {
-    if (luffinarc_read(given, given_len, words, 4 * 65536, points, roles, answer) != 0)
+    if (luffinarc_read(given, given_len, range_words, sizeof range_words / 4, points, roles, answer) != 0)
         exit(2);
-    range_words = LUFFINARC_RANGE_WORDS * (size_t)answer[1];
+    range_len = LUFFINARC_RANGE_WORDS * (size_t)answer[1];
     for (uint32_t i = 0; i < LUFFINARC_MAX_ENTRIES; i++) {
-        points[i] = 0x4E00 + 2 * i;
-        roles[i] = LUFFINARC_ROLE_HASHTAG;
+        all_points[i] = 0x4E00 + 2 * i;
+        all_roles[i] = LUFFINARC_ROLE_HASHTAG;
     }
-    if (luffinarc_write(1, words, range_words, points, roles, LUFFINARC_MAX_ENTRIES, image, sizeof image, answer) != 0)
+    out_len = sizeof out;
+    if (write_image() != 0)
         exit(2);
     image_len = (size_t)answer[0];
+    memcpy(image, out, image_len);
 }
 
 int main(int argc, char **argv)
 {
     int passed = 0, failed = 0;
+    size_t taken[COUNT] = {0};
+    int accepted[COUNT];
     if (argc != 3)
         return 2;
     given_len = read_file(argv[1], given, sizeof given);
-    text_len = read_file(argv[2], text, sizeof text);
+    text_len = read_file(argv[2], text, sizeof text - 1);
     make_image();
-    size_t idle = depth(none);
-    for (size_t i = 0; i < sizeof CALLS / sizeof CALLS[0]; i++) {
-        size_t taken = depth(CALLS[i].call) - idle;
-        int right = idle > 0 && result == 0 && taken <= MOST;
-        printf("%s: %zu bytes of stack%s\n", CALLS[i].name, taken, right ? "" : ", FAILED");
+    for (size_t i = 0; i < COUNT; i++)
+        accepted[i] = measure(CALLS[i].call, &taken[i]) == 0;
+    text[text_len++] = 0xFF;
+    out_len = 0;
+    for (size_t i = 0; i < COUNT; i++)
+        measure(CALLS[i].call, &taken[i]);
+    image[image_len - 4] = 0;
+    for (size_t i = 0; i < COUNT; i++)
+        if (!CALLS[i].known)
+            measure(CALLS[i].call, &taken[i]);
+    for (size_t i = 0; i < COUNT; i++) {
+        int right = accepted[i] && taken[i] < MOST;
+        printf("%s: at most %zu bytes of stack%s\n", CALLS[i].name, taken[i], right ? "" : ", FAILED");
         passed += right;
         failed += !right;
     }

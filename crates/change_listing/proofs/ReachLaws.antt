@@ -59,7 +59,7 @@ module _ (words more : ℕ) where
 
 -- so is the program's, where there is room for the most changes
 pub whole-answer :
-    (input : List ℕ) (limit : ℕ) → 2 * maxImage < limit → (read : List ℕ) → take limit input ≡ read
+    (input : List ℕ) (k : ℕ) → 2 * maxImage < k → (read : List ℕ) → take k input ≡ read
     → (words more : ℕ) → words ≡ maxRunWords → more ≡ maxEntryWords → answerFrom read words more ≡ wholeAnswer input
 unfolding wholeAnswerWithin
-whole-answer input limit h read e words more v w = rw (← e, v, w) (looks-no-further maxRunWords maxEntryWords input limit h)
+whole-answer input k h read e words more v w = rw (← e, v, w) (looks-no-further maxRunWords maxEntryWords input k h)

@@ -6,12 +6,13 @@ use mathlib.Core.List.{List}
 use mathlib.Core.Option.{Option, none, some}
 use native.Mathlib.Omega.{arith}
 use native.Mathlib.Decide.{decLe}
-use lib.ListN.{length}
+use lib.ListN.{length, length-replicate}
+use Rattle.lists.proofs.EachLaws.{length-column}
 use Rattle.refusal.specs.declared.Refusal.{Refusal}
 use Rattle.refusal.specs.declared.Refusal.the-variants as refusal
 use Rattle.image.specs.Limits.{largestWithin}
 use Rattle.image.specs.Header.{entryCount}
-use Rattle.image.specs.Profile.{profileWithin, noProfileWithin}
+use Rattle.image.specs.Profile.{pointAt, roleAt, profileWithin, noProfileWithin}
 use Rattle.image.specs.Same.{SameEntries, SameChecked}
 use Rattle.image.specs.Accepted.{HeadedWithin, AcceptedWithin}
 use Rattle.image.specs.Means.{bad-length, bad-header}
@@ -21,6 +22,16 @@ use Rattle.image.proofs.ImageLaws.{refused-none, means-refusal, past-he
 -- an image that is longer than the largest
 pub long-refused : (limit : ℕ) (s : List ℕ) → largestWithin limit < length s → refusalWithin limit s ≡ some refusal.Length
 long-refused limit s h = means-refusal {limit = limit} s (some refusal.Length) (bad-length (λ z. omega (arith, z .short)))
+
+-- the room of the two records is the limit
+pub profile-room :
+    (limit : ℕ) (s : List ℕ) → entryCount s ≤ limit → (length (profileWithin limit s .points) ≡ limit) × (length (profileWithin limit s .roles) ≡ limit)
+unfolding profileWithin
+profile-room limit s h = (length-column limit (pointAt s) (entryCount s) h, length-column limit (roleAt s) (entryCount s) h)
+
+pub no-profile-room : (limit : ℕ) → (length (noProfileWithin limit .points) ≡ limit) × (length (noProfileWithin limit .roles) ≡ limit)
+unfolding noProfileWithin
+no-profile-room limit = (length-replicate limit 0, length-replicate limit 0)
 
 -- a right header is right where more entries are allowed
 pub header-still : {k l : ℕ} (s : List ℕ) → entryCount s ≤ l → HeadedWithin k s → HeadedWithin l s

@@ -30,7 +30,7 @@ use Rattle.grammar.specs.Reading.{outcomeWithin, countWithin, roomed, writtenWi
 use Rattle.token.specs.Taken.{takenWithin}
 use Rattle.hashtag.specs.Listed.{spansWords, foundWithin, hashtagsWithin, hashtagListWithin, hashtagWordsWithin}
 use Rattle.scan.specs.Counted.{countedBy}
-use Rattle.listing.specs.Input.{maxScript, scriptWithin, writtenFromWithin as writtenFrom, listedWithin, wordsWithin as scriptWords, wholeAnswerWithin as wholeList}
+use Rattle.listing.specs.Input.{maxScript, scriptWithin, writtenFromWithin, listedWithin, wordsWithin as scriptWords, wholeAnswerWithin as wholeList}
 use Rattle.change_listing.specs.Input.{maxRunWords, entryWordsWithin, answerFromWithin, wholeAnswerWithin as wholeChanges}
 use Rattle.limit.specs.Agree.{AgreeOnImage, AgreeOnPair, AgreeOnWriting, AgreeOnScript, AgreeOnChanges}
 
@@ -98,8 +98,8 @@ module _ (k l : ℕ) (fewer : k ≤ l) where
     whole-more : WholeWithin l input
     whole-more = sized-whole input (header-still {l = l} (imageIn input) (omega (arith, h .few-entries)) h .sized)
 
-    same-script : (words : ℕ) → writtenFrom k input words ≡ writtenFrom l input words
-    unfolding writtenFrom scriptWithin
+    same-script : (words : ℕ) → writtenFromWithin k input words ≡ writtenFromWithin l input words
+    unfolding writtenFromWithin scriptWithin
     same-script words =
         let e = same-refusal k l (imageIn input) fewer h in
         rw (means-whole input whole, means-whole input whole-more, e, same-written k l (imageIn input) e _ words)

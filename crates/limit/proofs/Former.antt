@@ -10,7 +10,7 @@ use Rattle.image.specs.Limits.{maxEntries, largestWithin, maxImage}
 use Rattle.image.specs.Same.{SameEntries}
 use Rattle.image.specs.Header.{entryCount}
 use Rattle.image.specs.Accepted.{HeadedWithin}
-use Rattle.image.specs.Check.{refusalWithin, refusalOf}
+use Rattle.image.specs.Check.{refusalWithin, refusalOf, checkWithin, checkOf}
 use Rattle.image.proofs.ImageLaws.{accepted}
 use Rattle.image.proofs.LimitLaws.{same-refusal, only-above}
 use Rattle.writer.specs.Writable.{Shaped}
@@ -22,9 +22,12 @@ use Rattle.limit.specs.Refuses.{RefusesWriting, RefusesImage}
 use Rattle.limit.proofs.AgreeLaws.{agree, pair-agree, writing-agree, script-agree, changes-agree}
 use Rattle.limit.proofs.RefusesLaws.{refuses-above}
 
--- the largest image, before and now
+-- the largest image before; the most entries and the largest image now
 pub former-largest : largestWithin formerEntries ≡ 49696
 former-largest = refl
+
+pub most-entries : maxEntries ≡ 512
+most-entries = refl
 
 pub largest : maxImage ≡ 53280
 largest = refl
@@ -36,6 +39,12 @@ former-judges s h = (same-refusal formerEntries maxEntries s (omega arith) h, ag
 -- so one that they accept is accepted, with the same version, ranges and profile, and every call answers the same for it
 pub former-agrees : (s : List ℕ) → refusalWithin formerEntries s ≡ none → (refusalOf s ≡ none) × AgreeOnImage formerEntries maxEntries s
 former-agrees s e = let (same, agrees) = former-judges s (accepted s e .header) in (sym same ∙ e, agrees)
+
+-- the check says the same, version and number of ranges among it, and gives the same profile
+pub former-reads :
+    (s : List ℕ) → refusalWithin formerEntries s ≡ none
+    → (checkWithin formerEntries s .answer ≡ checkOf s .answer) × SameEntries (checkWithin formerEntries s .profile) (checkOf s .profile)
+former-reads s e = let (_, agrees) = former-agrees s e in (agrees .checked .answer, agrees .checked .entries)
 
 pub former-agrees-pair :
     (older newer : List ℕ) → refusalWithin formerEntries older ≡ none → refusalWithin formerEntries newer ≡ none

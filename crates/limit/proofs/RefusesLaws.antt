@@ -28,7 +28,7 @@ use Rattle.grammar.specs.Reading.{outcomeWithin, countWithin, roomed, writtenWi
 use Rattle.token.specs.Taken.{takenWithin}
 use Rattle.hashtag.specs.Listed.{spansWords, foundWithin, hashtagsWithin, hashtagListWithin, hashtagWordsWithin}
 use Rattle.scan.specs.Counted.{countedBy}
-use Rattle.listing.specs.Input.{maxScript, scriptWithin, writtenFromWithin as writtenFrom, listedWithin, wordsWithin as scriptWords, wholeAnswerWithin as wholeList}
+use Rattle.listing.specs.Input.{maxScript, scriptWithin, writtenFromWithin, listedWithin, wordsWithin as scriptWords, wholeAnswerWithin as wholeList}
 use Rattle.change_listing.specs.Input.{olderWithin, newerWithin, maxRunWords, entryWordsWithin, wholeAnswerWithin as wholeChanges}
 use Rattle.change_listing.proofs.InputLaws.{cut-refused}
 use Rattle.limit.specs.Former.{refusalAbove}
@@ -91,11 +91,11 @@ module _ (limit l : ℕ) (input : List ℕ) (a : AcceptedWithin l (imageIn input
       go (yes h) = let w = sized-whole {limit = l} input (a .header .sized) in absurd (f (record { header = w .header; long = w .long; short = h; comes = w .comes }))
       go (no h) = above-long limit (imageIn input) (omega (arith, image-total {limit = l} input (a .header .sized)))
 
-  script-refused : (words : ℕ) → writtenFrom limit input words ≡ refused (refusalAbove limit (imageIn input))
-  unfolding writtenFrom scriptWithin
+  script-refused : (words : ℕ) → writtenFromWithin limit input words ≡ refused (refusalAbove limit (imageIn input))
+  unfolding writtenFromWithin scriptWithin
   script-refused words = go (dec-whole input)
     where
-      go : Dec (WholeWithin limit input) → writtenFrom limit input words ≡ refused (refusalAbove limit (imageIn input))
+      go : Dec (WholeWithin limit input) → writtenFromWithin limit input words ≡ refused (refusalAbove limit (imageIn input))
       go (yes w) = rw (means-whole input w, above limit (imageIn input) l a many)
       go (no f) = rw (not-whole input f) (ap refused (sym (cut-long f)))
 
@@ -107,7 +107,7 @@ module _ (limit l : ℕ) (input : List ℕ) (a : AcceptedWithin l (imageIn input
       go (no f) = cut-refused input f ∙ ap some (sym (cut-long f))
 
 -- the listers' calls and programs, from what is written and from the list of changes
-script-refuses : (limit : ℕ) (input : List ℕ) (r : Refusal) → ((words : ℕ) → writtenFrom limit input words ≡ refused r) → RefusesScript limit input r
+script-refuses : (limit : ℕ) (input : List ℕ) (r : Refusal) → ((words : ℕ) → writtenFromWithin limit input words ≡ refused r) → RefusesScript limit input r
 unfolding listedWithin scriptWords wholeList
 script-refuses limit input r f =
     record {
@@ -147,7 +147,7 @@ refuses-above limit l s a many =
       inputNewer = changes-after;
     }
   where
-    at-front : (input : List ℕ) → imageIn input ≡ s → (words : ℕ) → writtenFrom limit input words ≡ refused (refusalAbove limit s)
+    at-front : (input : List ℕ) → imageIn input ≡ s → (words : ℕ) → writtenFromWithin limit input words ≡ refused (refusalAbove limit s)
     at-front input f words =
         script-refused limit l input (subst (AcceptedWithin l) (sym f) a) (subst (λ t. limit < entryCount t) (sym f) many) words
         ∙ ap (λ t. refused (refusalAbove limit t)) f

@@ -34,18 +34,18 @@ module _ (input : List ℕ) (words : ℕ) where
   written-whole w = rw (means-whole input w)
 
 module _ (image text : List ℕ) (words : ℕ) where
-  pub within-refused : {r : Refusal} → refusalOf image ≡ some r → scriptWritten image text words ≡ refused r
+  pub script-refused : {r : Refusal} → refusalOf image ≡ some r → scriptWritten image text words ≡ refused r
   unfolding scriptWithin
-  within-refused e = rw e
+  script-refused e = rw e
 
   module _ (accepted : refusalOf image ≡ none) where
-    pub within-long : maxScript < length text → scriptWritten image text words ≡ refused refusal.TextLength
+    pub script-long : maxScript < length text → scriptWritten image text words ≡ refused refusal.TextLength
     unfolding scriptWithin
-    within-long h = rw (accepted, lt-ltb maxScript (length text) h)
+    script-long h = rw (accepted, lt-ltb maxScript (length text) h)
 
-    pub within-listed : length text ≤ maxScript → scriptWritten image text words ≡ writtenOf image text words
+    pub script-listed : length text ≤ maxScript → scriptWritten image text words ≡ writtenOf image text words
     unfolding scriptWithin
-    within-listed h = rw (accepted, le-ltb maxScript (length text) h)
+    script-listed h = rw (accepted, le-ltb maxScript (length text) h)
 
 -- an answer and a buffer that an outcome gives for a text
 abbrev pub Gives : List ℕ → Outcome (List (Tok Character Kind)) → Counted → List ℕ → List ℕ → Type 0

@@ -21,15 +21,15 @@ use Rattle.grammar.proofs.FewLaws.{outcome-no-room, written-all, list-fits}
 use Rattle.scan.specs.declared.Counted.the-variants as counted
 use Rattle.scan.specs.Counted.{countedBy}
 use Rattle.listing.specs.Input.{maxScript, listedWithin, listedFrom, wholeAnswerWithin, wholeAnswer, ListingMeans, cut-off, bad-image, long-text, listed}
-use Rattle.listing.proofs.InputLaws.{written-cut, written-whole, within-refused, within-long, within-listed}
+use Rattle.listing.proofs.InputLaws.{written-cut, written-whole, script-refused, script-long, script-listed}
 
 module _ (input : List ℕ) (words : ℕ) where
   pub means-listing : (o : Outcome ℕ) → ListingMeans input words o → listedFrom input words ≡ o
   unfolding listedWithin listWithin
   means-listing o (cut-off f) = ap (outcomeMap length) (written-cut input words f)
-  means-listing o (bad-image r w e) = ap (outcomeMap length) (written-whole input words w ∙ within-refused (imageIn input) (textIn input) words e)
-  means-listing o (long-text w a h) = ap (outcomeMap length) (written-whole input words w ∙ within-long (imageIn input) (textIn input) words a h)
-  means-listing o (listed p w h a e) = ap (outcomeMap length) (written-whole input words w ∙ within-listed (imageIn input) (textIn input) words a h) ∙ e
+  means-listing o (bad-image r w e) = ap (outcomeMap length) (written-whole input words w ∙ script-refused (imageIn input) (textIn input) words e)
+  means-listing o (long-text w a h) = ap (outcomeMap length) (written-whole input words w ∙ script-long (imageIn input) (textIn input) words a h)
+  means-listing o (listed p w h a e) = ap (outcomeMap length) (written-whole input words w ∙ script-listed (imageIn input) (textIn input) words a h) ∙ e
 
   pub listing-means : (o : Outcome ℕ) → listedFrom input words ≡ o → ListingMeans input words o
   listing-means o e = by-whole (dec-whole input)

@@ -17,27 +17,27 @@ use Rattle.input.proofs.InputLaws.{dec-whole, total, front-whole, whole-front}
 use Rattle.grammar.specs.Record.{recordSize}
 use Rattle.scan.specs.Counted.{countedBy}
 use Rattle.listing.specs.Input.{maxScript, scriptWritten, writtenFrom, listedWithin, listedFrom, wholeAnswerWithin, wholeAnswer}
-use Rattle.listing.proofs.InputLaws.{written-cut, written-whole, within-refused, within-long}
+use Rattle.listing.proofs.InputLaws.{written-cut, written-whole, script-refused, script-long}
 
 module _ (input : List ℕ) (k words : ℕ) (enough : maxImage + maxScript < k) where
   module _ (long : k ≤ length input) where
     -- the same image, and both texts are longer than the longest
-    same-within : totalOf input ≤ maxImage → scriptWritten (imageIn (take k input)) (textIn (take k input)) words ≡ scriptWritten (imageIn input) (textIn input) words
-    same-within h = rw (total input k (omega arith), take-take (totalOf input) k input (omega arith)) (go (refusalOf (imageIn input)) refl)
+    same-script : totalOf input ≤ maxImage → scriptWritten (imageIn (take k input)) (textIn (take k input)) words ≡ scriptWritten (imageIn input) (textIn input) words
+    same-script h = rw (total input k (omega arith), take-take (totalOf input) k input (omega arith)) (go (refusalOf (imageIn input)) refl)
       where
         front : List ℕ
         front = drop (totalOf input) (take k input)
 
         go : (a : Option Refusal) → refusalOf (imageIn input) ≡ a → scriptWritten (imageIn input) front words ≡ scriptWritten (imageIn input) (textIn input) words
-        go (some r) e = within-refused (imageIn input) front words e ∙ sym (within-refused (imageIn input) (textIn input) words e)
+        go (some r) e = script-refused (imageIn input) front words e ∙ sym (script-refused (imageIn input) (textIn input) words e)
         go none e =
             let m = length-drop (totalOf input) (take k input) in
             let n = length-drop (totalOf input) input in
             let l = length-take-le k input long in
-            within-long (imageIn input) front words e (omega arith) ∙ sym (within-long (imageIn input) (textIn input) words e (omega arith))
+            script-long (imageIn input) front words e (omega arith) ∙ sym (script-long (imageIn input) (textIn input) words e (omega arith))
 
     same-written : Dec (ComesWhole input) → writtenFrom (take k input) words ≡ writtenFrom input words
-    same-written (yes w) = written-whole (take k input) words (front-whole input k (omega arith) long w) ∙ same-within (w .short) ∙ sym (written-whole input words w)
+    same-written (yes w) = written-whole (take k input) words (front-whole input k (omega arith) long w) ∙ same-script (w .short) ∙ sym (written-whole input words w)
     same-written (no f) = written-cut (take k input) words (λ w. f (whole-front input k (omega arith) long w)) ∙ sym (written-cut input words f)
 
   -- the answer, and what is written, are those of the whole input
@@ -49,7 +49,7 @@ module _ (input : List ℕ) (k words : ℕ) (enough : maxImage + maxScript < k) 
       go (no h) = ap (λ s. writtenFrom s words) (take-all k input (omega arith))
 
 -- so is the program's answer, where there is room for the longest text's tokens
-pub whole-answer : (input : List ℕ) (limit : ℕ) → maxImage + maxScript < limit → (read : List ℕ) → take limit input ≡ read → (words : ℕ) → words ≡ recordSize * maxScript →
+pub whole-answer : (input : List ℕ) (k : ℕ) → maxImage + maxScript < k → (read : List ℕ) → take k input ≡ read → (words : ℕ) → words ≡ recordSize * maxScript →
     countedBy (listedFrom read words) ≡ wholeAnswer input
 unfolding wholeAnswerWithin listedWithin
-whole-answer input limit h read e words w = rw (← e, w) (ap (λ o. countedBy (outcomeMap length o)) (looks-no-further input limit (recordSize * maxScript) h))
+whole-answer input k h read e words w = rw (← e, w) (ap (λ o. countedBy (outcomeMap length o)) (looks-no-further input k (recordSize * maxScript) h))

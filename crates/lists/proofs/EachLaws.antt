@@ -5,7 +5,7 @@ use mathlib.Core.List.{List, [], _∷_, _++_, append-assoc, append-nil}
 use native.Mathlib.Numerals.{add-one}
 use native.Mathlib.Nat.{zero-add, mul-suc, add-zero, mul-zero}
 use native.Mathlib.Omega.{arith}
-use lib.ListN.{length, getD, set, replicate, length-append, List·getD-append}
+use lib.ListN.{length, getD, set, replicate, length-append, length-replicate, List·getD-append}
 use lib.Seq.{set-at, append-snoc, getD-append-add}
 use Rattle.lists.specs.Each.{eachFrom, each, single, column}
 
@@ -89,6 +89,13 @@ module _ (size : ℕ) (f : ℕ → ℕ) where
       ∙ sym (append-snoc (eachFrom (single f) i 0) (f i) (replicate left 0))
       ∙ ap (λ (l : List ℕ). l ++ replicate left 0) (sym (each-snoc (single f) i 0 ∙ ap (λ (j : ℕ). eachFrom (single f) i 0 ++ single f j) (zero-add i)))
       ∙ ap (λ (j : ℕ). eachFrom (single f) j 0 ++ replicate left 0) (sym (add-one i))
+
+  -- a column fills its room
+  pub length-column : (m : ℕ) → m ≤ size → length (column size f m) ≡ size
+  unfolding column
+  length-column m h =
+      let a = length-append (each (single f) m) (replicate (size - m) 0) in
+      omega (arith, length-singles m, length-replicate {A = ℕ} (size - m) 0)
 
   -- what a column holds: f below m, and zero past it
   pub column-at : (m j : ℕ) → j < m → getD (column size f m) j 0 ≡ f j

@@ -52,7 +52,7 @@ fn refuse(r: Refusal, which: u64, answer: &mut [u64; 4]) -> u32
     refusal::number(r)
 }
 
-// Tells the version, the ranges and the profile of an accepted image.
+// Tells the version, the number of ranges and the profile of an accepted image.
 fn tell_profile(
     image: &[u8],
     version: u32,

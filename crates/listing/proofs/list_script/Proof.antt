@@ -1,6 +1,6 @@
 -- `listing::list_script` meets its contract. Assumes nothing.
 use Rattle.image.proofs.ImageLaws.{refused-by, accepted-by}
-use Rattle.listing.proofs.InputLaws.{within-refused, within-long, within-listed, gives-refused, gives-listed}
+use Rattle.listing.proofs.InputLaws.{script-refused, script-long, script-listed, gives-refused, gives-listed}
 use borrow.Author.Needs.{needs}
 use Rattle.listing.proofs.list_script.Statement.{statement}
 use Rattle.listing.proofs.list_script.Tie as tie
@@ -15,19 +15,19 @@ enum-told : tie.Need-enum-told
 enum-told c = search needs
 
 returns : tie.Need-returns
-returns c = gives-refused _ _ (within-long _ _ _ (accepted-by _ _ (c .before .before .before .judge .ensures) _ _ (c .before .enum-told .given .1) .0) (c .if1 .taken))
+returns c = gives-refused _ _ (script-long _ _ _ (accepted-by _ _ (c .before .before .before .judge .ensures) _ _ (c .before .enum-told .given .1) .0) (c .if1 .taken))
 
 list-checked-requires : tie.Need-list-checked-requires
 list-checked-requires c κs = accepted-by _ _ (c .before .before .before .before .judge .ensures) _ _ (c .before .before .enum-told .given .1) .0
 
 returns-2 : tie.Need-returns-2
-returns-2 c = gives-refused _ _ (within-refused _ _ _ (refused-by _ _ (c .before .before .before .judge .ensures) _ (c .before .answer .given .1)))
+returns-2 c = gives-refused _ _ (script-refused _ _ _ (refused-by _ _ (c .before .before .before .judge .ensures) _ (c .before .answer .given .1)))
 
 same-length : tie.Need-same-length
 same-length c = search needs
 
 returns-3 : tie.Need-returns-3
-returns-3 c = gives-listed _ _ _ (within-listed _ _ _ (accepted-by _ _ (c .before .before .before .before .before .before .before .judge .ensures) _ _ (c .before .before .before .before .before .enum-told .given .1) .0) (c .before .before .before .before .if1 .left)) (c .before .before .list-checked .ensures)
+returns-3 c = gives-listed _ _ _ (script-listed _ _ _ (accepted-by _ _ (c .before .before .before .before .before .before .before .judge .ensures) _ _ (c .before .before .before .before .before .enum-told .given .1) .0) (c .before .before .before .before .if1 .left)) (c .before .before .list-checked .ensures)
 
 pub list-script-spec : {M : Type 1} → statement M
 list-script-spec =
