@@ -1,11 +1,11 @@
 /* How much stack each function takes, under an image with 512 profile entries: stack IMAGE TEXT
  *
  * IMAGE is an image without a profile; the calls get its ranges with 512 entries. Each call runs in a thread that first
- * paints its own stack below itself; the lowest byte that lost its paint tells how deep the call went. It is run in two
- * paints, on the image and the text, on a text that ends ill-formed with too short a buffer for an image, and, where the
- * call checks the image, on one whose last entry is bad. Prints for each call the most that it took, and last the counts.
- * A call passes below 4 KB, the bytes of a profile's record: so none holds a copy of one. Link with `-z now`, or the
- * dynamic linker counts too.
+ * paints its own stack below itself; the lowest byte that lost its paint tells how deep the call wrote. It is run in two
+ * paints: on the image and the text; without room in what is lent; on a text that ends ill-formed; and, where the call
+ * checks the image, on one whose last entry is bad. Prints for each call the most that it took, and last the counts. A
+ * call passes below 4 KB, the bytes of a profile's record: so none holds a copy of one. For gcc; link with `-z now`, or
+ * the dynamic linker counts too.
  */
 #define _POSIX_C_SOURCE 200809L
 #include <pthread.h>
@@ -17,7 +17,7 @@
 
 #define STACK (256 * 1024)
 #define MOST 4096
-/* Bytes below the thread's own that are not painted: painting needs some itself. */
+/* Bytes of the thread's own that are not painted: what takes less isn't told apart. */
 #define SLACK 256
 
 enum { WORDS = 4 * 65536, ENTRY_WORDS = LUFFINARC_CHANGED_ENTRY_WORDS * LUFFINARC_MAX_CHANGED_ENTRIES };
@@ -25,7 +25,8 @@ enum { WORDS = 4 * 65536, ENTRY_WORDS = LUFFINARC_CHANGED_ENTRY_WORDS * LUFFINAR
 static uint8_t stack[STACK] __attribute__((aligned(4096)));
 static uint8_t given[LUFFINARC_MAX_IMAGE], image[LUFFINARC_MAX_IMAGE], out[LUFFINARC_MAX_IMAGE];
 static uint8_t text[65537];
-static size_t given_len, image_len, text_len, out_len;
+static size_t given_len, image_len, text_len;
+static size_t out_room = LUFFINARC_MAX_IMAGE, room = WORDS, entry_room = ENTRY_WORDS;
 static uint32_t points[LUFFINARC_MAX_ENTRIES], roles[LUFFINARC_MAX_ENTRIES];
 static uint32_t all_points[LUFFINARC_MAX_ENTRIES], all_roles[LUFFINARC_MAX_ENTRIES];
 static uint32_t range_words[LUFFINARC_RANGE_WORDS * LUFFINARC_MAX_RANGES], words[WORDS], entries[ENTRY_WORDS];
@@ -33,32 +34,32 @@ static size_t range_len;
 static uint64_t answer[LUFFINARC_ANSWER];
 
 static uint32_t check(void) { return luffinarc_check(image, image_len, points, roles, answer); }
-static uint32_t read_image(void) { return luffinarc_read(image, image_len, words, WORDS, points, roles, answer); }
+static uint32_t read_image(void) { return luffinarc_read(image, image_len, words, room, points, roles, answer); }
 static uint32_t write_image(void)
 {
-    return luffinarc_write(1, range_words, range_len, all_points, all_roles, LUFFINARC_MAX_ENTRIES, out, out_len, answer);
+    return luffinarc_write(1, range_words, range_len, all_points, all_roles, LUFFINARC_MAX_ENTRIES, out, out_room, answer);
 }
 static uint32_t lookup(void) { return luffinarc_lookup(image, image_len, 0x0F0B, answer); }
 static uint32_t pair(void) { return luffinarc_pair(image, image_len, image, image_len, answer); }
 static uint32_t list_changes(void)
 {
-    return luffinarc_changes(given, given_len, image, image_len, words, WORDS, entries, ENTRY_WORDS, answer);
+    return luffinarc_changes(given, given_len, image, image_len, words, room, entries, entry_room, answer);
 }
 static uint32_t count(void) { return luffinarc_count(image, image_len, text, text_len, answer); }
-static uint32_t list(void) { return luffinarc_list(image, image_len, text, text_len, words, WORDS, answer); }
+static uint32_t list(void) { return luffinarc_list(image, image_len, text, text_len, words, room, answer); }
 static uint32_t token(void) { return luffinarc_token(image, image_len, text, text_len, 0, answer); }
-static uint32_t hashtags(void) { return luffinarc_hashtags(image, image_len, text, text_len, words, WORDS, answer); }
+static uint32_t hashtags(void) { return luffinarc_hashtags(image, image_len, text, text_len, words, room, answer); }
 static uint32_t part(void) { return luffinarc_part(text, text_len, 0, text_len, answer); }
 static uint32_t lookup_known(void) { return luffinarc_lookup_checked(image, image_len, 0x0F0B, answer); }
 static uint32_t count_known(void) { return luffinarc_count_checked(image, image_len, text, text_len, answer); }
 static uint32_t list_known(void)
 {
-    return luffinarc_list_checked(image, image_len, text, text_len, words, WORDS, answer);
+    return luffinarc_list_checked(image, image_len, text, text_len, words, room, answer);
 }
 static uint32_t token_known(void) { return luffinarc_token_checked(image, image_len, text, text_len, 0, answer); }
 static uint32_t hashtags_known(void)
 {
-    return luffinarc_hashtags_checked(image, image_len, text, text_len, words, WORDS, answer);
+    return luffinarc_hashtags_checked(image, image_len, text, text_len, words, room, answer);
 }
 
 static const struct {
@@ -82,11 +83,19 @@ struct run {
     size_t taken;
 };
 
+static void fail(const char *what)
+{
+    fprintf(stderr, "%s\n", what);
+    exit(2);
+}
+
 static void *run(void *argument)
 {
     struct run *r = argument;
     uint8_t here = 0;
-    size_t top = (size_t)(&here - stack), at = 0;
+    size_t top = (uintptr_t)&here - (uintptr_t)stack, at = 0;
+    if (top <= SLACK || top > STACK)
+        fail("the thread runs on another stack");
     memset(stack, r->paint, top - SLACK);
     r->result = r->call();
     while (at < top - SLACK && stack[at] == r->paint)
@@ -105,10 +114,8 @@ static uint32_t measure(uint32_t (*call)(void), size_t *most)
         pthread_t thread;
         r.paint = PAINTS[i];
         if (pthread_attr_init(&attributes) != 0 || pthread_attr_setstack(&attributes, stack, STACK) != 0 ||
-            pthread_create(&thread, &attributes, run, &r) != 0 || pthread_join(thread, NULL) != 0) {
-            fprintf(stderr, "no thread\n");
-            exit(2);
-        }
+            pthread_create(&thread, &attributes, run, &r) != 0 || pthread_join(thread, NULL) != 0)
+            fail("no thread");
         *most = r.taken > *most ? r.taken : *most;
     }
     return r.result;
@@ -130,15 +137,14 @@ static size_t read_file(const char *name, uint8_t *bytes, size_t most)
 static void make_image(void)
 {
     if (luffinarc_read(given, given_len, range_words, sizeof range_words / 4, points, roles, answer) != 0)
-        exit(2);
+        fail("the image is refused");
     range_len = LUFFINARC_RANGE_WORDS * (size_t)answer[1];
     for (uint32_t i = 0; i < LUFFINARC_MAX_ENTRIES; i++) {
         all_points[i] = 0x4E00 + 2 * i;
         all_roles[i] = LUFFINARC_ROLE_HASHTAG;
     }
-    out_len = sizeof out;
     if (write_image() != 0)
-        exit(2);
+        fail("the image with entries isn't written");
     image_len = (size_t)answer[0];
     memcpy(image, out, image_len);
 }
@@ -155,8 +161,10 @@ int main(int argc, char **argv)
     make_image();
     for (size_t i = 0; i < COUNT; i++)
         accepted[i] = measure(CALLS[i].call, &taken[i]) == 0;
+    out_room = room = entry_room = 0;
+    for (size_t i = 0; i < COUNT; i++)
+        measure(CALLS[i].call, &taken[i]);
     text[text_len++] = 0xFF;
-    out_len = 0;
     for (size_t i = 0; i < COUNT; i++)
         measure(CALLS[i].call, &taken[i]);
     image[image_len - 4] = 0;

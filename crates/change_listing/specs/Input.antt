@@ -6,7 +6,7 @@ use lib.ListN.{take, drop}
 use Rattle.refusal.specs.declared.Refusal.the-variants as refusal
 use Rattle.image.specs.Limits.{maxRanges, maxEntries}
 use Rattle.lookup.specs.declared.Section.the-variants.{Ranges, Entries}
-use Rattle.changes.specs.Answer.{changeSize, answerWithin, runsWithin, entriesWithin}
+use Rattle.changes.specs.Answer.{changeSize, answerWithin, runsAfterWithin, entriesAfterWithin}
 use Rattle.changes.specs.Means.{ChangesMeans}
 use Rattle.changes.specs.declared.Changes.{Changes}
 use Rattle.changes.specs.declared.Changes.the-variants as changes
@@ -29,11 +29,11 @@ newerIn input = newerWithin maxEntries input
 abbrev pub maxRunWords : ℕ
 maxRunWords = changeSize Ranges * (2 * (maxRanges + maxRanges) - 1)
 
-abbrev pub entryWordsWithin : ℕ → ℕ
-entryWordsWithin limit = changeSize Entries * (limit + limit)
+abbrev pub maxEntryWordsWithin : ℕ → ℕ
+maxEntryWordsWithin limit = changeSize Entries * (limit + limit)
 
 abbrev pub maxEntryWords : ℕ
-maxEntryWords = entryWordsWithin maxEntries
+maxEntryWords = maxEntryWordsWithin maxEntries
 
 -- the answer, with buffers of so many words
 abbrev pub answerFromWithin : ℕ → List ℕ → ℕ → ℕ → Changes
@@ -44,20 +44,20 @@ answerFrom input words more = answerFromWithin maxEntries input words more
 
 -- the two buffers after the call, which were `out` and `more`
 abbrev pub runsFromWithin : ℕ → List ℕ → List ℕ → List ℕ → List ℕ
-runsFromWithin limit input out more = runsWithin limit (olderWithin limit input) (newerWithin limit input) out more
+runsFromWithin limit input out more = runsAfterWithin limit (olderWithin limit input) (newerWithin limit input) out more
 
 abbrev pub runsFrom : List ℕ → List ℕ → List ℕ → List ℕ
 runsFrom input out more = runsFromWithin maxEntries input out more
 
 abbrev pub entriesFromWithin : ℕ → List ℕ → List ℕ → List ℕ → List ℕ
-entriesFromWithin limit input out more = entriesWithin limit (olderWithin limit input) (newerWithin limit input) out more
+entriesFromWithin limit input out more = entriesAfterWithin limit (olderWithin limit input) (newerWithin limit input) out more
 
 abbrev pub entriesFrom : List ℕ → List ℕ → List ℕ → List ℕ
 entriesFrom input out more = entriesFromWithin maxEntries input out more
 
 -- the program's answer: there is room for the most changes
 unfoldable pub wholeAnswerWithin : ℕ → List ℕ → Changes
-wholeAnswerWithin limit input = answerFromWithin limit input maxRunWords (entryWordsWithin limit)
+wholeAnswerWithin limit input = answerFromWithin limit input maxRunWords (maxEntryWordsWithin limit)
 
 abbrev pub wholeAnswer : List ℕ → Changes
 wholeAnswer input = wholeAnswerWithin maxEntries input

@@ -9,7 +9,6 @@ use lib.ListN.{length}
 use borrow.Author.Tests.{ltb-true, ltb-false}
 use Rattle.lists.specs.Laid.{laid}
 use Rattle.refusal.specs.declared.Refusal.{Refusal}
-use Rattle.refusal.specs.declared.Refusal.the-variants as refusal
 use Rattle.image.specs.Check.{refusalOf}
 use Rattle.image.specs.Accepted.{Accepted}
 use Rattle.image.proofs.ImageLaws.{accepted, refused-none, refusal-means, means-refusal}
@@ -17,10 +16,9 @@ use Rattle.lookup.specs.declared.Section.the-variants.{Ranges, Entries}
 use Rattle.compare.specs.Judged.{judgedBy}
 use Rattle.changes.specs.Change.{Change}
 use Rattle.changes.specs.ChangeList.{runsOf, entriesOf}
-use Rattle.changes.specs.Answer.{changeSize, listWords, listedOf, changesBy, answerWithin, answerOf, bufferAfter, runsWithin, runsAfter, entriesWithin, entriesAfter}
+use Rattle.changes.specs.Answer.{changeSize, listWords, listedOf, changesBy, answerWithin, answerOf, bufferAfter, runsAfterWithin, runsAfter, entriesAfterWithin, entriesAfter}
 use Rattle.changes.specs.Means.{BothLists, ChangesMeans, bad-older, bad-newer, few-runs, few-entries, both-listed}
 use Rattle.changes.specs.declared.Changes.{Changes}
-use Rattle.changes.specs.declared.Changes.the-variants as changes
 use Rattle.changes.proofs.RoomLaws.{lacks-runs, lacks-entries, lists-both, older-answer, newer-answer, accepted-answer, runs-by, entries-by}
 use Rattle.changes.proofs.ChangesLaws.{runs-are, entries-are, are-runs, are-entries}
 
@@ -62,7 +60,7 @@ module _ (older newer out more : List ℕ) where
   pub changes-mean :
       (c : Changes) (words others : List ℕ) → answer ≡ c → runsAfter older newer out more ≡ words → entriesAfter older newer out more ≡ others
       → ChangesMeans older newer out more c words others
-  unfolding answerWithin runsWithin entriesWithin
+  unfolding answerWithin runsAfterWithin entriesAfterWithin
   changes-mean c words others e f g = rw (← e, ← f, ← g) (means-by _ _ refl refl)
 
   -- and back: where it is so, that is the answer, and the buffers hold this

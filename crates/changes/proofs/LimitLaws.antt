@@ -8,7 +8,7 @@ use Rattle.refusal.specs.declared.Refusal.{Refusal}
 use Rattle.image.specs.Check.{refusalWithin}
 use Rattle.lookup.specs.declared.Section.the-variants.{Ranges, Entries}
 use Rattle.compare.specs.Judged.{judgedBy}
-use Rattle.changes.specs.Answer.{listedOf, changesBy, bufferAfter, answerWithin, runsWithin, entriesWithin}
+use Rattle.changes.specs.Answer.{listedOf, changesBy, bufferAfter, answerWithin, runsAfterWithin, entriesAfterWithin}
 use Rattle.changes.specs.declared.Changes.{Changes}
 
 module _ (limit : ℕ) (older newer : List ℕ) (o p : Option Refusal) (e : refusalWithin limit older ≡ o) (f : refusalWithin limit newer ≡ p) where
@@ -20,10 +20,10 @@ module _ (limit : ℕ) (older newer : List ℕ) (o p : Option Refusal) (e : refu
   answer-by words more = λ d. changesBy (judgedBy (e d) (f d)) (listedOf older newer words more)
 
   -- the two buffers
-  pub runs-are : (out more : List ℕ) → runsWithin limit older newer out more ≡ bufferAfter Ranges older newer (answer (length out) (length more)) out
-  unfolding runsWithin
+  pub runs-are : (out more : List ℕ) → runsAfterWithin limit older newer out more ≡ bufferAfter Ranges older newer (answer (length out) (length more)) out
+  unfolding runsAfterWithin
   runs-are out more = ap (λ (c : Changes). bufferAfter Ranges older newer c out) (answer-by (length out) (length more))
 
-  pub entries-are : (out more : List ℕ) → entriesWithin limit older newer out more ≡ bufferAfter Entries older newer (answer (length out) (length more)) more
-  unfolding entriesWithin
+  pub entries-are : (out more : List ℕ) → entriesAfterWithin limit older newer out more ≡ bufferAfter Entries older newer (answer (length out) (length more)) more
+  unfolding entriesAfterWithin
   entries-are out more = ap (λ (c : Changes). bufferAfter Entries older newer c more) (answer-by (length out) (length more))

@@ -16,7 +16,7 @@ use Rattle.lookup.specs.declared.Section.the-variants.{Ranges, Entries}
 use Rattle.compare.specs.declared.Judged.{Judged}
 use Rattle.compare.specs.Judged.{judgedBy}
 use Rattle.changes.specs.ChangeList.{runsOf, entriesOf}
-use Rattle.changes.specs.Answer.{changeSize, listedOf, changesBy, bufferAfter, answerWithin, answerOf, runsWithin, runsAfter, entriesWithin, entriesAfter}
+use Rattle.changes.specs.Answer.{changeSize, listedOf, changesBy, bufferAfter, answerWithin, answerOf, runsAfterWithin, runsAfter, entriesAfterWithin, entriesAfter}
 use Rattle.changes.specs.Walked.{neededOf}
 use Rattle.changes.specs.declared.Changes.{Changes}
 use Rattle.changes.specs.declared.Changes.the-variants as changes
@@ -93,11 +93,11 @@ module _ (older newer : List ℕ) (words more : ℕ) where
 -- the buffers after the call, by its answer
 module _ (older newer out more : List ℕ) {c : Changes} (e : c ≡ answerOf older newer (length out) (length more)) where
   pub runs-by : {words : List ℕ} → words ≡ bufferAfter Ranges older newer c out → words ≡ runsAfter older newer out more
-  unfolding runsWithin
+  unfolding runsAfterWithin
   runs-by f = f ∙ ap (λ (d : Changes). bufferAfter Ranges older newer d out) e
 
   pub entries-by : {words : List ℕ} → words ≡ bufferAfter Entries older newer c more → words ≡ entriesAfter older newer out more
-  unfolding entriesWithin
+  unfolding entriesAfterWithin
   entries-by f = f ∙ ap (λ (d : Changes). bufferAfter Entries older newer d more) e
 
 -- the call's answer and buffers, where the two images are judged so

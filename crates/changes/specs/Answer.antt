@@ -73,14 +73,14 @@ abbrev pub bufferAfter : Section → List ℕ → List ℕ → Changes → List 
 bufferAfter section older newer answer out = wordsBy answer out (listWords section (changesOf section older newer))
 
 -- the two buffers after the call: that for the runs, which was `out`, and that for the entries, which was `more`
-unfoldable pub runsWithin : ℕ → List ℕ → List ℕ → List ℕ → List ℕ → List ℕ
-runsWithin limit older newer out more = bufferAfter Ranges older newer (answerWithin limit older newer (length out) (length more)) out
+unfoldable pub runsAfterWithin : ℕ → List ℕ → List ℕ → List ℕ → List ℕ → List ℕ
+runsAfterWithin limit older newer out more = bufferAfter Ranges older newer (answerWithin limit older newer (length out) (length more)) out
 
 abbrev pub runsAfter : List ℕ → List ℕ → List ℕ → List ℕ → List ℕ
-runsAfter older newer out more = runsWithin maxEntries older newer out more
+runsAfter older newer out more = runsAfterWithin maxEntries older newer out more
 
-unfoldable pub entriesWithin : ℕ → List ℕ → List ℕ → List ℕ → List ℕ → List ℕ
-entriesWithin limit older newer out more = bufferAfter Entries older newer (answerWithin limit older newer (length out) (length more)) more
+unfoldable pub entriesAfterWithin : ℕ → List ℕ → List ℕ → List ℕ → List ℕ → List ℕ
+entriesAfterWithin limit older newer out more = bufferAfter Entries older newer (answerWithin limit older newer (length out) (length more)) more
 
 abbrev pub entriesAfter : List ℕ → List ℕ → List ℕ → List ℕ → List ℕ
-entriesAfter older newer out more = entriesWithin maxEntries older newer out more
+entriesAfter older newer out more = entriesAfterWithin maxEntries older newer out more

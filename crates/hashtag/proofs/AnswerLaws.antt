@@ -19,7 +19,7 @@ use Rattle.grammar.specs.Record.{recordSize, roomOf}
 use Rattle.grammar.specs.Reading.{maxText, lengthRefusal, formRefusalBy, roomed, laidBy}
 use Rattle.grammar.proofs.AnswerLaws.{roomed-in, roomed-out}
 use Rattle.hashtag.specs.Find.{Span, hashtagsOf}
-use Rattle.hashtag.specs.Listed.{spansWords, listedBy, hashtagsThrough, countedThrough, foundWithin, hashtagsFound, hashtagsWithin, hashtagListWithin, hashtagListOf, hashtagWordsWithin, hashtagListWords}
+use Rattle.hashtag.specs.Listed.{spansWords, listedBy, hashtagsThrough, countedThrough, foundWithin, hashtagsFound, hashtagsWrittenWithin, hashtagListWithin, hashtagListOf, hashtagWordsWithin, hashtagListWords}
 use Rattle.hashtag.specs.declared.Listed.{Listed}
 use Rattle.hashtag.specs.declared.Listed.the-variants.{Refused, Hashtags}
 
@@ -29,7 +29,7 @@ module _ (s text out : List ℕ) where
   Gives r out′ = (r ≡ listedBy (hashtagListOf s text (length out))) × (out′ ≡ hashtagListWords s text out)
 
   gives : (o : Outcome (List Span)) → hashtagsFound s text ≡ o → Gives (listedBy (outcomeMap length (roomed (length out) o))) (laidBy (spansWords text) out (roomed (length out) o))
-  unfolding hashtagListWithin hashtagWordsWithin hashtagsWithin
+  unfolding hashtagListWithin hashtagWordsWithin hashtagsWrittenWithin
   gives o e = rw e (refl, refl)
 
   -- 1 to 4

@@ -22,7 +22,7 @@ use Rattle.grammar.specs.Record.{roomOf}
 use Rattle.grammar.specs.Reading.{maxText, lengthRefusal, formRefusalBy, roomed, laidBy}
 use Rattle.grammar.proofs.AnswerLaws.{counts-given, counts-refused, roomed-in, roomed-out, roomed-given}
 use Rattle.hashtag.specs.Find.{Span, hashtagsOf, AllHashtags}
-use Rattle.hashtag.specs.Listed.{spansWords, hashtagsThrough, foundWithin, hashtagsFound, hashtagsWithin, hashtagListWithin, hashtagListOf, hashtagWordsWithin, hashtagListWords}
+use Rattle.hashtag.specs.Listed.{spansWords, hashtagsThrough, foundWithin, hashtagsFound, hashtagsWrittenWithin, hashtagListWithin, hashtagListOf, hashtagWordsWithin, hashtagListWords}
 use Rattle.hashtag.specs.Means.{Tagged, Refuses, of-image, too-long, ill-formed, HashtagListMeans, lists, no-room, list-refuses}
 use Rattle.hashtag.proofs.AllLaws.{hashtags-all, all-hashtags}
 
@@ -67,7 +67,7 @@ module _ (s text : List ℕ) where
   -- writing the list into a buffer of so many words
   module _ (words : ℕ) where
     pub hashtag-list-means : (a : Outcome ℕ) → hashtagListOf s text words ≡ a → HashtagListMeans s text words a
-    unfolding hashtagListWithin hashtagsWithin
+    unfolding hashtagListWithin hashtagsWrittenWithin
     hashtag-list-means a e = subst (HashtagListMeans s text words) e (go (hashtagsFound s text) own-means)
       where
         by-room : {ts : List Span} → Tagged s text ts → (b : Bool) → ltb (roomOf words) (length ts) ≡ b →
@@ -80,7 +80,7 @@ module _ (s text : List ℕ) where
         go o (refuses r) = list-refuses r
 
     pub means-hashtag-list : (a : Outcome ℕ) → HashtagListMeans s text words a → hashtagListOf s text words ≡ a
-    unfolding hashtagListWithin hashtagsWithin
+    unfolding hashtagListWithin hashtagsWrittenWithin
     means-hashtag-list a (lists {ts = ts} d n h) =
         ap (λ o. outcomeMap length (roomed words o)) (means-found _ (tags d)) ∙ ap (outcomeMap length) (roomed-in words ts (rw n h)) ∙ ap given n
     means-hashtag-list a (no-room {ts = ts} d n h) =
@@ -90,7 +90,7 @@ module _ (s text : List ℕ) where
   -- what the buffer then holds: the words of the hashtags in its front, and past them what it held
   pub hashtag-list-written : (out : List ℕ) (n : ℕ) → hashtagListOf s text (length out) ≡ given n →
       (ts : List Span) × Tagged s text ts × (length ts ≡ n) × (hashtagListWords s text out ≡ laid out 0 (spansWords text ts))
-  unfolding hashtagListWithin hashtagWordsWithin hashtagsWithin
+  unfolding hashtagListWithin hashtagWordsWithin hashtagsWrittenWithin
   hashtag-list-written out n e =
       let (ts, g, l) = counts-given (roomed (length out) (hashtagsFound s text)) n e in
       go (subst FoundMeans (roomed-given (length out) (hashtagsFound s text) ts g .0) own-means) l (ap (laidBy (spansWords text) out) g)
@@ -101,5 +101,5 @@ module _ (s text : List ℕ) where
 
   -- "a refused call leaves every word that was lent as it was"
   pub hashtag-list-kept : (out : List ℕ) (r : Refusal) → hashtagListOf s text (length out) ≡ refused r → hashtagListWords s text out ≡ out
-  unfolding hashtagListWithin hashtagWordsWithin hashtagsWithin
+  unfolding hashtagListWithin hashtagWordsWithin hashtagsWrittenWithin
   hashtag-list-kept out r e = ap (laidBy (spansWords text) out) (counts-refused (roomed (length out) (hashtagsFound s text)) r e)

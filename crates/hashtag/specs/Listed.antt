@@ -54,22 +54,22 @@ abbrev pub hashtagsFound : List ℕ → List ℕ → Outcome (List Span)
 hashtagsFound s text = foundWithin maxEntries s text
 
 -- the hashtags that are written into a buffer of so many words; 8 where they need more room
-unfoldable pub hashtagsWithin : ℕ → List ℕ → List ℕ → ℕ → Outcome (List Span)
-hashtagsWithin limit s text words = roomed words (foundWithin limit s text)
+unfoldable pub hashtagsWrittenWithin : ℕ → List ℕ → List ℕ → ℕ → Outcome (List Span)
+hashtagsWrittenWithin limit s text words = roomed words (foundWithin limit s text)
 
 abbrev pub hashtagsWritten : List ℕ → List ℕ → ℕ → Outcome (List Span)
-hashtagsWritten s text words = hashtagsWithin maxEntries s text words
+hashtagsWritten s text words = hashtagsWrittenWithin maxEntries s text words
 
 -- the answer of writing the list
 unfoldable pub hashtagListWithin : ℕ → List ℕ → List ℕ → ℕ → Outcome ℕ
-hashtagListWithin limit s text words = outcomeMap length (hashtagsWithin limit s text words)
+hashtagListWithin limit s text words = outcomeMap length (hashtagsWrittenWithin limit s text words)
 
 abbrev pub hashtagListOf : List ℕ → List ℕ → ℕ → Outcome ℕ
 hashtagListOf s text words = hashtagListWithin maxEntries s text words
 
 -- what the buffer then holds
 unfoldable pub hashtagWordsWithin : ℕ → List ℕ → List ℕ → List ℕ → List ℕ
-hashtagWordsWithin limit s text out = laidBy (spansWords text) out (hashtagsWithin limit s text (length out))
+hashtagWordsWithin limit s text out = laidBy (spansWords text) out (hashtagsWrittenWithin limit s text (length out))
 
 abbrev pub hashtagListWords : List ℕ → List ℕ → List ℕ → List ℕ
 hashtagListWords s text out = hashtagWordsWithin maxEntries s text out

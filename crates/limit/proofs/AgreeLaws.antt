@@ -28,10 +28,10 @@ use Rattle.input.proofs.InputLaws.{means-whole, end-whole, sized-whole}
 use Rattle.grammar.specs.Record.{listedWords, recordSize}
 use Rattle.grammar.specs.Reading.{outcomeWithin, countWithin, roomed, writtenWithin, listWithin, laidBy, listWordsWithin}
 use Rattle.token.specs.Taken.{takenWithin}
-use Rattle.hashtag.specs.Listed.{spansWords, foundWithin, hashtagsWithin, hashtagListWithin, hashtagWordsWithin}
+use Rattle.hashtag.specs.Listed.{spansWords, foundWithin, hashtagsWrittenWithin, hashtagListWithin, hashtagWordsWithin}
 use Rattle.scan.specs.Counted.{countedBy}
 use Rattle.listing.specs.Input.{maxScript, scriptWithin, writtenFromWithin, listedWithin, wordsWithin as scriptWords, wholeAnswerWithin as wholeList}
-use Rattle.change_listing.specs.Input.{maxRunWords, entryWordsWithin, answerFromWithin, wholeAnswerWithin as wholeChanges}
+use Rattle.change_listing.specs.Input.{maxRunWords, maxEntryWordsWithin, answerFromWithin, wholeAnswerWithin as wholeChanges}
 use Rattle.limit.specs.Agree.{AgreeOnImage, AgreeOnPair, AgreeOnWriting, AgreeOnScript, AgreeOnChanges}
 
 module _ (k l : ℕ) where
@@ -45,8 +45,8 @@ module _ (k l : ℕ) where
     unfolding writtenWithin
     same-written text words = ap (roomed words) (same-outcome text)
 
-    same-found : (text : List ℕ) (words : ℕ) → hashtagsWithin k s text words ≡ hashtagsWithin l s text words
-    unfolding foundWithin hashtagsWithin
+    same-found : (text : List ℕ) (words : ℕ) → hashtagsWrittenWithin k s text words ≡ hashtagsWrittenWithin l s text words
+    unfolding foundWithin hashtagsWrittenWithin
     same-found text words = rw e
 
     same-taken : (text : List ℕ) (place : ℕ) → takenWithin k s text place ≡ takenWithin l s text place
@@ -124,32 +124,32 @@ module _ (k l : ℕ) (fewer : k ≤ l) where
       -- the program's room is enough by either limit
       same-listed :
           refusalWithin k (imageIn input) ≡ none → refusalWithin k (restIn input) ≡ none → l ≤ maxEntries
-          → listedOf (imageIn input) (restIn input) maxRunWords (entryWordsWithin k) ≡ listedOf (imageIn input) (restIn input) maxRunWords (entryWordsWithin l)
+          → listedOf (imageIn input) (restIn input) maxRunWords (maxEntryWordsWithin k) ≡ listedOf (imageIn input) (restIn input) maxRunWords (maxEntryWordsWithin l)
       same-listed a b few =
           let o = same-refusal k maxEntries (imageIn input) (omega arith) h in
           let n = same-refusal k maxEntries (restIn input) (omega arith) g in
           let r = runs-by-limits (imageIn input) (restIn input) (sym o ∙ a) (sym n ∙ b) in
           let m = entries-by-records (imageIn input) (restIn input) (sym o ∙ a) (sym n ∙ b) in
-          lists-both (imageIn input) (restIn input) maxRunWords (entryWordsWithin k) (omega arith) (omega (arith, h .few-entries, g .few-entries))
-          ∙ sym (lists-both (imageIn input) (restIn input) maxRunWords (entryWordsWithin l) (omega arith) (omega (arith, h .few-entries, g .few-entries)))
+          lists-both (imageIn input) (restIn input) maxRunWords (maxEntryWordsWithin k) (omega arith) (omega (arith, h .few-entries, g .few-entries))
+          ∙ sym (lists-both (imageIn input) (restIn input) maxRunWords (maxEntryWordsWithin l) (omega arith) (omega (arith, h .few-entries, g .few-entries)))
 
       abbrev changed : Option Refusal → Option Refusal → ℕ → Changes
       changed o p entries = changesBy (judgedBy o p) (listedOf (imageIn input) (restIn input) maxRunWords entries)
 
       room-by :
           l ≤ maxEntries → (o p : Option Refusal) → refusalWithin k (imageIn input) ≡ o → refusalWithin k (restIn input) ≡ p
-          → changed o p (entryWordsWithin k) ≡ changed o p (entryWordsWithin l)
+          → changed o p (maxEntryWordsWithin k) ≡ changed o p (maxEntryWordsWithin l)
       room-by few (some r) p a b = refl
       room-by few none (some r) a b = refl
       room-by few none none a b = same-listed a b few
 
       same-room :
           l ≤ maxEntries
-          → answerWithin k (imageIn input) (restIn input) maxRunWords (entryWordsWithin k) ≡ answerWithin k (imageIn input) (restIn input) maxRunWords (entryWordsWithin l)
+          → answerWithin k (imageIn input) (restIn input) maxRunWords (maxEntryWordsWithin k) ≡ answerWithin k (imageIn input) (restIn input) maxRunWords (maxEntryWordsWithin l)
       same-room few =
-          answer-by k (imageIn input) (restIn input) _ _ refl refl maxRunWords (entryWordsWithin k)
+          answer-by k (imageIn input) (restIn input) _ _ refl refl maxRunWords (maxEntryWordsWithin k)
           ∙ room-by few _ _ refl refl
-          ∙ sym (answer-by k (imageIn input) (restIn input) _ _ refl refl maxRunWords (entryWordsWithin l))
+          ∙ sym (answer-by k (imageIn input) (restIn input) _ _ refl refl maxRunWords (maxEntryWordsWithin l))
 
       pub changes-agree : l ≤ maxEntries → AgreeOnChanges k l input
       unfolding wholeChanges
@@ -158,5 +158,5 @@ module _ (k l : ℕ) (fewer : k ≤ l) where
             changes = same-changes;
             runs = λ out more. rw (end-whole input whole, end-whole input whole-more) (images .runs out more);
             entries = λ out more. rw (end-whole input whole, end-whole input whole-more) (images .entries out more);
-            whole = rw (end-whole input whole, end-whole input whole-more) (same-room few ∙ images .changes maxRunWords (entryWordsWithin l));
+            whole = rw (end-whole input whole, end-whole input whole-more) (same-room few ∙ images .changes maxRunWords (maxEntryWordsWithin l));
           }

@@ -26,10 +26,10 @@ use Rattle.input.proofs.InputLaws.{means-whole, not-whole, dec-whole, end-whole
 use Rattle.grammar.specs.Record.{recordSize, listedWords}
 use Rattle.grammar.specs.Reading.{outcomeWithin, countWithin, roomed, writtenWithin, listWithin, laidBy, listWordsWithin}
 use Rattle.token.specs.Taken.{takenWithin}
-use Rattle.hashtag.specs.Listed.{spansWords, foundWithin, hashtagsWithin, hashtagListWithin, hashtagWordsWithin}
+use Rattle.hashtag.specs.Listed.{spansWords, foundWithin, hashtagsWrittenWithin, hashtagListWithin, hashtagWordsWithin}
 use Rattle.scan.specs.Counted.{countedBy}
 use Rattle.listing.specs.Input.{maxScript, scriptWithin, writtenFromWithin, listedWithin, wordsWithin as scriptWords, wholeAnswerWithin as wholeList}
-use Rattle.change_listing.specs.Input.{olderWithin, newerWithin, maxRunWords, entryWordsWithin, wholeAnswerWithin as wholeChanges}
+use Rattle.change_listing.specs.Input.{olderWithin, newerWithin, maxRunWords, maxEntryWordsWithin, wholeAnswerWithin as wholeChanges}
 use Rattle.change_listing.proofs.InputLaws.{cut-refused}
 use Rattle.limit.specs.Former.{refusalAbove}
 use Rattle.limit.specs.Refuses.{RefusesChanges, RefusesScript, RefusesInput, RefusesImage}
@@ -62,8 +62,8 @@ module _ (limit : ℕ) (s : List ℕ) (r : Refusal) (e : refusalWithin limit s �
   unfolding writtenWithin
   written-refused text words = ap (roomed words) (outcome-refused text)
 
-  found-refused : (text : List ℕ) (words : ℕ) → hashtagsWithin limit s text words ≡ refused r
-  unfolding hashtagsWithin foundWithin
+  found-refused : (text : List ℕ) (words : ℕ) → hashtagsWrittenWithin limit s text words ≡ refused r
+  unfolding hashtagsWrittenWithin foundWithin
   found-refused text words = rw e
 
   older-refused : (newer : List ℕ) → RefusesChanges limit s newer (changes.Older r)
@@ -119,7 +119,7 @@ script-refuses limit input r f =
 input-refuses : (limit : ℕ) (input : List ℕ) (c : Changes) → RefusesChanges limit (olderWithin limit input) (newerWithin limit input) c → RefusesInput limit input c
 unfolding wholeChanges
 input-refuses limit input c h =
-    record { answer = h .answer; runs = h .runs; entries = h .entries; whole = h .answer maxRunWords (entryWordsWithin limit) }
+    record { answer = h .answer; runs = h .runs; entries = h .entries; whole = h .answer maxRunWords (maxEntryWordsWithin limit) }
 
 -- so every call
 pub refuses-above : (limit l : ℕ) (s : List ℕ) → AcceptedWithin l s → limit < entryCount s → RefusesImage limit s (refusalAbove limit s)

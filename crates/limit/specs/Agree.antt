@@ -9,7 +9,7 @@ use Rattle.image.specs.Check.{checkWithin, readWithin, wordsWithin}
 use Rattle.lookup.specs.Lookup.{lookupWithin}
 use Rattle.writer.specs.Write.{writeWithin, bytesWithin}
 use Rattle.pair.specs.Pair.{pairWithin}
-use Rattle.changes.specs.Answer.{answerWithin, runsWithin, entriesWithin}
+use Rattle.changes.specs.Answer.{answerWithin, runsAfterWithin, entriesAfterWithin}
 use Rattle.grammar.specs.Reading.{countWithin, listWithin, listWordsWithin}
 use Rattle.token.specs.Taken.{takenWithin}
 use Rattle.hashtag.specs.Listed.{hashtagListWithin, hashtagWordsWithin}
@@ -34,8 +34,8 @@ module _ (k l : ℕ) where
   pub record AgreeOnPair (older newer : List ℕ) : Type 0 where
     pub compared : pairWithin k older newer ≡ pairWithin l older newer
     pub changes : (runWords entryWords : ℕ) → answerWithin k older newer runWords entryWords ≡ answerWithin l older newer runWords entryWords
-    pub runs : (out more : List ℕ) → runsWithin k older newer out more ≡ runsWithin l older newer out more
-    pub entries : (out more : List ℕ) → entriesWithin k older newer out more ≡ entriesWithin l older newer out more
+    pub runs : (out more : List ℕ) → runsAfterWithin k older newer out more ≡ runsAfterWithin l older newer out more
+    pub entries : (out more : List ℕ) → entriesAfterWithin k older newer out more ≡ entriesAfterWithin l older newer out more
 
   -- the writer, of the same profile in two records
   pub record AgreeOnWriting (words : List ℕ) (p q : Profile) : Type 0 where

@@ -15,7 +15,7 @@ use Rattle.lookup.specs.Lookup.{lookupWithin}
 use Rattle.lookup.specs.declared.Found.the-variants as found
 use Rattle.pair.specs.Pair.{pairWithin}
 use Rattle.pair.specs.declared.Pair.the-variants as pair
-use Rattle.changes.specs.Answer.{answerWithin, runsWithin, entriesWithin}
+use Rattle.changes.specs.Answer.{answerWithin, runsAfterWithin, entriesAfterWithin}
 use Rattle.changes.specs.declared.Changes.{Changes}
 use Rattle.changes.specs.declared.Changes.the-variants as changes
 use Rattle.grammar.specs.Reading.{countWithin, listWithin, listWordsWithin}
@@ -36,8 +36,8 @@ module _ (limit : ℕ) where
   -- the list of changes refuses, and both buffers stay
   pub record RefusesChanges (older newer : List ℕ) (c : Changes) : Type 0 where
     pub answer : (runWords entryWords : ℕ) → answerWithin limit older newer runWords entryWords ≡ c
-    pub runs : (out more : List ℕ) → runsWithin limit older newer out more ≡ out
-    pub entries : (out more : List ℕ) → entriesWithin limit older newer out more ≡ more
+    pub runs : (out more : List ℕ) → runsAfterWithin limit older newer out more ≡ out
+    pub entries : (out more : List ℕ) → entriesAfterWithin limit older newer out more ≡ more
 
   -- the token lister's call and program
   pub record RefusesScript (input : List ℕ) (r : Refusal) : Type 0 where

@@ -70,9 +70,14 @@ fn on_the_texts() {
         [(0x2D, Role::Medial), (0x2E, Role::Medial), (0x5F, Role::Start), (0xB7, Role::Medial)];
     for sample in texts::all() {
         assert_eq!(sample.text.len(), texts::LENGTH);
-        let counts = [sample.profile, &[], &texts::MEDIALS, &more]
-            .map(|profile| agree(&with_profile(profile), sample.name, &sample.text));
-        assert!(counts.iter().all(|&count| count > 50_000), "{}: {counts:?}", sample.name);
+        let mut profiles = vec![&[][..], &texts::MEDIALS, &more];
+        if !profiles.contains(&sample.profile) {
+            profiles.push(sample.profile);
+        }
+        for profile in profiles {
+            let count = agree(&with_profile(profile), sample.name, &sample.text);
+            assert!(count > 50_000, "{}: {count}", sample.name);
+        }
     }
 }
 

@@ -64,7 +64,8 @@ fn large_images() {
     let mut input = [image_of(&older), image_of(&newer)].concat();
     let all = output(&input);
     assert!(all.starts_with("changes 16383 1024\n"));
-    assert_eq!(all.lines().count(), 1 + 16_383 + 1024);
+    let [runs, entries] = ["\nclass ", "\nrole "].map(|start| all.matches(start).count());
+    assert_eq!((runs, entries, all.lines().count()), (16_383, 1024, 1 + 16_383 + 1024));
     for length in [input.len() + 1, 200_000, 1 << 20] {
         input.resize(length, 0);
         assert_eq!(output(&input), "refused newer 1\n");

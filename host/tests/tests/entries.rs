@@ -211,8 +211,6 @@ fn bytes_about_the_most() {
         (with_word(&with_word(&[&next[..], &[0; 8]].concat(), 8, 53_280), 20, 512), 4),
     ];
     for (i, (image, answer)) in cases.iter().enumerate() {
-        let checked = Library.check(image);
-        assert_eq!(number(&checked), *answer, "case {i}");
         assert_eq!(number(&compare_images(image)), *answer, "case {i}");
     }
     assert_eq!(Library.check(&cases[10].0), Err(Refusal::Entry(511)));
@@ -288,12 +286,15 @@ fn used_lengths() {
     let mut out = vec![7; 53_280];
     assert_eq!(Library.write(VERSION, &words, &full, &mut out), Ok(53_280));
     assert!(out == made(4096, 512));
+    let mut bad_entry = full;
+    bad_entry.roles[0] = 0;
+    assert_eq!(Library.write(VERSION, &[], &bad_entry, &mut out), Err(Refusal::Entry(0)));
     let bad = [5, 4, 1];
     for used in [513, 514, 1000, 65_536 + 64, 0x8000_0000, u32::MAX] {
         for words in [&[][..], &words, &bad] {
-            for room in [0, 4128, 60_000] {
+            for (room, entries) in [(0, full), (4128, full), (60_000, full), (60_000, bad_entry)] {
                 let mut out = vec![7; room];
-                let long = Profile { used, ..full };
+                let long = Profile { used, ..entries };
                 let written = Library.write(VERSION, words, &long, &mut out);
                 assert_eq!(written, Err(Refusal::Header), "{used}");
                 assert!(out.iter().all(|&byte| byte == 7));
@@ -301,12 +302,6 @@ fn used_lengths() {
         }
         let long = Profile { used, ..full };
         assert_eq!(Library.write(VERSION, &bad[..2], &long, &mut []), Err(Refusal::Shape));
-    }
-    for used in [513, 1 << 32, (1 << 32) + 512, usize::MAX] {
-        let (mut out, mut answer) = ([7; 40], [9; 4]);
-        let (points, roles) = (&full.points, &full.roles);
-        let refused = calls::write(1, &[], points, roles, used, &mut out, &mut answer);
-        assert_eq!((refused, answer, out), (2, [0; 4], [7; 40]));
     }
 }
 
@@ -404,6 +399,7 @@ fn a_name_of_all_entries() {
         let end = if last_role == role::START { 1537 } else { 1531 };
         assert_eq!(words, [6, 0, end, 1]);
     }
+    // Without the last letter the medial before it has none after it.
     let image = made(&entries[..511]);
     assert_eq!(Library.count(&image, name.as_bytes()), Err(Refusal::Characters(1530)));
 }
@@ -468,7 +464,7 @@ fn token_lister() {
     assert_eq!(list(&[&made(4096, 513)[..], b"\x00"].concat()), "refused 1\n");
 }
 
-/// The change lister on two images of the most bytes, with the most changes.
+/// The change lister on two images of the most bytes, and with a total length a byte longer.
 #[test]
 fn change_lister() {
     let list = |input: &[u8]| {
@@ -478,10 +474,7 @@ fn change_lister() {
     let (older, newer) = (image_of(&older), image_of(&newer));
     assert_eq!((older.len(), newer.len()), (53_280, 53_280));
     for (older, newer) in [(&older, &newer), (&newer, &older)] {
-        let all = list(&[&older[..], newer].concat());
-        assert!(all.starts_with("changes 16383 1024\nclass "));
-        let [runs, entries] = ["\nclass ", "\nrole "].map(|start| all.matches(start).count());
-        assert_eq!((runs, entries), (16_383, 1024));
+        assert!(list(&[&older[..], newer].concat()).starts_with("changes 16383 1024\n"));
         let longer = with_word(older, 8, 53_281);
         assert_eq!(list(&[&longer[..], newer].concat()), "refused older 1\n");
         let longer = with_word(newer, 8, 53_281);

@@ -56,7 +56,7 @@ fn writes() {
 #[test]
 fn long_used_lengths() {
     let profile = Profile::of(&[(0x2E, role::MEDIAL)]);
-    for used in [MAX_ENTRIES + 1, 1 << 32, (1 << 32) + 1, usize::MAX] {
+    for used in [MAX_ENTRIES + 1, 1 << 32, (1 << 32) + 1, (1 << 32) + MAX_ENTRIES, usize::MAX] {
         let (mut out, mut answer) = ([7; 40], [9; 4]);
         let (points, roles) = (&profile.points, &profile.roles);
         let number = luffinarc::calls::write(1, &[], points, roles, used, &mut out, &mut answer);
