@@ -3,10 +3,16 @@ use Prim.Native.Nat.{ℕ, _+_, _-_, _/_, _≤_, _<_}
 use mathlib.Core.Path.{_≡_}
 use native.Mathlib.Omega.{arith}
 use Rattle.image.specs.declared.Range.{Range}
+use mathlib.Core.List.{List}
+use Rattle.lookup.specs.declared.Section.the-variants.{Ranges, Entries}
+use Rattle.lookup.specs.Records.{recordAt, recordCount}
 use Rattle.lookup.specs.Placed.{Passed, Placed}
+use Rattle.character.specs.Read.{MemoOf, WalkOf}
+use Rattle.character.specs.declared.Memo.{Memo}
+use Rattle.character.specs.declared.Walk.{Walk}
 
 module _ (at : ℕ → Range) (n x : ℕ) where
-  passed-next : (i : ℕ) (r : Range) → r ≡ at i → i < n → r .last < x → Passed at n (i + 1) x
+  pub passed-next : (i : ℕ) (r : Range) → r ≡ at i → i < n → r .last < x → Passed at n (i + 1) x
   passed-next i r e l h =
       let z : i ≡ i + 1 - 1 = omega arith in
       let k : at i .last < x = rw e at h in
@@ -47,3 +53,23 @@ module _ (at : ℕ → Range) (n x : ℕ) where
         let z : hi ≡ lo = omega arith in
         let k : lo < n → x ≤ at lo .last = rw z at (b .reached) in
         record { passed = b .passed; reached = k }
+
+  -- a place that x has passed, and where it is reached
+  pub placed-here : (i : ℕ) → Passed at n i x → (i < n → x ≤ at i .last) → Placed at n i x
+  placed-here i p r = record { passed = p; reached = r }
+
+pub passed-begins : (at : ℕ → Range) (n x : ℕ) → Passed at n 0 x
+passed-begins at n x = record { within = omega arith; before = λ l. absurd (omega arith) }
+
+passed-more : (at : ℕ → Range) (n i x y : ℕ) → x ≤ y → Passed at n i x → Passed at n i y
+passed-more at n i x y h p = record { within = p .within; before = λ l. let b = p .before l in omega arith }
+
+-- a walk begins with a memo of no code point, and goes on to higher ones
+pub walk-begins :
+    (s : List ℕ) (x range entry : ℕ) (m : Memo) → Passed (recordAt s Ranges) (recordCount s Ranges) range x → Passed (recordAt s Entries) (recordCount s Entries) entry x
+    → MemoOf s m → WalkOf s (x + 0) (record { range = range; entry = entry; memo = m })
+walk-begins s x range entry m p q a =
+    record { range = passed-more _ _ range x (x + 0) (omega arith) p; entry = passed-more _ _ entry x (x + 0) (omega arith) q; memo = a }
+
+pub walk-on : (s : List ℕ) (x y : ℕ) (w : Walk) → x ≤ y → WalkOf s x w → WalkOf s y w
+walk-on s x y w h i = record { range = passed-more _ _ (w .range) x y h (i .range); entry = passed-more _ _ (w .entry) x y h (i .entry); memo = i .memo }

@@ -9,11 +9,13 @@ ghost use lib.Dec.{leb};
 ghost use Rattle.image.specs.Profile.{isMedial, isHashtag};
 ghost use Rattle.image.specs.Check.{refusalOf};
 ghost use Rattle.lookup.specs.Records.{recordAt, recordCount};
+ghost use Rattle.lookup.specs.declared.Section.the-variants.{Ranges, Entries};
 ghost use Rattle.lookup.specs.Placed.{Passed, Placed};
 ghost use Rattle.grammar.specs.White.{isMark};
-ghost use Rattle.character.specs.Traits.{medialPart, hashtagPart};
+ghost use Rattle.lists.specs.Filled.{Filled};
+ghost use Rattle.character.specs.Traits.{medialPart, hashtagPart, traitsOf};
 ghost use Rattle.character.specs.Stretch.{StretchOf, WhiteStretchOf, Shared};
-ghost use Rattle.character.specs.Read.{MemoOf, MemoAt, TableOf, TokenTableOf, Settled, asciiCharacter, ReadAs, ReadTokenAs};
+ghost use Rattle.character.specs.Read.{MemoOf, MemoAt, WalkOf, WalkAt, TableOf, TokenTableOf, Settled, asciiCharacter, ReadAs, ReadTokenAs};
 use lookup::Section;
 
 // The class White; in traits its number is that of blanks, and line ends and marks have one each.
@@ -213,22 +215,34 @@ fn place_of(image: &[u8], section: Section, x: u32) -> usize
     lo
 }
 
-// The stretch of x in a section of an accepted image.
-fn find_stretch(image: &[u8], section: Section, x: u32) -> Stretch
+// The place of x in a section, from one on that x has passed.
+fn next_place(image: &[u8], section: Section, from: usize, x: u32) -> usize
     requires { ⌜ refusalOf (now image) ≡ none ⌝ }
-    ensures { λ r. ⌜ StretchOf (now (image .entry)) section x r ⌝ }
+    requires { ⌜ Passed (recordAt (now image) section) (recordCount (now image) section) from x ⌝ }
+    ensures { λ r. ⌜ Placed (recordAt (now (image .entry)) section) (recordCount (now (image .entry)) section) r x ⌝ }
 {
-    let i = place_of(image, section, x);
-    stretch_at(image, section, i, x)
+    let count = lookup::count_records(image, section);
+    let mut i = from;
+    while i < count {
+        let r = lookup::record_at(image, section, i);
+        if x <= r.last {
+            break;
+        }
+        i += 1;
+    }
+    i
 }
 
-// The code points around `x` that have its class in the ranges, its role and, where it is White after the profile, its kind of White.
-fn search(image: &[u8], x: u32) -> Memo
+// The code points around `x` that have its class in the ranges, its role and, where it is White after the profile, its kind of White. The
+// places of `x` in both sections are given.
+fn memo_at(image: &[u8], range: usize, entry: usize, x: u32) -> Memo
     requires { ⌜ refusalOf (now image) ≡ none ⌝ }
+    requires { ⌜ Placed (recordAt (now image) Ranges) (recordCount (now image) Ranges) range x ⌝ }
+    requires { ⌜ Placed (recordAt (now image) Entries) (recordCount (now image) Entries) entry x ⌝ }
     ensures { λ r. ⌜ MemoAt (now (image .entry)) x r ⌝ }
 {
-    let class = find_stretch(image, Section::Ranges, x);
-    let role = find_stretch(image, Section::Entries, x);
+    let class = stretch_at(image, Section::Ranges, range, x);
+    let role = stretch_at(image, Section::Entries, entry, x);
     let both = share(class, role);
     let after = lookup::after_role(role.class, class.class);
     let traits = join_traits(role.class, after);
@@ -247,6 +261,16 @@ fn search(image: &[u8], x: u32) -> Memo
     }
 }
 
+// The same by a search for both places.
+fn search(image: &[u8], x: u32) -> Memo
+    requires { ⌜ refusalOf (now image) ≡ none ⌝ }
+    ensures { λ r. ⌜ MemoAt (now (image .entry)) x r ⌝ }
+{
+    let range = place_of(image, Section::Ranges, x);
+    let entry = place_of(image, Section::Entries, x);
+    memo_at(image, range, entry, x)
+}
+
 // Whether `x` is in the memo.
 fn is_known(memo: Memo, x: u32) -> bool
     ensures { λ r. ⌜ r ≡ (leb (memo .first) x && leb x (memo .last)) ⌝ }
@@ -257,16 +281,56 @@ fn is_known(memo: Memo, x: u32) -> bool
     x <= memo.last
 }
 
-// The memo, if `x` is in it; else a search.
-fn recall(image: &[u8], memo: Memo, x: u32) -> Memo
+// A place that `x` has passed in a section: the first one for 0, without a search.
+fn passed_place(image: &[u8], section: Section, x: u32) -> usize
     requires { ⌜ refusalOf (now image) ≡ none ⌝ }
-    requires { ⌜ MemoOf (now image) memo ⌝ }
-    ensures { λ r. ⌜ MemoAt (now (image .entry)) x r ⌝ }
+    ensures { λ r. ⌜ Passed (recordAt (now (image .entry)) section) (recordCount (now (image .entry)) section) r x ⌝ }
 {
-    if is_known(memo, x) {
-        return memo;
+    if x == 0 {
+        return 0;
     }
-    search(image, x)
+    place_of(image, section, x)
+}
+
+// Where a walk through the code points has come: places in both sections that it has passed, and the memo there.
+pub struct Walk {
+    pub range: usize,
+    pub entry: usize,
+    pub memo: Memo,
+}
+
+// The walk, come to `x`.
+fn walk_to(image: &[u8], walk: Walk, x: u32) -> Walk
+    requires { ⌜ refusalOf (now image) ≡ none ⌝ }
+    requires { ⌜ WalkOf (now image) x walk ⌝ }
+    ensures { λ r. ⌜ WalkAt (now (image .entry)) x r ⌝ }
+{
+    if is_known(walk.memo, x) {
+        return walk;
+    }
+    let range = next_place(image, Section::Ranges, walk.range, x);
+    let entry = next_place(image, Section::Entries, walk.entry, x);
+    let memo = memo_at(image, range, entry, x);
+    Walk { range, entry, memo }
+}
+
+// The traits of the code points from `base` on, as many as `out` has room for: one search, then from stretch to stretch.
+pub fn fill_part(image: &[u8], base: u32, out: &mut [u8])
+    requires { ⌜ refusalOf (now image) ≡ none ⌝ }
+    requires { ⌜ base + length (now out) ≤ 0x110000 ⌝ }
+    ensures { λ _. ⌜ Filled (length (now (out .entry))) (λ (j : ℕ). traitsOf (now (image .entry)) (base + j)) (now (out .exit)) (length (now (out .entry))) ⌝ }
+{
+    let mut walk = Walk {
+        range: passed_place(image, Section::Ranges, base),
+        entry: passed_place(image, Section::Entries, base),
+        memo: no_memo(),
+    };
+    let mut i = 0;
+    while i < out.len() {
+        walk = walk_to(image, walk, base + i as u32);
+        out[i] = walk.memo.traits as u8;
+        i += 1;
+    }
 }
 
 // The traits of the ASCII code points.
@@ -275,13 +339,7 @@ pub fn fill_table(image: &[u8]) -> [u8; 128]
     ensures { λ r. ⌜ TableOf (now (image .entry)) r ⌝ }
 {
     let mut table = [0u8; 128];
-    let mut memo = no_memo();
-    let mut i = 0;
-    while i < 128 {
-        memo = recall(image, memo, i as u32);
-        table[i] = memo.traits as u8;
-        i += 1;
-    }
+    fill_part(image, 0, &mut table);
     table
 }
 

@@ -1,66 +1,10 @@
--- `character::search` meets its contract: the part that the stretches of x share. Assumes nothing.
-use native.Mathlib.Omega.{arith}
-use Rattle.grammar.specs.White.{whiteOf}
-use Rattle.character.proofs.TraitLaws.{white-small}
-use Rattle.character.proofs.CharacterLaws.{after-small, memo-other, memo-white, joined-small, white-joined}
+-- `character::search` meets its contract. Assumes nothing.
 use borrow.Author.Needs.{needs}
 use Rattle.character.proofs.search.Statement.{statement}
 use Rattle.character.proofs.search.Tie as tie
 
-join-traits-requires : tie.Need-join-traits-requires
-join-traits-requires c κs =
-    let b = c .before .before .before in
-    after-small _ _ (b .before .before .pre) _ _ _ (b .find-stretch .ensures) (c .after-role .ensures)
-
-sub-t12 : tie.Need-sub-t12
-sub-t12 c = let b = c .before .before .before in omega (arith, b .join-traits .ensures, c .before .before .if1 .taken)
-
-add-t13 : tie.Need-add-t13
-add-t13 c =
-    let w = c .before .before .white-stretch .ensures in
-    let b = c .before .before .before .before in
-    let x = b .before .before .before .before .before .before .args .x in
-    omega (arith, c .before .share2 .ensures .class, w .same x (w .from) (w .to), white-small (whiteOf x), joined-small _ _ (b .join-traits .ensures), c .before .before .before .if1 .taken)
-
-returns : tie.Need-returns
-returns c =
-    let b = c .before .before .before .before in
-    let f = b .before .before in
-    memo-white _ _ _ _ _ _ _
-    (f .before .before .find-stretch .ensures)
-    (f .before .find-stretch2 .ensures)
-    (f .share .ensures)
-    (b .before .after-role .ensures)
-    _
-    _
-    (c .before .before .before .if1 .taken)
-    (c .before .before .white-stretch .ensures)
-    (c .before .share2 .ensures)
-    (white-joined _ _ _ (c .before .before .before .if1 .taken) (b .join-traits .ensures))
-
-returns-2 : tie.Need-returns-2
-returns-2 c =
-    let b = c .before .before .before in
-    memo-other _ _ _ _ _ _ _
-    (b .before .before .find-stretch .ensures)
-    (b .before .find-stretch2 .ensures)
-    (b .share .ensures)
-    (c .before .before .after-role .ensures)
-    (c .if1 .left)
-    (c .before .join-traits .ensures)
+memo-at-requires : tie.Need-memo-at-requires
+memo-at-requires c κs = (c .before .before .before .pre, (c .before .place-of .ensures, c .place-of2 .ensures))
 
 pub search-spec : {M : Type 1} → statement M
-search-spec =
-    tie.close
-    (tie.spec
-    (λ c κs. search needs)
-    (λ c κs. search needs)
-    (λ c κs. search needs)
-    (λ c κs. search needs)
-    join-traits-requires
-    (λ c κs. search needs)
-    (λ c κs. search needs)
-    sub-t12
-    add-t13
-    returns
-    returns-2)
+search-spec = tie.close (tie.spec (λ c κs. search needs) (λ c κs. search needs) memo-at-requires (λ c. search needs))
