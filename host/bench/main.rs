@@ -1,5 +1,5 @@
-//! Times the library against the hand-written rival and ICU, all in this run: two take turns, and the least time of
-//! each counts. Prints ratios only, below 1 where the library is faster.
+//! Times the library against the hand-written rival and ICU, all in one process: two take turns, and the least time of
+//! each counts. Prints ratios only, below 1 where the library is faster: the least and the greatest of three runs.
 
 mod icu;
 
@@ -15,15 +15,17 @@ use luffinarc_bench::rival::{self, Tables};
 use luffinarc_bench::texts::{self, Sample};
 use luffinarc_reader::cases::{image_of, most_changes};
 use std::ffi::CString;
+use std::fmt;
 use std::io::Write;
 use std::time::Instant;
 
 const IMAGE: &str = concat!(env!("CARGO_MANIFEST_DIR"), "/../data/images/unicode-16.0.img");
 const OLDER: &str = concat!(env!("CARGO_MANIFEST_DIR"), "/../data/images/unicode-15.0.img");
 
-/// The least number of rounds of a race, and the seconds that it takes at least.
-const ROUNDS: usize = 40;
-const SECONDS: f64 = 1.5;
+/// The runs of each race, the least number of rounds of a run, and the seconds that it takes at least.
+const RUNS: usize = 3;
+const ROUNDS: usize = 20;
+const SECONDS: f64 = 0.5;
 
 /// The value, of which the compiler knows nothing.
 #[inline(always)]
@@ -60,8 +62,32 @@ fn time(calls: usize, call: &mut dyn FnMut()) -> f64 {
     (now() - start) / calls as f64
 }
 
+/// The least and the greatest ratio of the runs.
+struct Spread(f64, f64);
+
+impl fmt::Display for Spread {
+    fn fmt(&self, f: &mut fmt::Formatter) -> fmt::Result {
+        let digits = if self.1 < 10.0 { 2 } else { 1 };
+        let (low, high) = (format!("{:.*}", digits, self.0), format!("{:.*}", digits, self.1));
+        if low == high {
+            return f.write_str(&low);
+        }
+        write!(f, "{low}–{high}")
+    }
+}
+
+/// The spread of the runs of a race.
+fn race(calls: usize, ours: &mut dyn FnMut(), rival: &mut dyn FnMut()) -> Spread {
+    let mut spread = Spread(f64::MAX, f64::MIN);
+    for _ in 0..RUNS {
+        let ratio = run(calls, ours, rival);
+        spread = Spread(spread.0.min(ratio), spread.1.max(ratio));
+    }
+    spread
+}
+
 /// The least time of our call, divided by that of the rival's; the first to go changes from round to round.
-fn race(calls: usize, ours: &mut dyn FnMut(), rival: &mut dyn FnMut()) -> f64 {
+fn run(calls: usize, ours: &mut dyn FnMut(), rival: &mut dyn FnMut()) -> f64 {
     let (mut best_ours, mut best_rival) = (f64::MAX, f64::MAX);
     let (start, mut round) = (Instant::now(), 0);
     while round < ROUNDS || start.elapsed().as_secs_f64() < SECONDS {
@@ -101,7 +127,7 @@ impl<'a> Subject<'a> {
     }
 
     /// Counting, against the rival.
-    fn count(&self) -> f64 {
+    fn count(&self) -> Spread {
         let text = self.sample.text.as_bytes();
         race(1, &mut || _ = black_box(self.image.count(black_box(text))), &mut || {
             _ = black_box(self.tables.count(black_box(text)))
@@ -109,7 +135,7 @@ impl<'a> Subject<'a> {
     }
 
     /// Listing, against the rival.
-    fn list(&self) -> f64 {
+    fn list(&self) -> Spread {
         let text = self.sample.text.as_bytes();
         let (mut words, mut list) = (self.words(), Vec::with_capacity(self.words().len()));
         let count = self.image.list(text, &mut words).unwrap();
@@ -121,7 +147,7 @@ impl<'a> Subject<'a> {
     }
 
     /// Listing hashtags, against the rival.
-    fn hashtags(&self) -> f64 {
+    fn hashtags(&self) -> Spread {
         let text = self.sample.text.as_bytes();
         let (mut words, mut list) = (self.words(), self.words());
         let count = self.image.list_hashtags(text, &mut words).unwrap();
@@ -135,7 +161,7 @@ impl<'a> Subject<'a> {
     }
 
     /// Counting, against ICU.
-    fn count_icu(&self, icu: &Icu) -> f64 {
+    fn count_icu(&self, icu: &Icu) -> Spread {
         let text = self.sample.text.as_bytes();
         race(1, &mut || _ = black_box(self.image.count(black_box(text))), &mut || {
             _ = black_box(icu.count(black_box(text), &self.medials))
@@ -143,7 +169,7 @@ impl<'a> Subject<'a> {
     }
 
     /// Listing, against ICU.
-    fn list_icu(&self, icu: &Icu) -> f64 {
+    fn list_icu(&self, icu: &Icu) -> Spread {
         let text = self.sample.text.as_bytes();
         let (mut words, mut list) = (self.words(), self.words());
         let count = self.image.list(text, &mut words).unwrap();
@@ -174,13 +200,13 @@ fn head(subjects: &[Subject]) {
 /// Prints the table of counting and listing tokens.
 fn tokens(subjects: &[Subject]) {
     head(subjects);
-    row("count / hand-written", subjects, |subject| format!("{:.2}", subject.count()));
-    row("list / hand-written", subjects, |subject| format!("{:.2}", subject.list()));
+    row("count / hand-written", subjects, |subject| subject.count().to_string());
+    row("list / hand-written", subjects, |subject| subject.list().to_string());
     match Icu::load() {
         None => println!("\nICU is not there to compile against: left out."),
         Some(icu) => {
-            row("count / ICU", subjects, |subject| format!("{:.2}", subject.count_icu(&icu)));
-            row("list / ICU", subjects, |subject| format!("{:.2}", subject.list_icu(&icu)));
+            row("count / ICU", subjects, |subject| subject.count_icu(&icu).to_string());
+            row("list / ICU", subjects, |subject| subject.list_icu(&icu).to_string());
         }
     }
 }
@@ -191,7 +217,7 @@ fn hashtags(subjects: &[Subject]) {
     println!("under a profile that makes the plus sign, the hyphen and a spanner part of them.");
     println!("Short lines: the English text with line ends for some of its blanks.\n");
     head(subjects);
-    row("hashtags / hand-written", subjects, |subject| format!("{:.2}", subject.hashtags()));
+    row("hashtags / hand-written", subjects, |subject| subject.hashtags().to_string());
 }
 
 /// Hands samples, each under the image with its profile, to what prints their table.
@@ -205,7 +231,7 @@ fn with_subjects(image: &Image, samples: &[Sample], print: fn(&[Subject])) {
 }
 
 /// Counting and listing under an image, against the same under another, which gives the same tokens.
-fn under(image: &Image, other: &Image, text: &[u8]) -> [f64; 2] {
+fn under(image: &Image, other: &Image, text: &[u8]) -> [Spread; 2] {
     let mut words = vec![0; RECORD_WORDS * text.len()];
     let mut others = words.clone();
     assert_eq!(image.list(text, &mut words), other.list(text, &mut others));
@@ -219,21 +245,38 @@ fn under(image: &Image, other: &Image, text: &[u8]) -> [f64; 2] {
     [count, list]
 }
 
-/// Prints what the large profile costs, which changes no token of these texts.
+/// Prints what a profile of as many entries as may be costs, which changes no token of these texts.
 fn large_profile(plain: &Image) {
-    let profile = Profile::new(&texts::LETTERS);
-    let bytes = write_image(plain.version(), &plain.ranges(), &profile).unwrap();
-    let image = Image::check(&bytes).unwrap();
     println!("\nUnder a profile of {MAX_ENTRIES} entries, which changes no token / without it:");
-    let texts = [("512 entries", texts::of_entries()), ("mixed scripts", texts::mixed())];
-    for (name, text) in texts.into_iter().chain([("ASCII", texts::ascii())]) {
-        let [count, list] = under(&image, plain, text.as_bytes());
-        println!("  {name}: count {count:.2}, list {list:.2}");
+    println!("\n| | count | list |\n|---|---|---|");
+    for sample in texts::profiled() {
+        let profile = Profile::new(sample.profile);
+        let bytes = write_image(plain.version(), &plain.ranges(), &profile).unwrap();
+        let image = Image::check(&bytes).unwrap();
+        let [count, list] = under(&image, plain, sample.text.as_bytes());
+        println!("| {} | {count} | {list} |", sample.name);
+    }
+}
+
+/// Prints the ratios of calls on short texts. The rival's tables are made before; the library's call has the image alone.
+fn short_texts(image: &Image, tables: &Tables) {
+    println!("\nShort texts / hand-written, whose tables are made before:\n");
+    println!("| bytes | count | list |\n|---|---|---|");
+    for text in texts::SHORT.map(str::as_bytes) {
+        let (mut words, mut list) = (vec![0; RECORD_WORDS * text.len()], Vec::new());
+        let count = race(1000, &mut || _ = black_box(image.count(black_box(text))), &mut || {
+            _ = black_box(tables.count(black_box(text)))
+        });
+        let listed =
+            race(1000, &mut || _ = black_box(image.list(black_box(text), &mut words)), &mut || {
+                _ = black_box(tables.list(black_box(text), &mut list))
+            });
+        println!("| {} | {count} | {listed} |", text.len());
     }
 }
 
 /// Looking up these numbers, against the rival.
-fn lookup(image: &Image, tables: &Tables, points: &[u32]) -> f64 {
+fn lookup(image: &Image, tables: &Tables, points: &[u32]) -> Spread {
     race(
         1,
         &mut || {
@@ -250,14 +293,14 @@ fn lookup(image: &Image, tables: &Tables, points: &[u32]) -> f64 {
 }
 
 /// Checking an image, against the rival.
-fn check(image: &[u8]) -> f64 {
+fn check(image: &[u8]) -> Spread {
     race(50, &mut || _ = black_box(Image::check(black_box(image))), &mut || {
         _ = black_box(rival::check(black_box(image)))
     })
 }
 
 /// Listing what changed between two images, against the rival. Both check the images, and have room for all changes.
-fn changes(older: &[u8], newer: &[u8]) -> f64 {
+fn changes(older: &[u8], newer: &[u8]) -> Spread {
     let (mut list, mut answer) = (Changes::default(), Answer::default());
     let mut runs = vec![0; RUN_WORDS * MAX_RUNS];
     let mut entries = vec![0; CHANGED_ENTRY_WORDS * MAX_CHANGED_ENTRIES];
@@ -278,20 +321,21 @@ fn changes(older: &[u8], newer: &[u8]) -> f64 {
 
 /// Prints the ratios of the calls on images.
 fn of_images(bytes: &[u8]) {
-    println!("image check / hand-written: {:.2}", check(bytes));
+    println!("image check / hand-written: {}", check(bytes));
     println!("changes, with both images checked in the call and room for all / hand-written:");
     let older = std::fs::read(OLDER).unwrap();
-    println!("  from 15.0 to 16.0: {:.2}", changes(&older, bytes));
+    println!("  from 15.0 to 16.0: {}", changes(&older, bytes));
     let (older, newer) = most_changes();
     let of_most = changes(&image_of(&older), &image_of(&newer));
-    println!("  two images of 4,096 ranges, {MAX_RUNS} runs: {of_most:.2}");
+    println!("  two images of 4,096 ranges, {MAX_RUNS} runs: {of_most}");
 }
 
 fn main() {
     let bytes = std::fs::read(IMAGE).unwrap();
     let image = Image::check(&bytes).unwrap();
     let ranges = image.ranges();
-    println!("Time of the library divided by the other's, least processor times of one run.");
+    println!("Time of the library divided by the other's, least processor times of a run; of {RUNS} runs the");
+    println!("least and the greatest ratio.");
     println!(
         "Image: Unicode 16.0, {} ranges, checked once before. Texts: 1 MiB each.",
         ranges.len()
@@ -299,25 +343,27 @@ fn main() {
     println!(
         "Dotted names are read under a profile that makes the hyphen and the full stop medial."
     );
-    println!(
-        "The text of 512 entries: each letter of its names is an entry, Start by class and role."
-    );
+    println!("Random letters: all letters of Unicode 15.0 alike; random ranges: first a range of letters, all");
+    println!("alike, then a letter of it.");
     println!(
         "List: {RECORD_WORDS} words lent for every byte of the text, to both, and written before the clock."
     );
     println!(
         "Library: as `rt staticlib` compiles it. Rival: Rust, opt-level 3. Both for plain x86-64."
     );
-    println!("They take turns, {ROUNDS} rounds or more in {SECONDS} s for each figure.\n");
-    with_subjects(&image, &texts::all(), tokens);
+    println!("They take turns, {ROUNDS} rounds or more in {SECONDS} s for each run.\n");
+    let older = std::fs::read(OLDER).unwrap();
+    let letters = Image::check(&older).unwrap().ranges();
+    with_subjects(&image, &texts::all(&letters), tokens);
     large_profile(&image);
     with_subjects(&image, &prose::all(), hashtags);
     let tables = Tables::new(&ranges, &[]);
+    short_texts(&image, &tables);
     let rising: Vec<u32> = (0..=0x10FFFF).filter(|&p| char::from_u32(p).is_some()).collect();
     let mixed: Vec<u32> = texts::mixed().chars().map(u32::from).collect();
     let of_rising = lookup(&image, &tables, &rising);
-    println!("\nlookup of every scalar value / hand-written: {of_rising:.1}");
+    println!("\nlookup of every scalar value / hand-written: {of_rising}");
     let of_mixed = lookup(&image, &tables, &mixed);
-    println!("lookup of the characters of mixed scripts / hand-written: {of_mixed:.1}");
+    println!("lookup of the characters of mixed scripts / hand-written: {of_mixed}");
     of_images(&bytes);
 }

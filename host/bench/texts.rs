@@ -1,7 +1,7 @@
 //! Texts of 1 MiB to time readers on. They are the same in every run and hold
 //! only identifiers, Pattern_Syntax signs and white space of Unicode 16.0.
 
-use luffinarc::{Role, MAX_ENTRIES, MAX_TEXT};
+use luffinarc::{Class, Range, Role, MAX_ENTRIES, MAX_TEXT};
 use luffinarc_reader::cases::Rng;
 
 /// The length of every text, the longest that is read.
@@ -11,13 +11,17 @@ pub const LENGTH: usize = MAX_TEXT;
 pub const MEDIALS: [(u32, Role); 2] = [(0x2D, Role::Medial), (0x2E, Role::Medial)];
 
 /// As many entries as a profile may have: ideographs all over their block, as Start, which they are by their class too.
-pub static LETTERS: [(u32, Role); MAX_ENTRIES] = letters();
+pub static LETTERS: [(u32, Role); MAX_ENTRIES] = letters(Role::Start, 41);
 
-const fn letters() -> [(u32, Role); MAX_ENTRIES] {
-    let mut letters = [(0x4E00, Role::Start); MAX_ENTRIES];
+/// Ideographs that the profile makes Nonstart: eight in each block of 128, and spread so that 328 blocks of 64 have one or two.
+pub static DENSE: [(u32, Role); MAX_ENTRIES] = letters(Role::Nonstart, 16);
+pub static SPREAD: [(u32, Role); MAX_ENTRIES] = letters(Role::Nonstart, 41);
+
+const fn letters(role: Role, step: u32) -> [(u32, Role); MAX_ENTRIES] {
+    let mut letters = [(0x4E00, role); MAX_ENTRIES];
     let mut i = 0;
     while i < MAX_ENTRIES {
-        letters[i].0 += 41 * i as u32;
+        letters[i].0 += step * i as u32;
         i += 1;
     }
     letters
@@ -217,18 +221,55 @@ pub fn short_lines() -> String {
     })
 }
 
-/// A settings script with names of three to eight letters, each an entry of the large profile.
-pub fn of_entries() -> String {
+/// A settings script with names of a first letter, if there is one, and three to eight others.
+fn names(first: &str, mut letter: impl FnMut(&mut Rng) -> char) -> String {
     let mut rng = Rng::new();
-    let name = |rng: &mut Rng| -> String {
+    let mut name = |rng: &mut Rng| -> String {
         let letters = 3 + rng.below(6);
-        (0..letters).map(|_| char::from_u32(rng.pick(&LETTERS).0).unwrap()).collect()
+        first.chars().chain((0..letters).map(|_| letter(rng))).collect()
     };
     filled(|| {
         let (a, b, c) = (name(&mut rng), name(&mut rng), name(&mut rng));
         format!("{a} = {b}, {c};\n")
     })
 }
+
+/// Names of which each letter is an entry of the large profile.
+pub fn of_entries() -> String {
+    names("", |rng| char::from_u32(rng.pick(&LETTERS).0).unwrap())
+}
+
+/// Names of which each letter but the first is an entry that the profile makes Nonstart.
+pub fn of_nonstart(entries: &[(u32, Role)]) -> String {
+    names("あ", |rng| char::from_u32(rng.pick(entries).0).unwrap())
+}
+
+/// The ranges of the class Start.
+fn start_ranges(ranges: &[Range]) -> Vec<Range> {
+    ranges.iter().filter(|range| range.class == Class::Start).copied().collect()
+}
+
+/// Names of letters drawn at random: all letters of all scripts alike, two in three of them ideographs.
+pub fn letters_alike(ranges: &[Range]) -> String {
+    let all: Vec<u32> =
+        start_ranges(ranges).iter().flat_map(|range| range.first..=range.last).collect();
+    names("", |rng| char::from_u32(*rng.pick(&all)).unwrap())
+}
+
+/// Names of letters drawn at random: first a range of letters, all alike, then a letter of it. Small scripts come as often as large
+/// ones, and the text has letters of nearly all blocks that have some.
+pub fn ranges_alike(ranges: &[Range]) -> String {
+    let starts = start_ranges(ranges);
+    names("", |rng| {
+        let range = *rng.pick(&starts);
+        let of = (range.last - range.first + 1) as usize;
+        char::from_u32(range.first + rng.below(of) as u32).unwrap()
+    })
+}
+
+/// Texts of a line or two, of about 20, 30 and 40 bytes.
+pub const SHORT: [&str; 3] =
+    ["panel = valve;\nmode", "    pump_2 = { inlet, out };", "zawór_górny = wyjście;\n# tryb"];
 
 /// A text, what it is called, and the profile under which it is read.
 pub struct Sample {
@@ -237,8 +278,8 @@ pub struct Sample {
     pub profile: &'static [(u32, Role)],
 }
 
-/// All texts.
-pub fn all() -> [Sample; 7] {
+/// All texts; the letters are those of the ranges.
+pub fn all(ranges: &[Range]) -> [Sample; 8] {
     let sample = |name, text, profile| Sample { name, text, profile };
     [
         sample("ASCII", ascii(), &[]),
@@ -247,6 +288,19 @@ pub fn all() -> [Sample; 7] {
         sample("mixed scripts", mixed(), &[]),
         sample("dotted names", dotted(), &MEDIALS),
         sample("short lines", short_lines(), &[]),
-        sample("512 entries", of_entries(), &LETTERS),
+        sample("random letters", letters_alike(ranges), &[]),
+        sample("random ranges", ranges_alike(ranges), &[]),
+    ]
+}
+
+/// Texts full of entries, each with a profile that changes none of its tokens.
+pub fn profiled() -> [Sample; 5] {
+    let sample = |name, text, profile| Sample { name, text, profile };
+    [
+        sample("each letter an entry, of its own class", of_entries(), &LETTERS),
+        sample("each an entry made Nonstart, in 128 blocks", of_nonstart(&DENSE), &DENSE),
+        sample("each an entry made Nonstart, in 328 blocks", of_nonstart(&SPREAD), &SPREAD),
+        sample("mixed scripts", mixed(), &LETTERS),
+        sample("ASCII", ascii(), &LETTERS),
     ]
 }

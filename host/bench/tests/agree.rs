@@ -68,30 +68,60 @@ fn agree(bytes: &[u8], name: &str, text: &str) -> usize {
 fn on_the_texts() {
     let more =
         [(0x2D, Role::Medial), (0x2E, Role::Medial), (0x5F, Role::Start), (0xB7, Role::Medial)];
-    for sample in texts::all() {
+    let bytes = std::fs::read(IMAGE).unwrap();
+    let ranges = Image::check(&bytes).unwrap().ranges();
+    for sample in texts::all(&ranges) {
         assert_eq!(sample.text.len(), texts::LENGTH);
-        let mut profiles = vec![&[][..], &texts::MEDIALS, &more];
-        if !profiles.contains(&sample.profile) {
-            profiles.push(sample.profile);
-        }
-        for profile in profiles {
+        for profile in [&[][..], &texts::MEDIALS, &more] {
             let count = agree(&with_profile(profile), sample.name, &sample.text);
             assert!(count > 50_000, "{}: {count}", sample.name);
         }
     }
 }
 
-/// Most characters of the text of entries are entries of its profile, which changes no token.
+/// Most characters of a text of entries are entries of its profile, which changes no token.
 #[test]
-fn text_of_entries() {
-    let text = texts::of_entries();
-    let entry = |c: &char| texts::LETTERS.iter().any(|entry| entry.0 == u32::from(*c));
-    let (entries, all) = (text.chars().filter(entry).count(), text.chars().count());
-    assert!(3 * entries > 2 * all, "{entries} of {all}");
-    assert!(texts::LETTERS.iter().all(|entry| text.contains(char::from_u32(entry.0).unwrap())));
-    let lists =
-        [&texts::LETTERS[..], &[]].map(|profile| read(&with_profile(profile), text.as_bytes()));
-    assert!(lists[0].is_ok() && lists[0] == lists[1]);
+fn texts_of_entries() {
+    for sample in &texts::profiled()[..3] {
+        let text = &sample.text;
+        let entry = |c: &char| sample.profile.iter().any(|entry| entry.0 == u32::from(*c));
+        let (entries, all) = (text.chars().filter(entry).count(), text.chars().count());
+        assert!(5 * entries > 3 * all, "{}: {entries} of {all}", sample.name);
+        assert!(sample.profile.iter().all(|e| text.contains(char::from_u32(e.0).unwrap())));
+        let counts =
+            [sample.profile, &[]].map(|profile| agree(&with_profile(profile), sample.name, text));
+        assert_eq!(counts[0], counts[1], "{}", sample.name);
+        let lists =
+            [sample.profile, &[]].map(|profile| read(&with_profile(profile), text.as_bytes()));
+        assert!(lists[0] == lists[1], "{}", sample.name);
+    }
+}
+
+/// How many blocks of 64 code points hold the entries of the two profiles that change classes.
+#[test]
+fn blocks_of_entries() {
+    let blocks = [&texts::DENSE, &texts::SPREAD].map(|entries| {
+        let mut blocks: Vec<u32> = entries.iter().map(|entry| entry.0 / 64).collect();
+        blocks.dedup();
+        blocks.len()
+    });
+    assert_eq!(blocks, [128, 328]);
+}
+
+/// The letters drawn at random are of all lengths in UTF-8 but one, and of most blocks that have letters.
+#[test]
+fn random_letters() {
+    let bytes = std::fs::read(IMAGE).unwrap();
+    let ranges = Image::check(&bytes).unwrap().ranges();
+    for (text, least) in
+        [(texts::letters_alike(&ranges), 2000), (texts::ranges_alike(&ranges), 900)]
+    {
+        let mut blocks: Vec<u32> = text.chars().map(|c| u32::from(c) / 64).collect();
+        blocks.sort_unstable();
+        blocks.dedup();
+        assert!(blocks.len() > least, "{}", blocks.len());
+        assert!((2..=4).all(|len| text.chars().filter(|c| c.len_utf8() == len).count() > 1000));
+    }
 }
 
 /// On short texts with marks, under images in which the same few characters have any class and role.
