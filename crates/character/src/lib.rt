@@ -233,16 +233,23 @@ fn next_place(image: &[u8], section: Section, from: usize, x: u32) -> usize
     i
 }
 
-// The code points around `x` that have its class in the ranges, its role and, where it is White after the profile, its kind of White. The
-// places of `x` in both sections are given.
-fn memo_at(image: &[u8], range: usize, entry: usize, x: u32) -> Memo
+// The stretch of x in a section of an accepted image.
+fn find_stretch(image: &[u8], section: Section, x: u32) -> Stretch
     requires { ⌜ refusalOf (now image) ≡ none ⌝ }
-    requires { ⌜ Placed (recordAt (now image) Ranges) (recordCount (now image) Ranges) range x ⌝ }
-    requires { ⌜ Placed (recordAt (now image) Entries) (recordCount (now image) Entries) entry x ⌝ }
+    ensures { λ r. ⌜ StretchOf (now (image .entry)) section x r ⌝ }
+{
+    let i = place_of(image, section, x);
+    stretch_at(image, section, i, x)
+}
+
+// The code points around `x` that have its class in the ranges, its role and, where it is White after the profile, its kind of White: what
+// its stretches of both sections share.
+fn memo_of(image: &[u8], class: Stretch, role: Stretch, x: u32) -> Memo
+    requires { ⌜ refusalOf (now image) ≡ none ⌝ }
+    requires { ⌜ StretchOf (now image) Ranges x class ⌝ }
+    requires { ⌜ StretchOf (now image) Entries x role ⌝ }
     ensures { λ r. ⌜ MemoAt (now (image .entry)) x r ⌝ }
 {
-    let class = stretch_at(image, Section::Ranges, range, x);
-    let role = stretch_at(image, Section::Entries, entry, x);
     let both = share(class, role);
     let after = lookup::after_role(role.class, class.class);
     let traits = join_traits(role.class, after);
@@ -261,14 +268,14 @@ fn memo_at(image: &[u8], range: usize, entry: usize, x: u32) -> Memo
     }
 }
 
-// The same by a search for both places.
+// The same by a search for both stretches.
 fn search(image: &[u8], x: u32) -> Memo
     requires { ⌜ refusalOf (now image) ≡ none ⌝ }
     ensures { λ r. ⌜ MemoAt (now (image .entry)) x r ⌝ }
 {
-    let range = place_of(image, Section::Ranges, x);
-    let entry = place_of(image, Section::Entries, x);
-    memo_at(image, range, entry, x)
+    let class = find_stretch(image, Section::Ranges, x);
+    let role = find_stretch(image, Section::Entries, x);
+    memo_of(image, class, role, x)
 }
 
 // Whether `x` is in the memo.
@@ -310,8 +317,13 @@ fn walk_to(image: &[u8], walk: Walk, x: u32) -> Walk
     }
     let range = next_place(image, Section::Ranges, walk.range, x);
     let entry = next_place(image, Section::Entries, walk.entry, x);
-    let memo = memo_at(image, range, entry, x);
-    Walk { range, entry, memo }
+    let class = stretch_at(image, Section::Ranges, range, x);
+    let role = stretch_at(image, Section::Entries, entry, x);
+    Walk {
+        range,
+        entry,
+        memo: memo_of(image, class, role, x),
+    }
 }
 
 // The traits of the code points from `base` on, as many as `out` has room for: one search, then from stretch to stretch.

@@ -23,10 +23,14 @@ returns c =
           };
     }
 
+memo-of-requires : tie.Need-memo-of-requires
+memo-of-requires c κs = (c .before .before .before .before .before .before .before .pre .0, (c .before .stretch-at .ensures, c .stretch-at2 .ensures))
+
 returns-2 : tie.Need-returns-2
 returns-2 c =
-    let m = c .memo-at .ensures in
-    record { walk = record { range = c .before .before .next-place .ensures .passed; entry = c .before .next-place2 .ensures .passed; memo = m .all }; here = m }
+    let m = c .memo-of .ensures in
+    let p = c .before .before .before in
+    record { walk = record { range = p .before .next-place .ensures .passed; entry = p .next-place2 .ensures .passed; memo = m .all }; here = m }
 
 pub walk-to-spec : {M : Type 1} → statement M
 walk-to-spec =
@@ -37,4 +41,6 @@ walk-to-spec =
     (λ c κs. search needs)
     (λ c κs. search needs)
     (λ c κs. search needs)
+    (λ c κs. search needs)
+    memo-of-requires
     returns-2)
