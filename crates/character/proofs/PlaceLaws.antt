@@ -7,9 +7,8 @@ use mathlib.Core.List.{List}
 use Rattle.lookup.specs.declared.Section.the-variants.{Ranges, Entries}
 use Rattle.lookup.specs.Records.{recordAt, recordCount}
 use Rattle.lookup.specs.Placed.{Passed, Placed}
-use Rattle.character.specs.Read.{MemoOf, WalkOf}
+use Rattle.character.specs.Read.{MemoOf, MemoAt}
 use Rattle.character.specs.declared.Memo.{Memo}
-use Rattle.character.specs.declared.Walk.{Walk}
 
 module _ (at : ℕ → Range) (n x : ℕ) where
   pub passed-next : (i : ℕ) (r : Range) → r ≡ at i → i < n → r .last < x → Passed at n (i + 1) x
@@ -64,12 +63,26 @@ passed-begins at n x = record { within = omega arith; before = λ l. absurd (ome
 passed-more : (at : ℕ → Range) (n i x y : ℕ) → x ≤ y → Passed at n i x → Passed at n i y
 passed-more at n i x y h p = record { within = p .within; before = λ l. let b = p .before l in omega arith }
 
--- a walk begins with a memo of no code point, and goes on to higher ones
+-- a walk has passed places for x, and its memo is right
+pub record WalkOf (s : List ℕ) (x r e : ℕ) (m : Memo) : Type 0 where
+  pub range : Passed (recordAt s Ranges) (recordCount s Ranges) r x
+  pub entry : Passed (recordAt s Entries) (recordCount s Entries) e x
+  pub memo : MemoOf s m
+
+-- it begins at x, and goes on to higher ones
 pub walk-begins :
     (s : List ℕ) (x range entry : ℕ) (m : Memo) → Passed (recordAt s Ranges) (recordCount s Ranges) range x → Passed (recordAt s Entries) (recordCount s Entries) entry x
-    → MemoOf s m → WalkOf s (x + 0) (record { range = range; entry = entry; memo = m })
+    → MemoOf s m → WalkOf s (x + 0) range entry m
 walk-begins s x range entry m p q a =
     record { range = passed-more _ _ range x (x + 0) (omega arith) p; entry = passed-more _ _ entry x (x + 0) (omega arith) q; memo = a }
 
-pub walk-on : (s : List ℕ) (x y : ℕ) (w : Walk) → x ≤ y → WalkOf s x w → WalkOf s y w
-walk-on s x y w h i = record { range = passed-more _ _ (w .range) x y h (i .range); entry = passed-more _ _ (w .entry) x y h (i .entry); memo = i .memo }
+pub walk-on : (s : List ℕ) (x y : ℕ) {range entry : ℕ} {m : Memo} → x ≤ y → WalkOf s x range entry m → WalkOf s y range entry m
+walk-on s x y {range} {entry} h i = record { range = passed-more _ _ range x y h (i .range); entry = passed-more _ _ entry x y h (i .entry); memo = i .memo }
+
+-- x is in the memo
+pub record WalkAt (s : List ℕ) (x range entry : ℕ) (m : Memo) : Type 0 where
+  pub walk : WalkOf s x range entry m
+  pub here : MemoAt s x m
+
+pub walk-same : {s : List ℕ} {x r e r′ e′ : ℕ} {m m′ : Memo} → WalkAt s x r e m → r′ ≡ r → e′ ≡ e → m′ ≡ m → WalkAt s x r′ e′ m′
+walk-same w p q o = rw (p, q, o) w

@@ -7,11 +7,7 @@ use Rattle.lists.specs.Filled.{Filled}
 use Rattle.utf8.specs.declared.Step.the-variants.{Scalar}
 use Rattle.utf8.specs.Head.{stepOf, IllHead}
 use Rattle.character.specs.Traits.{tokenTraits, traitsOf}
-use Rattle.lookup.specs.declared.Section.the-variants.{Ranges, Entries}
-use Rattle.lookup.specs.Records.{recordAt, recordCount}
-use Rattle.lookup.specs.Placed.{Passed}
 use Rattle.character.specs.declared.Memo.{Memo}
-use Rattle.character.specs.declared.Walk.{Walk}
 use Rattle.character.specs.declared.Character.{Character}
 
 -- every code point of the memo has its traits under the image s
@@ -23,17 +19,6 @@ pub record MemoAt (s : List ℕ) (x : ℕ) (m : Memo) : Type 0 where
   pub from : m .first ≤ x
   pub to : x ≤ m .last
   pub all : MemoOf s m
-
--- a walk has passed places for x, and its memo is right
-pub record WalkOf (s : List ℕ) (x : ℕ) (w : Walk) : Type 0 where
-  pub range : Passed (recordAt s Ranges) (recordCount s Ranges) (w .range) x
-  pub entry : Passed (recordAt s Entries) (recordCount s Entries) (w .entry) x
-  pub memo : MemoOf s (w .memo)
-
--- .. and x is in the memo
-pub record WalkAt (s : List ℕ) (x : ℕ) (w : Walk) : Type 0 where
-  pub walk : WalkOf s x w
-  pub here : MemoAt s x (w .memo)
 
 -- the table holds the traits of ASCII, or what the token rules know
 abbrev pub TableOf : List ℕ → List ℕ → Type 0

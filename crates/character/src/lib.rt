@@ -15,7 +15,7 @@ ghost use Rattle.grammar.specs.White.{isMark};
 ghost use Rattle.lists.specs.Filled.{Filled};
 ghost use Rattle.character.specs.Traits.{medialPart, hashtagPart, traitsOf};
 ghost use Rattle.character.specs.Stretch.{StretchOf, WhiteStretchOf, Shared};
-ghost use Rattle.character.specs.Read.{MemoOf, MemoAt, WalkOf, WalkAt, TableOf, TokenTableOf, Settled, asciiCharacter, ReadAs, ReadTokenAs};
+ghost use Rattle.character.specs.Read.{MemoOf, MemoAt, TableOf, TokenTableOf, Settled, asciiCharacter, ReadAs, ReadTokenAs};
 use lookup::Section;
 
 // The class White; in traits its number is that of blanks, and line ends and marks have one each.
@@ -299,48 +299,26 @@ fn passed_place(image: &[u8], section: Section, x: u32) -> usize
     place_of(image, section, x)
 }
 
-// Where a walk through the code points has come: places in both sections that it has passed, and the memo there.
-pub struct Walk {
-    pub range: usize,
-    pub entry: usize,
-    pub memo: Memo,
-}
-
-// The walk, come to `x`.
-fn walk_to(image: &[u8], walk: Walk, x: u32) -> Walk
-    requires { ⌜ refusalOf (now image) ≡ none ⌝ }
-    requires { ⌜ WalkOf (now image) x walk ⌝ }
-    ensures { λ r. ⌜ WalkAt (now (image .entry)) x r ⌝ }
-{
-    if is_known(walk.memo, x) {
-        return walk;
-    }
-    let range = next_place(image, Section::Ranges, walk.range, x);
-    let entry = next_place(image, Section::Entries, walk.entry, x);
-    let class = stretch_at(image, Section::Ranges, range, x);
-    let role = stretch_at(image, Section::Entries, entry, x);
-    Walk {
-        range,
-        entry,
-        memo: memo_of(image, class, role, x),
-    }
-}
-
-// The traits of the code points from `base` on, as many as `out` has room for: one search, then from stretch to stretch.
+// The traits of the code points from `base` on, as many as `out` has room for: one search, then a walk from stretch to stretch.
 pub fn fill_part(image: &[u8], base: u32, out: &mut [u8])
     requires { ⌜ refusalOf (now image) ≡ none ⌝ }
     requires { ⌜ base + length (now out) ≤ 0x110000 ⌝ }
     ensures { λ _. ⌜ Filled (length (now (out .entry))) (λ (j : ℕ). traitsOf (now (image .entry)) (base + j)) (now (out .exit)) (length (now (out .entry))) ⌝ }
 {
-    let mut walk = Walk {
-        range: passed_place(image, Section::Ranges, base),
-        entry: passed_place(image, Section::Entries, base),
-        memo: no_memo(),
-    };
+    let mut range = passed_place(image, Section::Ranges, base);
+    let mut entry = passed_place(image, Section::Entries, base);
+    let mut memo = no_memo();
     let mut i = 0;
     while i < out.len() {
-        walk = walk_to(image, walk, base + i as u32);
-        out[i] = walk.memo.traits as u8;
+        let x = base + i as u32;
+        if !is_known(memo, x) {
+            range = next_place(image, Section::Ranges, range, x);
+            entry = next_place(image, Section::Entries, entry, x);
+            let class = stretch_at(image, Section::Ranges, range, x);
+            let role = stretch_at(image, Section::Entries, entry, x);
+            memo = memo_of(image, class, role, x);
+        }
+        out[i] = memo.traits as u8;
         i += 1;
     }
 }
