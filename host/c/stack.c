@@ -3,9 +3,10 @@
  * IMAGE is an image without a profile; the calls get its ranges with 512 entries. Each call runs in a thread that first
  * paints its own stack below itself; the lowest byte that lost its paint tells how deep the call wrote. It is run in two
  * paints: on the image and the text; without room in what is lent; on a text that ends ill-formed; and, where the call
- * checks the image, on one whose last entry is bad. Prints for each call the most that it took, and last the counts. A
- * call passes below 4 KB, the bytes of a profile's record: so none holds a copy of one. For gcc; link with `-z now`, or
- * the dynamic linker counts too.
+ * checks the image, on one whose last entry is bad. Prints for each call the most that it took, and last the counts.
+ * Counting and listing tokens pass up to 16 KB, since on a long text they keep what they know of its characters; the text
+ * is repeated until it is one. The others pass below 4 KB, the bytes of a profile's record: so none holds a copy of one.
+ * For gcc; link with `-z now`, or the dynamic linker counts too.
  */
 #define _POSIX_C_SOURCE 200809L
 #include <pthread.h>
@@ -16,7 +17,8 @@
 #include "luffinarc.h"
 
 #define STACK (256 * 1024)
-#define MOST 4096
+#define MOST 4095
+#define MOST_LONG 16384
 /* Bytes of the thread's own that are not painted: what takes less isn't told apart. */
 #define SLACK 256
 
@@ -66,12 +68,14 @@ static const struct {
     const char *name;
     uint32_t (*call)(void);
     int known; /* the image must be an accepted one */
+    size_t most;
 } CALLS[] = {
-    {"check", check, 0}, {"read", read_image, 0}, {"write", write_image, 0}, {"lookup", lookup, 0},
-    {"pair", pair, 0}, {"changes", list_changes, 0}, {"count", count, 0}, {"list", list, 0}, {"token", token, 0},
-    {"hashtags", hashtags, 0}, {"part", part, 0}, {"lookup_checked", lookup_known, 1},
-    {"count_checked", count_known, 1}, {"list_checked", list_known, 1}, {"token_checked", token_known, 1},
-    {"hashtags_checked", hashtags_known, 1},
+    {"check", check, 0, MOST}, {"read", read_image, 0, MOST}, {"write", write_image, 0, MOST},
+    {"lookup", lookup, 0, MOST}, {"pair", pair, 0, MOST}, {"changes", list_changes, 0, MOST},
+    {"count", count, 0, MOST_LONG}, {"list", list, 0, MOST_LONG}, {"token", token, 0, MOST},
+    {"hashtags", hashtags, 0, MOST}, {"part", part, 0, MOST}, {"lookup_checked", lookup_known, 1, MOST},
+    {"count_checked", count_known, 1, MOST_LONG}, {"list_checked", list_known, 1, MOST_LONG},
+    {"token_checked", token_known, 1, MOST}, {"hashtags_checked", hashtags_known, 1, MOST},
 };
 enum { COUNT = sizeof CALLS / sizeof CALLS[0] };
 
@@ -158,6 +162,12 @@ int main(int argc, char **argv)
         return 2;
     given_len = read_file(argv[1], given, sizeof given);
     text_len = read_file(argv[2], text, sizeof text - 1);
+    if (text_len == 0)
+        fail("the text is empty");
+    while (2 * text_len < sizeof text) {
+        memcpy(text + text_len, text, text_len);
+        text_len *= 2;
+    }
     make_image();
     for (size_t i = 0; i < COUNT; i++)
         accepted[i] = measure(CALLS[i].call, &taken[i]) == 0;
@@ -172,7 +182,7 @@ int main(int argc, char **argv)
         if (!CALLS[i].known)
             measure(CALLS[i].call, &taken[i]);
     for (size_t i = 0; i < COUNT; i++) {
-        int right = accepted[i] && taken[i] < MOST;
+        int right = accepted[i] && taken[i] <= CALLS[i].most;
         printf("%s: at most %zu bytes of stack%s\n", CALLS[i].name, taken[i], right ? "" : ", FAILED");
         passed += right;
         failed += !right;

@@ -15,6 +15,7 @@ use Rattle.grammar.specs.Beside.{View, other, afterIdentifier, nextView, parted
 use Rattle.scan.specs.Turns.{waiting, traitMeaning, begunBy, turnBy, turnOf}
 use Rattle.scan.proofs.TurnLaws.{phase-waits}
 use Rattle.count.specs.Turns.{Side, free, ofIdentifier, ofMedial, ofIdentifierMark, ofMedialMark, ofMarkMedial, placed, sideNamed, plainOf, viewBy, besideBy, goesBy, countTurnBy, stateFor, countWaiting, refusedBeside}
+use Rattle.count.specs.Counting.{RefusedAt}
 
 -- the view of a token beside which no mark stands
 abbrev pub plainView : Kind → View
@@ -235,11 +236,6 @@ identifier-turn t e f = go (goesWith traitMeaning identifier t) (leb 8 t) f e
     go true b g h = omega arith
     go false true g h = omega arith
     go false false g h = false≢true g
-
--- the first mark that is refused, as a number: n is none
-abbrev pub RefusedAt : ℕ → Option ℕ → ℕ → Type 0
-RefusedAt n none r = r ≡ n
-RefusedAt n (some p) r = (r ≡ p) × (p < n)
 
 pub refused-more : (n : ℕ) (o : Option ℕ) (r q : ℕ) → RefusedAt n o r → q < n → RefusedAt n (either o (some q)) (refusedBeside 7 r q n)
 refused-more n none r q e h = rw (eq-eqb r n e) (refl, h)

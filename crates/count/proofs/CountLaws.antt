@@ -1,14 +1,14 @@
 -- Counting by turns: the count is that of the tokens that are complete, and what stands before a mark is known. Assumes nothing.
 use Prim.Native.Nat.{ℕ, _+_, _-_, _≤_, _<_}
 use mathlib.Core.Path.{_≡_, refl, sym, ap, subst, _∙_}
-use mathlib.Core.Bool.{Bool, true, false, false≢true}
+use mathlib.Core.Bool.{Bool, true, false, false≢true, cond}
 use mathlib.Core.List.{List, [], _∷_, _++_, append-assoc, append-nil}
 use mathlib.Core.Option.{Option, none, some}
 use mathlib.Core.Logic.{inl, inr}
 use native.Mathlib.Omega.{arith}
-use native.Mathlib.Decide.{decLt}
+use native.Mathlib.Decide.{decLt, ℕ-discrete}
 use lib.ListN.{length, drop, length-append}
-use lib.Dec.{leb}
+use lib.Dec.{leb, ltb, eqb}
 use borrow.Author.Tests.{eq-eqb, ne-eqb, lt-ltb, le-ltb}
 use Rattle.lists.proofs.BoolLaws.{impossible}
 use Rattle.refusal.specs.declared.Refusal.{Refusal}
@@ -43,25 +43,14 @@ use Rattle.scan.specs.Counted.{countedBy, readThrough, countThrough, stopRefusa
 use Rattle.scan.proofs.TurnLaws.{Tokens, Under, L, Stands, kind-less, number-less, Going, Comes, first, grown, passed, begun, doneBy, left}
 use Rattle.scan.proofs.ReachLaws.{Place, Here, Look, at-end, Reached, reached-begins, After, complete-few, after-settling, left-settled, settles-none, read-end, after-turn, after-waiting, settles-here, left-here}
 use Rattle.count.specs.Turns.{Side, free, ofIdentifier, ofMedial, ofIdentifierMark, ofMedialMark, ofMarkMedial, placed, sideNamed, plainOf, viewBy, goesBy, countTurnOf, countWaiting, countStates, countAfterOf, countWaitingOf, countPendingOf, countBeside, stateBeside, markBeside, refusedBeside, stateFor}
-use Rattle.count.proofs.BesideTurnLaws.{plainView, Told, goes, stays, begins, begins-none, waits, settles, stops, told, told-same, apart, marks, links, joins, plain-state, plain-side, state-less, settled-state, settled-view, plain-waits, waits-plain, nothing-state, identifier-state, medial-state, mark-state, waits-turn, identifier-turn, RefusedAt, refused-more}
+use Rattle.count.specs.Counting.{RefusedAt, Seen, Counting, CountingAs, CountedTo, finishedBy}
+use Rattle.count.specs.declared.Run.{Run}
+use Rattle.count.specs.declared.Going.{Going as Came}
+use Rattle.count.specs.declared.Going.the-variants as going
+use Rattle.count.proofs.BesideTurnLaws.{plainView, Told, goes, stays, begins, begins-none, waits, settles, stops, told, told-same, apart, marks, links, joins, plain-state, plain-side, state-less, settled-state, settled-view, plain-waits, waits-plain, nothing-state, identifier-state, medial-state, mark-state, waits-turn, identifier-turn, refused-more}
 
 abbrev M : List ℕ → Meaning Character
 M s = meaningOf s
-
--- the tokens so far, the last of them under way: the state and the mark tell the view of them, and `refused` their first mark that is refused
-pub record Seen (s text : List ℕ) (ts : Tokens) (state q refused : ℕ) : Type 0 where
-  pub view : viewBy state q ≡ viewOf (M s) ts
-  pub first : RefusedAt (length text) (refusedFrom (M s) other 0 ts) refused
-
--- `count` tokens are complete before what is under way at the place `at`; q is the byte of the last mark that may be refused
-pub record Counting (s text : List ℕ) (state count mid q refused at : ℕ) : Type 0 where
-  pub tokens : Tokens
-  pub under-way : Under
-  pub reached : Reached s text (plainOf state) mid at tokens under-way
-  pub less : state < countStates
-  pub counted : count ≡ length tokens
-  pub place : q ≤ at
-  pub seen : Seen s text (tokens ++ underWay under-way) state q refused
 
 pub counting-begins : (s text : List ℕ) → Counting s text 0 0 0 0 (length text) 0
 counting-begins s text =
@@ -542,3 +531,28 @@ module _ {s text : List ℕ} {state count mid q refused at : ℕ} (i : Counting 
           go : (o : Option Tokens) → firstRefused (M s) [] (tokensOf s text) ≡ o → RefusedAt (length text) (placeOf o) refused → Counted (count + countPendingOf state) ≡ countThrough s text
           go none e f = ap Counted all-count ∙ sym (judged-end none (ap markRefusalBy e))
           go (some ts) e f = absurd (omega (arith, f .0, f .1))
+
+-- no more than two tokens are pending
+pub pending-two : (n : ℕ) → countPendingOf n ≤ 2
+pending-two n = go (eqb n 0) (ltb n countWaiting)
+  where
+    go : (a b : Bool) → cond {A = ℕ} a 0 (cond b 1 2) ≤ 2
+    go true b = omega arith
+    go false true = omega arith
+    go false false = omega arith
+
+-- the answer at the text's end is the text's
+pub finishes : (s text : List ℕ) (run : Run) → CountingAs s text run → length text ≤ run .at → finishedBy text run ≡ countThrough s text
+finishes s text run i h = go (decLt (run .refused) (length text)) (ℕ-discrete (run .state) countWaiting)
+  where
+    go : Dec (run .refused < length text) → Dec (run .state ≡ countWaiting) → finishedBy text run ≡ countThrough s text
+    go r (yes e) = rw (eq-eqb (run .state) countWaiting e) (counts-left (i .0) (settles-end (i .0) h) (omega arith) e)
+    go (yes l) (no n) = rw (ne-eqb (run .state) countWaiting n, lt-ltb (run .refused) (length text) l) (counts-marked (i .0) h n l)
+    go (no l) (no n) = rw (ne-eqb (run .state) countWaiting n, le-ltb (run .refused) (length text) (omega arith)) (counts-end (i .0) h n (omega arith))
+
+-- what a count up to a place gave, by the enum's case
+pub counted-refused : (s text : List ℕ) (stop : ℕ) (g : Came) (r : Refusal) → g ≡ going.Refused r → CountedTo s text stop g → Refused r ≡ countThrough s text
+counted-refused s text stop g r e h = subst (CountedTo s text stop) e h
+
+pub counted-on : (s text : List ℕ) (stop : ℕ) (g : Came) (r : Run) → g ≡ going.On r → CountedTo s text stop g → CountingAs s text r × (stop ≤ r .at)
+counted-on s text stop g r e h = subst (CountedTo s text stop) e h

@@ -2,11 +2,15 @@
 // as far as a direction mark could part it: so the pass knows at each token whether a mark is refused.
 ghost use mathlib.Core.Path.{_≡_};
 ghost use mathlib.Core.Option.{none};
-ghost use Prim.Native.Nat.{_<_};
+ghost use mathlib.Core.List.{List};
+ghost use Prim.Native.Nat.{ℕ, _≤_, _<_};
+ghost use lib.ListN.{length};
 ghost use Rattle.image.specs.Check.{refusalOf};
 ghost use Rattle.character.specs.Read.{TokenTableOf};
 ghost use Rattle.scan.specs.Counted.{countThrough};
+ghost use Rattle.count.specs.Counting.{CountingAs, CountedTo, finishedBy};
 ghost use Rattle.count.specs.Turns.{countStates, countTurnOf, countAfterOf, countWaitingOf, countPendingOf, countBeside, stateBeside, markBeside, refusedBeside, turnTable, afterTable, waitingTable};
+use character::Memo;
 use refusal::Refusal;
 use scan::Counted;
 
@@ -29,7 +33,7 @@ const WAITING: u32 = 10;
 // The one under way is complete, and another begins: BEGINS. A medial waits: WAITS. The one that waits is settled, and the character has
 // another turn after that: SETTLES. Beside a mark: it goes on, STAYS; it begins, MARKS; a medial Syntax follows it, LINKS; an identifier
 // begins that makes it refused, JOINS. No token begins: any other.
-const TURNS: [u8; 256] = [
+pub const TURNS: [u8; 256] = [
     8,
     0,
     8,
@@ -303,10 +307,10 @@ const LINKS: usize = 6;
 const JOINS: usize = 7;
 
 // The state after a character, by its traits, where a token goes on or begins and no mark is beside it.
-const AFTER: [u32; 16] = [0, 1, 1, 6, 3, 0, 4, 7, 0, 1, 1, 6, 3, 0, 4, 7];
+pub const AFTER: [u32; 16] = [0, 1, 1, 6, 3, 0, 4, 7, 0, 1, 1, 6, 3, 0, 4, 7];
 
 // The state after a medial that waits, by its traits.
-const WAITING_AFTER: [u32; 16] = [
+pub const WAITING_AFTER: [u32; 16] = [
     10,
     11,
     10,
@@ -423,7 +427,130 @@ fn count_pending(state: u32) -> usize
     2
 }
 
-// The number of tokens. `mark` is where the last mark began that may be refused, `refused` the first that is, or the text's length.
+// How far a count has come: the place, the state, the tokens that are complete, where the medial stands that waits, where the last mark
+// began that may be refused, the first that is, or the text's length, and the memo.
+pub struct Run {
+    pub at: usize,
+    pub state: u32,
+    pub count: usize,
+    pub mid: usize,
+    pub mark: usize,
+    pub refused: usize,
+    pub memo: Memo,
+}
+
+// The refusal, or how far the count has come.
+pub enum Going {
+    Refused(Refusal),
+    On(Run),
+}
+
+// Where a count begins.
+pub fn begin(text: &[u8]) -> Run
+    ensures { λ r. ⌜ ((s : List ℕ) → CountingAs s (now (text .entry)) r) ⌝ }
+{
+    Run {
+        at: 0,
+        state: NOTHING,
+        count: 0,
+        mid: 0,
+        mark: 0,
+        refused: text.len(),
+        memo: character::no_memo(),
+    }
+}
+
+// Counts on, character by character, up to a place at least.
+pub fn count_from<'a>(
+    image: &'a [u8],
+    table: &'a [u8; 128],
+    turns: &'a [u8; 256],
+    after: &'a [u32; 16],
+    waiting: &'a [u32; 16],
+    text: &'a [u8],
+    run: Run,
+    stop: usize,
+) -> Going
+    requires { ⌜ refusalOf (now image) ≡ none ⌝ }
+    requires { ⌜ TokenTableOf (now image) (now table) ⌝ }
+    requires { ⌜ (now turns ≡ turnTable) × (now after ≡ afterTable) × (now waiting ≡ waitingTable) ⌝ }
+    requires { ⌜ CountingAs (now image) (now text) run ⌝ }
+    requires { ⌜ stop ≤ length (now text) ⌝ }
+    ensures { λ r. ⌜ CountedTo (now (image .entry)) (now (text .entry)) stop r ⌝ }
+{
+    let mut memo = run.memo;
+    let mut state = run.state;
+    let mut count = run.count;
+    let mut mid = run.mid;
+    let mut mark = run.mark;
+    let mut refused = run.refused;
+    let mut at = run.at;
+    while at < stop {
+        let c = character::read_for_tokens(image, table, memo, text, at);
+        let len = c.len;
+        if len == 0 {
+            return Going::Refused(scan::refuse_at(text, at));
+        }
+        memo = c.memo;
+        let next = at + len;
+        let turn = find_turn(turns, state, c.traits);
+        if turn <= BEGINS {
+            count += turn;
+            state = state_after(after, c.traits);
+            at = next;
+            continue;
+        }
+        if turn == WAITS {
+            state = waiting_after(waiting, c.traits);
+            mid = at;
+            at = next;
+            continue;
+        }
+        if turn == SETTLES {
+            if state == WAITING {
+                return Going::Refused(scan::refuse_at(text, mid));
+            }
+            count += 1;
+            state -= WAITING;
+            mark = mid;
+            continue;
+        }
+        if JOINS < turn {
+            return Going::Refused(scan::refuse_at(text, at));
+        }
+        count += count_beside(turn);
+        mark = mark_beside(turn, mark, at);
+        refused = refused_beside(turn, refused, mark, text.len());
+        state = state_beside(turn, state);
+        at = next;
+    }
+    Going::On(Run {
+        at,
+        state,
+        count,
+        mid,
+        mark,
+        refused,
+        memo,
+    })
+}
+
+// The answer at the text's end.
+pub fn finish(text: &[u8], run: Run) -> Counted
+    requires { ⌜ (run .mid ≤ length (now text)) × (run .count ≤ length (now text)) ⌝ }
+    ensures { λ r. ⌜ r ≡ finishedBy (now (text .entry)) run ⌝ }
+{
+    if run.state == WAITING {
+        return Counted::Refused(scan::refuse_at(text, run.mid));
+    }
+    if run.refused < text.len() {
+        return Counted::Refused(Refusal::Mark(run.refused));
+    }
+    let all = run.count + count_pending(run.state);
+    Counted::Tokens(all)
+}
+
+// The number of tokens.
 pub fn count_tokens<'a>(image: &'a [u8], table: &'a [u8; 128], text: &'a [u8]) -> Counted
     requires { ⌜ refusalOf (now image) ≡ none ⌝ }
     requires { ⌜ TokenTableOf (now image) (now table) ⌝ }
@@ -432,58 +559,19 @@ pub fn count_tokens<'a>(image: &'a [u8], table: &'a [u8; 128], text: &'a [u8]) -
     let turns = TURNS;
     let after = AFTER;
     let waiting = WAITING_AFTER;
-    let mut memo = character::no_memo();
-    let mut state = NOTHING;
-    let mut count: usize = 0;
-    let mut mid = 0;
-    let mut mark = 0;
-    let mut refused = text.len();
-    let mut at = 0;
-    while at < text.len() {
-        let c = character::read_for_tokens(image, table, memo, text, at);
-        let len = c.len;
-        if len == 0 {
-            return Counted::Refused(scan::refuse_at(text, at));
-        }
-        memo = c.memo;
-        let next = at + len;
-        let turn = find_turn(&turns, state, c.traits);
-        if turn <= BEGINS {
-            count += turn;
-            state = state_after(&after, c.traits);
-            at = next;
-            continue;
-        }
-        if turn == WAITS {
-            state = waiting_after(&waiting, c.traits);
-            mid = at;
-            at = next;
-            continue;
-        }
-        if turn == SETTLES {
-            if state == WAITING {
-                return Counted::Refused(scan::refuse_at(text, mid));
-            }
-            count += 1;
-            state -= WAITING;
-            mark = mid;
-            continue;
-        }
-        if JOINS < turn {
-            return Counted::Refused(scan::refuse_at(text, at));
-        }
-        count += count_beside(turn);
-        mark = mark_beside(turn, mark, at);
-        refused = refused_beside(turn, refused, mark, text.len());
-        state = state_beside(turn, state);
-        at = next;
+    let run = begin(text);
+    let going = count_from(
+        image,
+        table,
+        &turns,
+        &after,
+        &waiting,
+        text,
+        run,
+        text.len(),
+    );
+    match going {
+        Going::Refused(r) => Counted::Refused(r),
+        Going::On(r) => finish(text, r),
     }
-    if state == WAITING {
-        return Counted::Refused(scan::refuse_at(text, mid));
-    }
-    if refused < text.len() {
-        return Counted::Refused(Refusal::Mark(refused));
-    }
-    let all = count + count_pending(state);
-    Counted::Tokens(all)
 }

@@ -56,7 +56,7 @@ fn is_feed_at(text: &[u8], at: usize) -> bool
 }
 
 // 1 where a line ends with a code point that the text from `next` on follows, else 0.
-fn look(text: &[u8], code: u32, next: usize) -> u32
+pub fn look(text: &[u8], code: u32, next: usize) -> u32
     ensures { λ r. ⌜ r ≡ one (endsLine code (charactersAt (now (text .entry)) next)) ⌝ }
 {
     if !is_line_end(code) {

@@ -1,5 +1,4 @@
 pub mod TableLaws
 pub mod TurnLaws
 pub mod ReachLaws
-pub mod WriteLaws
 pub mod FirstTokenLaws

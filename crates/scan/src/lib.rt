@@ -1,16 +1,16 @@
-// The one-pass reader of tokens under a checked image: writing, and the first token; `count` counts them. Each goes through the text by
-// one step: the state and the next character give the turn.
+// The one-pass reader of tokens under a checked image: its turns, and the first token; `count` counts them, `write` writes them. Each goes
+// through the text by one step: the state and the next character give the turn.
 ghost use mathlib.Core.Path.{_≡_};
 ghost use mathlib.Core.Option.{none};
-ghost use Prim.Native.Nat.{_*_, _≤_, _<_};
+ghost use Prim.Native.Nat.{_≤_, _<_};
 ghost use lib.ListN.{length, drop};
 ghost use Rattle.lists.specs.Laid.{laid};
 ghost use Rattle.utf8.specs.Text.{textOf};
 ghost use Rattle.image.specs.Check.{refusalOf};
 ghost use Rattle.character.specs.Read.{TokenTableOf};
-ghost use Rattle.grammar.specs.Record.{recordSize, listedWords, tokenWords};
-ghost use Rattle.grammar.specs.Reading.{maxText, readingOf};
-ghost use Rattle.scan.specs.Turns.{states, waitingOf, turnOf, afterOf, turnTable, afterTable, waitingTable, startBy};
+ghost use Rattle.grammar.specs.Record.{recordSize, tokenWords};
+ghost use Rattle.grammar.specs.Reading.{maxText};
+ghost use Rattle.scan.specs.Turns.{states, waitingOf, turnOf, afterOf, turnTable, afterTable, waitingTable};
 ghost use Rattle.scan.specs.Counted.{stopRefusal};
 ghost use Rattle.scan.specs.First.{firstOf, pendingFirst};
 use refusal::Refusal;
@@ -31,9 +31,9 @@ const IDENTIFIER: u32 = 1;
 const WAITING: u32 = 6;
 
 // What a character does, by the state and its traits. No token is complete, since the one under way goes on or the first begins: GOES_ON.
-// The one under way is complete, and another begins: BEGINS. A medial waits: WAITS. The one that waits is settled, and the character
-// has another turn after that: SETTLES. No token begins: any other.
-const TURNS: [u8; 192] = [
+// The one under way is complete, and another begins: 1. A medial waits: WAITS. The one that waits is settled, and the character has
+// another turn after that: 3. No token begins: any other.
+pub const TURNS: [u8; 192] = [
     4,
     0,
     4,
@@ -230,17 +230,13 @@ const TURNS: [u8; 192] = [
 
 const GOES_ON: usize = 0;
 
-const BEGINS: usize = 1;
-
 const WAITS: usize = 2;
 
-const SETTLES: usize = 3;
-
 // The state after a character, by its traits, where a token goes on or begins.
-const AFTER: [u32; 16] = [0, 1, 1, 2, 3, 0, 4, 5, 0, 1, 1, 2, 3, 0, 4, 5];
+pub const AFTER: [u32; 16] = [0, 1, 1, 2, 3, 0, 4, 5, 0, 1, 1, 2, 3, 0, 4, 5];
 
 // The state after a medial that waits, by its traits.
-const WAITING_AFTER: [u32; 16] = [6, 7, 6, 8, 9, 6, 10, 11, 6, 7, 6, 8, 9, 6, 10, 11];
+pub const WAITING_AFTER: [u32; 16] = [6, 7, 6, 8, 9, 6, 10, 11, 6, 7, 6, 8, 9, 6, 10, 11];
 
 // How many tokens, or why not.
 pub enum Counted {
@@ -267,7 +263,7 @@ fn widen(x: u8) -> usize
 }
 
 // What a character of these traits does in a state.
-fn find_turn(turns: &[u8; 192], state: u32, traits: u32) -> usize
+pub fn find_turn(turns: &[u8; 192], state: u32, traits: u32) -> usize
     requires { ⌜ now turns ≡ turnTable ⌝ }
     requires { ⌜ (state < states) × (traits < 16) ⌝ }
     ensures { λ r. ⌜ r ≡ turnOf state traits ⌝ }
@@ -276,7 +272,7 @@ fn find_turn(turns: &[u8; 192], state: u32, traits: u32) -> usize
 }
 
 // The state after a character, where a token goes on or begins.
-fn state_after(after: &[u32; 16], traits: u32) -> u32
+pub fn state_after(after: &[u32; 16], traits: u32) -> u32
     requires { ⌜ now after ≡ afterTable ⌝ }
     requires { ⌜ traits < 16 ⌝ }
     ensures { λ r. ⌜ r ≡ afterOf traits ⌝ }
@@ -285,7 +281,7 @@ fn state_after(after: &[u32; 16], traits: u32) -> u32
 }
 
 // The state after a medial that waits.
-fn waiting_after(waiting: &[u32; 16], traits: u32) -> u32
+pub fn waiting_after(waiting: &[u32; 16], traits: u32) -> u32
     requires { ⌜ now waiting ≡ waitingTable ⌝ }
     requires { ⌜ traits < 16 ⌝ }
     ensures { λ r. ⌜ r ≡ waitingOf traits ⌝ }
@@ -318,94 +314,6 @@ pub fn put_record(out: &mut [u32], kind: u32, start: usize, end: usize, line: u3
     out[1] = start as u32;
     out[2] = end as u32;
     out[3] = line;
-}
-
-// Where the token began that is under way after a turn at a place: there, or where it began before.
-fn pick_start(turn: usize, start: usize, at: usize) -> usize
-    ensures { λ r. ⌜ r ≡ startBy turn start at ⌝ }
-{
-    if turn == GOES_ON {
-        return start;
-    }
-    at
-}
-
-// The line on which that token began.
-fn pick_line(turn: usize, start: u32, line: u32) -> u32
-    ensures { λ r. ⌜ r ≡ startBy turn start line ⌝ }
-{
-    if turn == GOES_ON {
-        return start;
-    }
-    line
-}
-
-// The words of all tokens up to where no token begins or the text is ill-formed. `w` is the first word after the tokens that are complete.
-// After each character the record of the token that it is in is written there, up to that character: the loop has no test for where
-// tokens end. `start_line` is the line of `start`, `mid_line` that of `mid`, `line` that of `at`.
-pub fn write_tokens<'a>(image: &'a [u8], table: &'a [u8; 128], text: &'a [u8], out: &mut [u32])
-    requires { ⌜ refusalOf (now image) ≡ none ⌝ }
-    requires { ⌜ TokenTableOf (now image) (now table) ⌝ }
-    requires { ⌜ length (now text) ≤ maxText ⌝ }
-    requires { ⌜ recordSize * length (readingOf (now image) (now text) .tokens) ≤ length (now out) ⌝ }
-    ensures { λ _. ⌜ now (out .exit) ≡ laid (now (out .entry)) 0 (listedWords (now (text .entry)) (readingOf (now (image .entry)) (now (text .entry)) .tokens)) ⌝ }
-{
-    let turns = TURNS;
-    let after = AFTER;
-    let waiting = WAITING_AFTER;
-    let ends = line::fill_ends();
-    let mut memo = character::no_memo();
-    let mut state = NOTHING;
-    let mut start = 0;
-    let mut start_line = 1;
-    let mut mid = 0;
-    let mut mid_line = 1;
-    let mut at = 0;
-    let mut line = 1;
-    let mut w = 0;
-    while at < text.len() {
-        let c = character::read_for_tokens(image, table, memo, text, at);
-        let len = c.len;
-        if len == 0 {
-            break;
-        }
-        memo = c.memo;
-        let mut turn = find_turn(&turns, state, c.traits);
-        if turn == SETTLES {
-            if state == WAITING {
-                return;
-            }
-            state -= WAITING;
-            start = mid;
-            start_line = mid_line;
-            w += RECORD_WORDS;
-            put_record(&mut out[w..], state, start, at, start_line);
-            turn = find_turn(&turns, state, c.traits);
-        }
-        let next = at + len;
-        if turn <= BEGINS {
-            state = state_after(&after, c.traits);
-            start = pick_start(turn, start, at);
-            start_line = pick_line(turn, start_line, line);
-            w += RECORD_WORDS * turn;
-            put_record(&mut out[w..], state, start, next, start_line);
-            line += line::count_end(&ends, text, at, c.code, len);
-            at = next;
-            continue;
-        }
-        if turn != WAITS {
-            return;
-        }
-        state = waiting_after(&waiting, c.traits);
-        mid = at;
-        mid_line = line;
-        line += line::count_end(&ends, text, at, c.code, len);
-        at = next;
-    }
-    if WAITING < state {
-        w += RECORD_WORDS;
-        put_record(&mut out[w..], state - WAITING, mid, at, mid_line);
-    }
 }
 
 // The first token, where it is complete at a place.

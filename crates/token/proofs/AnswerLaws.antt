@@ -5,8 +5,10 @@ use mathlib.Core.List.{List, [], _∷_}
 use mathlib.Core.Option.{Option, none, some}
 use native.Mathlib.Omega.{arith}
 use native.Mathlib.Decide.{decLt}
+use mathlib.Core.Bool.{Bool, true, false, not}
 use lib.ListN.{length}
-use borrow.Author.Tests.{lt-ltb, le-ltb}
+use lib.Dec.{leb}
+use borrow.Author.Tests.{lt-ltb, le-ltb, leb-true, leb-false}
 use Rattle.lists.proofs.BoolLaws.{impossible}
 use Rattle.lists.specs.Laid.{laid}
 use Rattle.refusal.specs.declared.Refusal.{Refusal}
@@ -30,6 +32,18 @@ by-refused (refused q) r e = let f : q ≡ r = cc in ap refused f
 by-tokens : (o : Outcome ℕ) (n : ℕ) → counted.Tokens n ≡ countedBy o → o ≡ given n
 by-tokens (given m) n e = let f : m ≡ n = cc in ap given f
 by-tokens (refused r) n e = impossible (cc)
+
+-- what the test of room tells
+pub no-room : (n room : ℕ) {b : Bool} → b ≡ leb n room → not b ≡ true → room < n
+no-room n room {b = false} e f = leb-false n room (sym e)
+no-room n room {b = true} e f = impossible (cc)
+
+pub room-for : (n room : ℕ) {b : Bool} → b ≡ leb n room → not b ≡ false → n ≤ room
+room-for n room {b = true} e f = leb-true n room (sym e)
+room-for n room {b = false} e f = impossible (cc)
+
+pub room-words : (n words : ℕ) → n ≤ roomOf words → recordSize * n ≤ words
+room-words n words h = omega arith
 
 -- what is given are the tokens of the reading
 given-by : (s : List ℕ) (o : Option Refusal) (ts us : List (Tok Character Kind)) (l : List Character) → unless o (judged s ts l) ≡ given us → us ≡ ts
@@ -107,9 +121,6 @@ module _ (s text : List ℕ) where
           rw m (gives (refused (refusal.Room (length (tokensOf s text)))) (ap (roomed (length out)) (g .all) ∙ roomed-out (length out) (tokensOf s text) (omega arith)))
 
       module _ (h : n ≤ roomOf (length out)) where
-        pub list-fits : (length text ≤ maxText) × (recordSize * length (tokensOf s text) ≤ length out)
-        list-fits = let m = is-given .number in (is-given .short, omega arith)
-
         -- all is written
         pub list-given : Gives (counted.Tokens n) (laid out 0 (listedWords text (tokensOf s text)))
         unfolding writtenWithin

@@ -2,18 +2,26 @@
 // takes an image that was checked and accepted.
 ghost use mathlib.Core.Path.{_≡_};
 ghost use mathlib.Core.Option.{none};
+ghost use Prim.Native.Nat.{_≤_};
 ghost use lib.ListN.{length};
+ghost use lib.Dec.{leb};
 ghost use Rattle.image.specs.Check.{refusalOf};
 ghost use Rattle.character.specs.Read.{TokenTableOf};
-ghost use Rattle.grammar.specs.Reading.{countOf, listOf, listWords};
+ghost use Rattle.grammar.specs.Record.{roomOf};
+ghost use Rattle.grammar.specs.Reading.{maxText, countOf, listOf, listWords};
 ghost use Rattle.scan.specs.Counted.{countedBy};
 ghost use Rattle.token.specs.Taken.{takenOf};
+use blocks::BLOCKS;
+use blocks::CELLS;
 use image::Answer;
 use refusal::Refusal;
 use scan::Counted;
 use scan::First;
 use scan::MAX_TEXT;
 use scan::RECORD_WORDS;
+
+// From so many bytes on a text is long: what is known of its characters is kept, which takes 13 KB and some time to clear.
+const LONG: usize = 256;
 
 // The token at a place, or that the text ends there, or why not.
 pub enum Taken {
@@ -22,25 +30,21 @@ pub enum Taken {
     Token { kind: u32, start: usize, end: usize },
 }
 
-// The number of a text's tokens, with the table of a checked image.
-fn count_by<'a>(image: &'a [u8], table: &'a [u8; 128], text: &'a [u8]) -> Counted
-    requires { ⌜ refusalOf (now image) ≡ none ⌝ }
-    requires { ⌜ TokenTableOf (now image) (now table) ⌝ }
-    ensures { λ r. ⌜ r ≡ countedBy (countOf (now (image .entry)) (now (text .entry))) ⌝ }
-{
-    if MAX_TEXT < text.len() {
-        return Counted::Refused(Refusal::TextLength);
-    }
-    count::count_tokens(image, table, text)
-}
-
 // The number of a text's tokens, under an image that was checked.
 pub fn count_checked<'a>(image: &'a [u8], text: &'a [u8]) -> Counted
     requires { ⌜ refusalOf (now image) ≡ none ⌝ }
     ensures { λ r. ⌜ r ≡ countedBy (countOf (now (image .entry)) (now (text .entry))) ⌝ }
 {
+    if MAX_TEXT < text.len() {
+        return Counted::Refused(Refusal::TextLength);
+    }
     let table = character::fill_token_table(image);
-    count_by(image, &table, text)
+    if text.len() < LONG {
+        return count::count_tokens(image, &table, text);
+    }
+    let mut index = [0u8; BLOCKS];
+    let mut cells = [0u8; CELLS];
+    count_long::count_long(image, &table, &mut index, &mut cells, text)
 }
 
 // The number of a text's tokens.
@@ -57,24 +61,71 @@ pub fn count<'a>(image: &'a [u8], text: &'a [u8]) -> Counted
     }
 }
 
+// Whether so many words have room for the records of `count` tokens.
+fn is_room(words: usize, count: usize) -> bool
+    ensures { λ r. ⌜ r ≡ leb count (roomOf words) ⌝ }
+{
+    count <= words / RECORD_WORDS
+}
+
+// The list of a short text's tokens, with the table of a checked image.
+fn list_short<'a>(image: &'a [u8], table: &'a [u8; 128], text: &'a [u8], out: &mut [u32]) -> Counted
+    requires { ⌜ refusalOf (now image) ≡ none ⌝ }
+    requires { ⌜ TokenTableOf (now image) (now table) ⌝ }
+    requires { ⌜ length (now text) ≤ maxText ⌝ }
+    ensures { λ r. ⌜ r ≡ countedBy (listOf (now (image .entry)) (now (text .entry)) (length (now (out .entry)))) ⌝ }
+    ensures { λ r. ⌜ now (out .exit) ≡ listWords (now (image .entry)) (now (text .entry)) (now (out .entry)) ⌝ }
+{
+    let counted = count::count_tokens(image, table, text);
+    match counted {
+        Counted::Refused(r) => Counted::Refused(r),
+        Counted::Tokens(count) => {
+            if !is_room(out.len(), count) {
+                return Counted::Refused(Refusal::Room(count));
+            }
+            write::write_tokens(image, table, text, out, count);
+            Counted::Tokens(count)
+        }
+    }
+}
+
+// The list of a long text's tokens: what is learnt of its characters while they are counted serves the writing.
+fn list_long<'a>(image: &'a [u8], table: &'a [u8; 128], text: &'a [u8], out: &mut [u32]) -> Counted
+    requires { ⌜ refusalOf (now image) ≡ none ⌝ }
+    requires { ⌜ TokenTableOf (now image) (now table) ⌝ }
+    requires { ⌜ length (now text) ≤ maxText ⌝ }
+    ensures { λ r. ⌜ r ≡ countedBy (listOf (now (image .entry)) (now (text .entry)) (length (now (out .entry)))) ⌝ }
+    ensures { λ r. ⌜ now (out .exit) ≡ listWords (now (image .entry)) (now (text .entry)) (now (out .entry)) ⌝ }
+{
+    let mut index = [0u8; BLOCKS];
+    let mut cells = [0u8; CELLS];
+    let counted = count_long::count_long(image, table, &mut index, &mut cells, text);
+    match counted {
+        Counted::Refused(r) => Counted::Refused(r),
+        Counted::Tokens(count) => {
+            if !is_room(out.len(), count) {
+                return Counted::Refused(Refusal::Room(count));
+            }
+            write_long::write_long(image, table, &index, &cells, text, out, count);
+            Counted::Tokens(count)
+        }
+    }
+}
+
 // The list of a text's tokens, written whole, under an image that was checked. After a refusal the buffer is as it was.
 pub fn list_checked<'a>(image: &'a [u8], text: &'a [u8], out: &mut [u32]) -> Counted
     requires { ⌜ refusalOf (now image) ≡ none ⌝ }
     ensures { λ r. ⌜ r ≡ countedBy (listOf (now (image .entry)) (now (text .entry)) (length (now (out .entry)))) ⌝ }
     ensures { λ r. ⌜ now (out .exit) ≡ listWords (now (image .entry)) (now (text .entry)) (now (out .entry)) ⌝ }
 {
-    let table = character::fill_token_table(image);
-    let counted = count_by(image, &table, text);
-    match counted {
-        Counted::Refused(r) => Counted::Refused(r),
-        Counted::Tokens(count) => {
-            if out.len() / RECORD_WORDS < count {
-                return Counted::Refused(Refusal::Room(count));
-            }
-            scan::write_tokens(image, &table, text, out);
-            Counted::Tokens(count)
-        }
+    if MAX_TEXT < text.len() {
+        return Counted::Refused(Refusal::TextLength);
     }
+    let table = character::fill_token_table(image);
+    if text.len() < LONG {
+        return list_short(image, &table, text, out);
+    }
+    list_long(image, &table, text, out)
 }
 
 // The list of a text's tokens, written whole. After a refusal the buffer is as it was.

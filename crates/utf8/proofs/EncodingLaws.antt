@@ -40,18 +40,19 @@ pub encoding-example :
 unfolding encoding
 encoding-example = (refl, refl, refl, refl)
 
-abbrev within : Range → ℕ → Type 0
+-- a byte is in a range
+abbrev pub within : Range → ℕ → Type 0
 within g b = (g .low ≤ b) × (b ≤ g .high)
 
 -- bytes of each length are the encoding of the code point that they stand for
-encodes-2 : (b c : ℕ) → within (0xC2 to 0xDF) b → within (0x80 to 0xBF) c → b ∷ c ∷ [] ≡ encoding (codePoint (b ∷ c ∷ []))
+pub encodes-2 : (b c : ℕ) → within (0xC2 to 0xDF) b → within (0x80 to 0xBF) c → b ∷ c ∷ [] ≡ encoding (codePoint (b ∷ c ∷ []))
 encodes-2 b c g h =
     let x = codePoint (b ∷ c ∷ []) in
     let e : b ≡ 0xC0 + x / 0x40 = omega arith in
     let f : c ≡ 0x80 + x % 0x40 = omega arith in
     (λ i. e i ∷ f i ∷ []) ∙ sym (encoding-2 x (omega arith) (omega arith))
 
-encodes-3 :
+pub encodes-3 :
     (b c d : ℕ) → within (0xE0 to 0xEF) b → within (0x80 to 0xBF) c → within (0x80 to 0xBF) d → 0x800 ≤ codePoint (b ∷ c ∷ d ∷ [])
     → b ∷ c ∷ d ∷ [] ≡ encoding (codePoint (b ∷ c ∷ d ∷ []))
 encodes-3 b c d g h i l =
@@ -61,7 +62,7 @@ encodes-3 b c d g h i l =
     let k : d ≡ 0x80 + x % 0x40 = omega arith in
     (λ i. e i ∷ f i ∷ k i ∷ []) ∙ sym (encoding-3 x l (omega arith))
 
-encodes-4 :
+pub encodes-4 :
     (b c d a : ℕ) → within (0xF0 to 0xF7) b → within (0x80 to 0xBF) c → within (0x80 to 0xBF) d → within (0x80 to 0xBF) a
     → 0x10000 ≤ codePoint (b ∷ c ∷ d ∷ a ∷ []) → b ∷ c ∷ d ∷ a ∷ [] ≡ encoding (codePoint (b ∷ c ∷ d ∷ a ∷ []))
 encodes-4 b c d a g h i j l =

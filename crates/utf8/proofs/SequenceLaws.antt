@@ -30,15 +30,15 @@ known-1 : (b : ℕ) → b < 0x80 → 1 ≡ knownLength b
 unfolding knownLength
 known-1 b h = rw (lt-ltb b 0x80 h)
 
-known-2 : (b : ℕ) → 0x80 ≤ b → b < 0xE0 → 2 ≡ knownLength b
+pub known-2 : (b : ℕ) → 0x80 ≤ b → b < 0xE0 → 2 ≡ knownLength b
 unfolding knownLength
 known-2 b h l = rw (le-ltb b 0x80 h, lt-ltb b 0xE0 l)
 
-known-3 : (b : ℕ) → 0xE0 ≤ b → b < 0xF0 → 3 ≡ knownLength b
+pub known-3 : (b : ℕ) → 0xE0 ≤ b → b < 0xF0 → 3 ≡ knownLength b
 unfolding knownLength
 known-3 b h l = rw (le-ltb b 0x80 (omega arith), le-ltb b 0xE0 h, lt-ltb b 0xF0 l)
 
-known-4 : (b : ℕ) → 0xF0 ≤ b → 4 ≡ knownLength b
+pub known-4 : (b : ℕ) → 0xF0 ≤ b → 4 ≡ knownLength b
 unfolding knownLength
 known-4 b h = rw (le-ltb b 0x80 (omega arith), le-ltb b 0xE0 (omega arith), le-ltb b 0xF0 h)
 

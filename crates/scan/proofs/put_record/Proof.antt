@@ -1,7 +1,7 @@
 -- `scan::put_record` meets its contract. Assumes nothing.
 use native.Mathlib.Omega.{arith}
 use lib.ListN.{length-set}
-use Rattle.scan.proofs.WriteLaws.{record-put}
+use Rattle.lists.proofs.SetLaws.{set-four}
 use borrow.Author.Needs.{needs}
 use Rattle.scan.proofs.put_record.Statement.{statement}
 use Rattle.scan.proofs.put_record.Tie as tie
@@ -16,7 +16,7 @@ slice-write-out-4 : tie.Need-slice-write-out-4
 slice-write-out-4 c = simp length-set (omega arith)
 
 returns : tie.Need-returns
-returns c = record-put (c .args .out .now) _ _ _ _ (c .pre .1)
+returns c = set-four (c .args .out .now) _ _ _ _ (c .pre .1)
 
 pub put-record-spec : {M : Type 1} → statement M
 put-record-spec =

@@ -1,0 +1,73 @@
+-- `blocks::put_lower` meets its contract: the cells passed have their numbers. Assumes nothing.
+use Prim.Native.Nat.{_-_}
+use native.Mathlib.Omega.{arith}
+use Rattle.blocks.proofs.BlockLaws.{Putting, put-none, put-more, put-all}
+use Rattle.blocks.proofs.put_lower.Statement.{statement}
+use Rattle.blocks.proofs.put_lower.Tie as tie
+
+abbrev Inv-loop : tie.InvT-loop
+Inv-loop cells₀ row ts i₀ cells i = Putting 0 cells₀ row ts cells i
+
+abbrev μ-loop : tie.MeasureT-loop
+μ-loop cells₀ row ts i₀ cells i = 64 - i
+
+loop-holds : tie.Need-loop-holds Inv-loop μ-loop
+loop-holds c = put-none _ _ _ _
+
+mul-join-lower : tie.Need-mul-join-lower Inv-loop μ-loop
+mul-join-lower c = omega arith
+
+add-join-lower : tie.Need-add-join-lower Inv-loop μ-loop
+add-join-lower c = omega arith
+
+element-copy-out-join-lower : tie.Need-element-copy-out-join-lower Inv-loop μ-loop
+element-copy-out-join-lower c = omega arith
+
+element-copy-out-join-lower-2 : tie.Need-element-copy-out-join-lower-2 Inv-loop μ-loop
+element-copy-out-join-lower-2 c = omega arith
+
+join-lower-requires : tie.Need-join-lower-requires Inv-loop μ-loop
+join-lower-requires c κs = c .before .before .before .before .pre .1 .1 _ (c .before .before .loop-test .taken)
+
+mul-cells : tie.Need-mul-cells Inv-loop μ-loop
+mul-cells c = omega arith
+
+add-cells : tie.Need-add-cells Inv-loop μ-loop
+add-cells c = omega arith
+
+element-write-cells : tie.Need-element-write-cells Inv-loop μ-loop
+element-write-cells c = omega arith
+
+add-i : tie.Need-add-i Inv-loop μ-loop
+add-i c = omega arith
+
+loop-less : tie.Need-loop-less Inv-loop μ-loop
+loop-less c = omega arith
+
+loop-again : tie.Need-loop-again Inv-loop μ-loop
+loop-again c =
+    let t = c .before .before .before in
+    put-more _ _ _ _ _ (t .loop-test .taken) (omega (arith, t .before .before .pre .0)) (c .join-lower .ensures) (t .before .loop .inv)
+
+returns : tie.Need-returns Inv-loop μ-loop
+returns c = put-all _ _ _ _ (c .loop-test .left) (c .before .loop .inv)
+
+pub put-lower-spec : {M : Type 1} → statement M
+put-lower-spec =
+    tie.close
+    (tie.spec
+    Inv-loop
+    μ-loop
+    loop-holds
+    mul-join-lower
+    add-join-lower
+    element-copy-out-join-lower
+    element-copy-out-join-lower-2
+    join-lower-requires
+    mul-cells
+    add-cells
+    element-write-cells
+    add-i
+    loop-less
+    loop-again
+    returns)
