@@ -268,8 +268,11 @@ pub fn ranges_alike(ranges: &[Range]) -> String {
 }
 
 /// Texts of a line or two, of about 20, 30 and 40 bytes.
-pub const SHORT: [&str; 3] =
-    ["panel = valve;\nmode", "    pump_2 = { inlet, out };", "zawór_górny = wyjście;\n# tryb"];
+pub const SHORT: [&str; 3] = [
+    "panel = valve;\nmode",
+    "    pump_2 = { inlet, out };",
+    "zawór_górny = ciśnienie;\n# tryb dźwięk",
+];
 
 /// A text, what it is called, and the profile under which it is read.
 pub struct Sample {

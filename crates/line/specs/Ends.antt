@@ -4,7 +4,6 @@ use mathlib.Core.Bool.{cond}
 use mathlib.Core.List.{List}
 use lib.Dec.{ltb, eqb}
 use lib.ListN.{drop}
-use Rattle.lists.specs.Filled.{Filled}
 use Rattle.utf8.specs.declared.Step.{Step}
 use Rattle.utf8.specs.declared.Step.the-variants.{Scalar, IllFormed, End}
 use Rattle.utf8.specs.Head.{stepOf}
@@ -18,10 +17,6 @@ look = 8
 -- no line ends with the character, 0; one does, 1; or `look`
 unfoldable pub endOf : ℕ → ℕ
 endOf b = cond (ltb b 0x0A) 0 (cond (ltb b 0x0D) 1 (cond (eqb b 0x0D) look (cond (eqb b 0xC2) look (cond (eqb b 0xE2) look 0))))
-
--- the table of all bytes
-abbrev pub EndsOf : List ℕ → Type 0
-EndsOf t = Filled 256 endOf t 256
 
 -- 1 where a line ends with the character at a place, else 0
 abbrev pub endBy : List ℕ → ℕ → Step → ℕ

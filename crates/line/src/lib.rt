@@ -1,12 +1,10 @@
 // The lines of a text: where they end, by code points.
 ghost use mathlib.Core.Path.{_≡_};
-ghost use Prim.Native.Nat.{_+_, _<_};
-ghost use lib.ListN.{length, drop};
-ghost use Rattle.utf8.specs.declared.Step.the-variants.{Scalar};
-ghost use Rattle.utf8.specs.Head.{stepOf};
+ghost use Prim.Native.Nat.{_<_};
+ghost use lib.ListN.{length};
 ghost use Rattle.utf8.specs.Text.{charactersAt};
 ghost use Rattle.line.specs.Line.{isLineEnd, feedFirst, endsLine, one};
-ghost use Rattle.line.specs.Ends.{endOf, EndsOf, endAt};
+ghost use Rattle.line.specs.Ends.{endOf, endAt};
 
 const LINE_FEED: u32 = 0x0A;
 
@@ -23,7 +21,7 @@ const FIRST_OF_TWO: usize = 0xC2;
 
 const FIRST_OF_THREE: usize = 0xE2;
 
-// What the table of bytes has where the code point is to be looked at: more than some bytes that tell of a line end add up to.
+// What a first byte tells where the code point is to be looked at: more than some bytes that tell of a line end add up to.
 pub const LOOK: u8 = 8;
 
 // Whether a code point ends a line.
@@ -56,7 +54,7 @@ fn is_feed_at(text: &[u8], at: usize) -> bool
 }
 
 // 1 where a line ends with a code point that the text from `next` on follows, else 0.
-pub fn look(text: &[u8], code: u32, next: usize) -> u32
+pub fn count_end(text: &[u8], code: u32, next: usize) -> u32
     ensures { λ r. ⌜ r ≡ one (endsLine code (charactersAt (now (text .entry)) next)) ⌝ }
 {
     if !is_line_end(code) {
@@ -93,40 +91,6 @@ pub fn tell_end(b: usize) -> u8
     0
 }
 
-// The table of all bytes.
-pub fn fill_ends() -> [u8; 256]
-    ensures { λ r. ⌜ EndsOf r ⌝ }
-{
-    let mut ends = [0u8; 256];
-    let mut i = 0;
-    while i < 256 {
-        ends[i] = tell_end(i);
-        i += 1;
-    }
-    ends
-}
-
-// What the table has for a byte.
-fn read_end(ends: &[u8; 256], b: u8) -> u8
-    requires { ⌜ EndsOf (now ends) ⌝ }
-    ensures { λ r. ⌜ r ≡ endOf b ⌝ }
-{
-    ends[b as usize]
-}
-
-// 1 where a line ends with the character at a place, of this code point and length, else 0. The table tells it of most.
-pub fn count_end<'a>(ends: &'a [u8; 256], text: &'a [u8], at: usize, code: u32, len: usize) -> u32
-    requires { ⌜ EndsOf (now ends) ⌝ }
-    requires { ⌜ (at < length (now text)) × (stepOf (drop at (now text)) ≡ Scalar code len) ⌝ }
-    ensures { λ r. ⌜ r ≡ one (endsLine code (charactersAt (now (text .entry)) (at + len))) ⌝ }
-{
-    let end = read_end(ends, text[at]);
-    if end < LOOK {
-        return end as u32;
-    }
-    look(text, code, at + len)
-}
-
 // The same of the character at a place; 0 where there is none.
 pub fn count_at(text: &[u8], at: usize) -> u32
     requires { ⌜ at < length (now text) ⌝ }
@@ -137,5 +101,5 @@ pub fn count_at(text: &[u8], at: usize) -> u32
     if len == 0 {
         return 0;
     }
-    look(text, (packed / 8) as u32, at + len)
+    count_end(text, (packed / 8) as u32, at + len)
 }

@@ -68,7 +68,7 @@ pub fn begin<'a>(
     Run {
         at: c.len,
         state,
-        line: 1 + line::look(text, c.code, c.len),
+        line: 1 + line::count_end(text, c.code, c.len),
         w: RECORD_WORDS,
     }
 }
@@ -118,7 +118,7 @@ pub fn write_from<'a>(
             line,
         );
         at += c.len;
-        line += line::look(text, c.code, at);
+        line += line::count_end(text, c.code, at);
         if turn == WAITS {
             state = scan::waiting_after(waiting, c.traits);
             continue;

@@ -17,11 +17,11 @@ told c =
 returns : tie.Need-returns
 returns c = sym (end-none _ _ (told (c .before) .none (c .if1 .taken)))
 
-cast-look : tie.Need-cast-look
-cast-look c = omega (arith, told (c .before) .small)
+cast-count-end : tie.Need-cast-count-end
+cast-count-end c = omega (arith, told (c .before) .small)
 
 returns-2 : tie.Need-returns-2
-returns-2 c = c .look .ensures ∙ sym (end-at _ _ _ _ (told (c .before .before) .some (omega (arith, c .before .if1 .left))))
+returns-2 c = c .count-end .ensures ∙ sym (end-at _ _ _ _ (told (c .before .before) .some (omega (arith, c .before .if1 .left))))
 
 pub count-at-spec : {M : Type 1} → statement M
-count-at-spec = tie.close (tie.spec (λ c κs. search needs) returns cast-look (λ c. search needs) (λ c κs. search needs) returns-2)
+count-at-spec = tie.close (tie.spec (λ c κs. search needs) returns cast-count-end (λ c. search needs) (λ c κs. search needs) returns-2)

@@ -1,32 +1,22 @@
 -- `line::count_end` meets its contract. Assumes nothing.
-use native.Mathlib.Omega.{arith}
+use mathlib.Core.Path.{sym, _∙_}
 use borrow.Author.Needs.{needs}
-use lib.ListN.{length-drop}
-use Rattle.utf8.proofs.TextLaws.{step-bounds}
-use Rattle.line.proofs.LineLaws.{told}
+use borrow.Author.Tests.{not-true, not-false}
+use Rattle.line.proofs.LineLaws.{ends-not, ends-here, return-before-feed, return-alone}
 use Rattle.line.proofs.count_end.Statement.{statement}
 use Rattle.line.proofs.count_end.Tie as tie
 
 returns : tie.Need-returns
-returns c =
-    let p = c .before .before .before .before .pre .1 in
-    let a = c .before .before .before .before .args in
-    told (a .text .now) (a .at) (a .code) (a .len) (p .1) (p .0) _ (c .before .read-end .ensures) (c .if1 .taken) _
+returns c = sym (ends-not _ _ (sym (c .before .is-line-end .ensures) ∙ not-true _ (c .if1 .taken)))
 
-add-look : tie.Need-add-look
-add-look c =
-    let k = c .before .before .before .before in
-    let a = k .args in
-    omega (arith, step-bounds _ _ _ (k .pre .1 .1) .within, length-drop (a .at) (a .text .now), k .pre .1 .0, k)
+returns-2 : tie.Need-returns-2
+returns-2 c = sym (ends-here _ _ (sym (c .before .before .is-line-end .ensures) ∙ not-false _ (c .before .if1 .left)) (c .if2 .taken))
+
+returns-3 : tie.Need-returns-3
+returns-3 c = sym (return-before-feed _ _ (c .before .before .if2 .left) (sym (c .before .is-feed-at .ensures) ∙ c .if3 .taken))
+
+returns-4 : tie.Need-returns-4
+returns-4 c = sym (return-alone _ _ (c .before .before .if2 .left) (sym (c .before .is-feed-at .ensures) ∙ c .if3 .left))
 
 pub count-end-spec : {M : Type 1} → statement M
-count-end-spec =
-    tie.close
-    (tie.spec
-    (λ c. search needs)
-    (λ c κs. search needs)
-    (λ c. search needs)
-    returns
-    add-look
-    (λ c κs. search needs)
-    (λ c. search needs))
+count-end-spec = tie.close (tie.spec (λ c κs. search needs) returns returns-2 (λ c κs. search needs) returns-3 returns-4)

@@ -39,22 +39,22 @@ slice-write-out-3 : tie.Need-slice-write-out-3
 slice-write-out-3 c = simp length-set (omega (arith, c .before .before .before .before .before .before .pre .1 .1 .1 .1 .1))
 
 sequence :
-    (c : tie.After-look)
+    (c : tie.After-count-end)
     → let r = c .before .before .read-for-tokens .result in
     stepOf (drop 0 (c .before .before .before .before .before .before .before .args .text .now)) ≡ Scalar (r .code) (r .len)
 sequence c = c .before .before .read-for-tokens .ensures .some (stands (c .before .before) .some-bytes) .0
 
 counted :
-    (c : tie.After-look)
+    (c : tie.After-count-end)
     → let r = c .before .before .read-for-tokens .result in
-    c .look .result ≡ one (endsLine (r .code) (charactersAt (c .before .before .before .before .before .before .before .args .text .now) (0 + r .len)))
+    c .count-end .result ≡ one (endsLine (r .code) (charactersAt (c .before .before .before .before .before .before .before .args .text .now) (0 + r .len)))
 counted c =
     let r = c .before .before .read-for-tokens .result in
     let z : r .len ≡ 0 + r .len = omega arith in
-    c .look .ensures ∙ ap (λ (n : ℕ). one (endsLine (r .code) (charactersAt (c .before .before .before .before .before .before .before .args .text .now) n))) z
+    c .count-end .ensures ∙ ap (λ (n : ℕ). one (endsLine (r .code) (charactersAt (c .before .before .before .before .before .before .before .args .text .now) n))) z
 
 add-t13 : tie.Need-add-t13
-add-t13 c = omega (arith, c .look .ensures, one-small (endsLine (c .before .before .read-for-tokens .result .code) (charactersAt (c .before .before .before .before .before .before .before .args .text .now) (c .before .before .read-for-tokens .result .len))))
+add-t13 c = omega (arith, c .count-end .ensures, one-small (endsLine (c .before .before .read-for-tokens .result .code) (charactersAt (c .before .before .before .before .before .before .before .args .text .now) (c .before .before .read-for-tokens .result .len))))
 
 returns : tie.Need-returns
 returns c =

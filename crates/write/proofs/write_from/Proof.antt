@@ -116,19 +116,19 @@ add-at c = let t = stands (c .before .before .before .before .before .before .be
 
 -- the line after the character, and the buffer with what it is written as
 sequence :
-    (c : tie.After-look Inv-loop μ-loop)
+    (c : tie.After-count-end Inv-loop μ-loop)
     → let r = c .before .before .before .before .before .before .before .before .before .before .read-for-tokens .result in
     stepOf (drop (c .before .before .before .before .before .before .before .before .before .before .before .before .before .loop .at) (c .before .before .before .before .before .before .before .before .before .before .before .before .before .before .before .before .before .before .args .text .now)) ≡ Scalar (r .code) (r .len)
 sequence c = c .before .before .before .before .before .before .before .before .before .before .read-for-tokens .ensures .some (stands (c .before .before .before .before .before .before .before .before .before) .some-bytes) .0
 
 lined :
-    (c : tie.After-look Inv-loop μ-loop)
+    (c : tie.After-count-end Inv-loop μ-loop)
     → let l = c .before .before .before .before .before .before .before .before .before .before .before .before .before .loop in
-    LineAt (c .before .before .before .before .before .before .before .before .before .before .before .before .before .before .before .before .before .before .args .text .now) (l .at + c .before .before .before .before .before .before .before .before .before .before .read-for-tokens .result .len) (l .line + c .look .result)
-lined c = line-counted (c .before .before .before .before .before .before .before .before .before .before .before .before .before .loop .inv .0 .lined) _ _ (sequence c) _ (c .look .ensures)
+    LineAt (c .before .before .before .before .before .before .before .before .before .before .before .before .before .before .before .before .before .before .args .text .now) (l .at + c .before .before .before .before .before .before .before .before .before .before .read-for-tokens .result .len) (l .line + c .count-end .result)
+lined c = line-counted (c .before .before .before .before .before .before .before .before .before .before .before .before .before .loop .inv .0 .lined) _ _ (sequence c) _ (c .count-end .ensures)
 
 put :
-    (c : tie.After-look Inv-loop μ-loop)
+    (c : tie.After-count-end Inv-loop μ-loop)
     → let l = c .before .before .before .before .before .before .before .before .before .before .before .before .before .loop in
     Put (l .out) (l .w) (c .before .before .before .before .before .state-after .result) (l .at) (l .line) (putMid (l .w - 2) (length (l .out) - (l .w - 2)) (l .out) (c .before .before .before .before .put-bound .last .0))
 put c = put-lent _ _ _ _ _ (omega (arith, c .before .before .before .before .before .before .before .before .before .before .before .before .before .loop .inv .0 .placed)) (room-out (c .before .before .before .before .before .before .before .before)) _ (c .before .before .before .before .put-bound .ensures)
@@ -139,7 +139,7 @@ few c =
     omega (arith, c .before .before .before .before .before .before .before .before .before .if2 .left, c .before .if3 .left)
 
 add-line : tie.Need-add-line Inv-loop μ-loop
-add-line c = omega (arith, counted-few (c .before .before .before .before .before .before .before .before .before .before .before .before .before .loop .inv .0 .lined) _ _ (sequence c) _ (c .look .ensures), c .before .before .before .before .before .before .before .before .before .before .before .before .before .before .before .before .before .before .pre .1 .1 .1 .0 .short)
+add-line c = omega (arith, counted-few (c .before .before .before .before .before .before .before .before .before .before .before .before .before .loop .inv .0 .lined) _ _ (sequence c) _ (c .count-end .ensures), c .before .before .before .before .before .before .before .before .before .before .before .before .before .before .before .before .before .before .pre .1 .1 .1 .0 .short)
 
 waiting-after-requires : tie.Need-waiting-after-requires Inv-loop μ-loop
 waiting-after-requires c κs = (c .before .before .before .before .before .before .before .before .before .before .before .before .before .before .before .before .before .before .before .pre .1 .1 .0 .2, here-small (c .before .before .before .before .before .before .before .before .before .before .before .before .before .before .before .before .before .before .before .pre .0) (stands (c .before .before .before .before .before .before .before .before .before .before)))
