@@ -203,7 +203,9 @@ fn tokens(subjects: &[Subject]) {
     row("count / hand-written", subjects, |subject| subject.count().to_string());
     row("list / hand-written", subjects, |subject| subject.list().to_string());
     match Icu::load() {
-        None => println!("\nICU is not there to compile against: left out."),
+        None => println!(
+            "\nNo ICU to compare with: Debian's packages pkg-config and libicu-dev have it."
+        ),
         Some(icu) => {
             row("count / ICU", subjects, |subject| subject.count_icu(&icu).to_string());
             row("list / ICU", subjects, |subject| subject.list_icu(&icu).to_string());
@@ -264,6 +266,9 @@ fn short_texts(image: &Image, tables: &Tables) {
     println!("| bytes | count | list |\n|---|---|---|");
     for text in texts::SHORT.map(str::as_bytes) {
         let (mut words, mut list) = (vec![0; RECORD_WORDS * text.len()], Vec::new());
+        let tokens = image.list(text, &mut words).unwrap();
+        assert_eq!((tables.list(text, &mut list), image.count(text)), (Ok(tokens), Ok(tokens)));
+        assert!(words[..RECORD_WORDS * tokens] == list, "a short text: the lists differ");
         let count = race(1000, &mut || _ = black_box(image.count(black_box(text))), &mut || {
             _ = black_box(tables.count(black_box(text)))
         });
@@ -352,6 +357,7 @@ fn main() {
         "Library: as `rt staticlib` compiles it. Rival: Rust, opt-level 3. Both for plain x86-64."
     );
     println!("They take turns, {ROUNDS} rounds or more in {SECONDS} s for each run.\n");
+    // ICU may not know the letters of later versions.
     let older = std::fs::read(OLDER).unwrap();
     let letters = Image::check(&older).unwrap().ranges();
     with_subjects(&image, &texts::all(&letters), tokens);

@@ -13,7 +13,7 @@ pub const MEDIALS: [(u32, Role); 2] = [(0x2D, Role::Medial), (0x2E, Role::Medial
 /// As many entries as a profile may have: ideographs all over their block, as Start, which they are by their class too.
 pub static LETTERS: [(u32, Role); MAX_ENTRIES] = letters(Role::Start, 41);
 
-/// Ideographs that the profile makes Nonstart: eight in each block of 128, and spread so that 328 blocks of 64 have one or two.
+/// Ideographs that the profile makes Nonstart: four in each of 128 blocks of 64 code points, and one or two in each of 328.
 pub static DENSE: [(u32, Role); MAX_ENTRIES] = letters(Role::Nonstart, 16);
 pub static SPREAD: [(u32, Role); MAX_ENTRIES] = letters(Role::Nonstart, 41);
 
@@ -257,7 +257,7 @@ pub fn letters_alike(ranges: &[Range]) -> String {
 }
 
 /// Names of letters drawn at random: first a range of letters, all alike, then a letter of it. Small scripts come as often as large
-/// ones, and the text has letters of nearly all blocks that have some.
+/// ones, and the text has letters of three in four of the blocks that have some.
 pub fn ranges_alike(ranges: &[Range]) -> String {
     let starts = start_ranges(ranges);
     names("", |rng| {

@@ -3,7 +3,7 @@
  * The functions are those of the static library target/staticlib/libluffinarc.a, which `rt staticlib luffinarc` makes.
  * They are proved to answer as their definitions say, for all images, texts and numbers (those whose name ends in
  * `_checked`: for all images that luffinarc_check accepts); they use no heap, keep no state, and may be called from
- * several threads at once.
+ * several threads at once. Counting and listing tokens take up to 16 KB of stack, the others less than 4 KB.
  *
  * Result. 0: no refusal. 1 to 14: the number of the refusal (enum luffinarc_refusal). luffinarc_token may also give
  * LUFFINARC_DONE. The first refusal in number order that applies is given, save where a function says otherwise.

@@ -35,7 +35,7 @@ partFor block cell = cond (ltb block upperBlock) (cell % 16) (cell / 16)
 abbrev pub heldAt : List ℕ → List ℕ → ℕ → ℕ → ℕ
 heldAt index cells block j = partFor block (getD cells (getD index block 0 * blockSize + j) 0)
 
--- t is what the token rules know of the scalar value x, which ends a line only where its class says so
+-- t is what the token rules know of the scalar value x, which ends a line only if t is 6
 pub record Tells (s : List ℕ) (x t : ℕ) : Type 0 where
   pub known : t ≡ tokenTraits s x
   pub scalar : isScalar x ≡ true

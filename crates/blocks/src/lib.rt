@@ -17,6 +17,9 @@ const LINE_ENDS: u8 = 6;
 // The class Start, in traits; the row of blocks that are all Start has that number too.
 const START: u8 = 1;
 
+// Start in both halves of a cell.
+const BOTH_START: u8 = 17;
+
 // The first row that is given out.
 const FIRST_ROW: usize = 2;
 
@@ -41,7 +44,7 @@ pub struct Known {
     pub len: usize,
 }
 
-// A byte, which is known to be one.
+// A byte as a number, which is below 256.
 fn widen(x: u8) -> usize
     ensures { λ r. ⌜ (r ≡ x) × (r < 256) ⌝ }
 {
@@ -212,7 +215,7 @@ fn fill_block(image: &[u8], block: usize) -> [u8; 64]
     ts
 }
 
-// What is held of a code point with these traits: nothing of a line end of another class than White.
+// What is held of a code point with these traits: nothing of a line end that is of another class than White, or a medial.
 fn told_of(code: u32, traits: u8) -> u8
     ensures { λ r. ⌜ (r ≡ 0) ⊎ ((r ≡ traits) × ((r ≡ 6 → ⊥) → isLineEnd code ≡ false)) ⌝ }
 {
@@ -265,14 +268,14 @@ fn put_upper(cells: &mut [u8; 8704], row: usize, ts: &[u8; 64])
     }
 }
 
-// Fills the row of Start, in cells that hold nothing yet.
+// Fills the row of Start, in both halves, in cells that hold nothing yet.
 pub fn begin(cells: &mut [u8; 8704]) -> Rows
     requires { ⌜ Blank (rowCount * blockSize) (now cells) ⌝ }
     ensures { λ r. ⌜ Begins (now (cells .exit)) r ⌝ }
 {
     let mut i = 64;
     while i < 128 {
-        cells[i] = 17;
+        cells[i] = BOTH_START;
         i += 1;
     }
     Rows {

@@ -1,4 +1,4 @@
--- The place of a number among ranges, by halving, step by step. Assumes nothing.
+-- The place of a number among ranges, by halving, and by a walk from a lower one, step by step. Assumes nothing.
 use Prim.Native.Nat.{ℕ, _+_, _-_, _/_, _≤_, _<_}
 use mathlib.Core.Path.{_≡_}
 use native.Mathlib.Omega.{arith}

@@ -299,7 +299,7 @@ fn passed_place(image: &[u8], section: Section, x: u32) -> usize
     place_of(image, section, x)
 }
 
-// The traits of the code points from `base` on, as many as `out` has room for: one search, then a walk from stretch to stretch.
+// The traits of the code points from `base` on, as many as `out` has room for: a search in each section, then a walk from stretch to stretch.
 pub fn fill_part(image: &[u8], base: u32, out: &mut [u8])
     requires { ⌜ refusalOf (now image) ≡ none ⌝ }
     requires { ⌜ base + length (now out) ≤ 0x110000 ⌝ }

@@ -34,7 +34,6 @@ use Rattle.grammar.specs.Reading.{meaningOf, readingOf, tokensOf, formRefusalBy
 use Rattle.grammar.proofs.DivisionLaws.{division-covers}
 use Rattle.grammar.proofs.GrammarLaws.{tokens-divide}
 use Rattle.grammar.proofs.RecordLaws.{tokens-append}
-use Rattle.grammar.proofs.FewLaws.{few-tokens}
 use Rattle.grammar.proofs.StepLaws.{Settles}
 use Rattle.grammar.proofs.BesideLaws.{placeOf, viewOf, view-snoc, refused-append, beside-second}
 use Rattle.scan.specs.declared.Counted.the-variants.{Refused, Tokens as Counted}
@@ -495,9 +494,6 @@ module _ {s text : List ℕ} {state count mid q refused at : ℕ} (i : Counting 
 
       all-count : count + countPendingOf state ≡ length (tokensOf s text)
       all-count = omega (arith, ap length all-tokens, length-append (i .tokens) (finish (L s) (i .under-way) .tokens), all-read .pending, i .counted)
-
-      pub pending-few : count + countPendingOf state ≤ length text
-      pending-few = omega (arith, all-count, few-tokens s text)
 
       nothing-left : readingOf s text .left ≡ []
       nothing-left = sym (ap (λ w. w .left) (read-end (i .reached) (at-end text at h))) ∙ all-read .none-left

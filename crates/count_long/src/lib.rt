@@ -318,7 +318,7 @@ fn row_of(rows: &[u8; 16], state: u32) -> usize
     widen(rows[state as usize])
 }
 
-// Up to this place four bytes stand at each.
+// At each place before this one four bytes stand.
 fn known_end(n: usize) -> usize
     ensures { λ r. ⌜ r ≡ n - 3 ⌝ }
 {
@@ -328,7 +328,8 @@ fn known_end(n: usize) -> usize
     n - 3
 }
 
-// Counts on as far as what characters do is known from the one before. The row is the traits of the last one, which stands at `last`.
+// Counts on as far as what characters do is known from the one before. The row is the traits of the last character, or of one that leads to
+// the state at first; `last` is the place of a medial that waits.
 fn run_known<'a>(
     image: &'a [u8],
     table: &'a [u8; 128],

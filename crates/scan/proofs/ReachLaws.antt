@@ -145,9 +145,6 @@ module _ {s text : List ℕ} {state mid at : ℕ} {ts : Tokens} {q : Under} (i :
         preceded ts (tokensLeft (underWay q) (x .medial ∷ charactersAt text at)) ≡ readingOf s text
     left-settled x = ap (λ m. preceded ts (meant (L s) m (charactersAt text at))) (sym (x .same)) ∙ read-settled
 
-    pub all-settled : state ≡ waiting → tokensOf s text ≡ ts ++ underWay q
-    all-settled n = sym (ap (λ w. w .tokens) (left-settled (left s state (tokensWidth ts) mid at q (i .stands) (omega arith) n)))
-
   -- no character stands here
   pub settles-none : NoCharacter text at → Settles (L s) q (charactersAt text at)
   settles-none e = go q

@@ -36,11 +36,6 @@ Under = State Character Kind
 abbrev pub L : List ℕ → Local Character Kind
 L s = localRules (meaningOf s)
 
--- a token that begins at a turn begins here
-pub started : (turn start here : ℕ) → (turn ≡ 0 → ⊥) → here ≡ startBy turn start here
-started zero start here h = absurd (h refl)
-started (suc r) start here h = refl
-
 -- what the numbers of the code stand for at the place `at`: nothing under way; a token since `start`; an identifier since `start`
 -- and a medial at `mid` that waits
 abbrev pub Stands : List ℕ → Under → ℕ → ℕ → ℕ → ℕ → Type 0

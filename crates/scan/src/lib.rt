@@ -28,11 +28,11 @@ const NOTHING: u32 = 0;
 
 const IDENTIFIER: u32 = 1;
 
-const WAITING: u32 = 6;
+pub const WAITING: u32 = 6;
 
 // What a character does, by the state and its traits. No token is complete, since the one under way goes on or the first begins: GOES_ON.
 // The one under way is complete, and another begins: 1. A medial waits: WAITS. The one that waits is settled, and the character has
-// another turn after that: 3. No token begins: any other.
+// another turn after that: SETTLES. No token begins: any other.
 pub const TURNS: [u8; 192] = [
     4,
     0,
@@ -230,7 +230,9 @@ pub const TURNS: [u8; 192] = [
 
 const GOES_ON: usize = 0;
 
-const WAITS: usize = 2;
+pub const WAITS: usize = 2;
+
+pub const SETTLES: usize = 3;
 
 // The state after a character, by its traits, where a token goes on or begins.
 pub const AFTER: [u32; 16] = [0, 1, 1, 2, 3, 0, 4, 5, 0, 1, 1, 2, 3, 0, 4, 5];

@@ -15,13 +15,9 @@ ghost use Rattle.scan.specs.Turns.{turnTable, afterTable, waitingTable};
 ghost use Rattle.scan.specs.Counted.{countThrough};
 ghost use Rattle.write.specs.Bounds.{Accepted, Fits, Bounded, Kept, Wrote};
 use scan::RECORD_WORDS;
-
-// What `scan` has for a medial that waits, and for its turns.
-const WAITING: u32 = 6;
-
-const WAITS: usize = 2;
-
-const SETTLES: usize = 3;
+use scan::SETTLES;
+use scan::WAITING;
+use scan::WAITS;
 
 // How far the writing has come: the place, the state, the line of the place, and the first word after the records of the tokens that
 // have begun. In a state that waits, what the medial would be written as stands there.

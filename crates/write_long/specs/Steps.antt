@@ -10,7 +10,7 @@ use Rattle.line.specs.Line.{isLineEnd}
 use Rattle.character.specs.Traits.{tokenTraits}
 use Rattle.scan.specs.Turns.{waitingOf, turnOf, afterOf}
 
--- the traits of LINE FEED, where it is a line end of White and no medial; other line ends are not told
+-- the number of LINE FEED in the hot loop's table, where it is a line end of White and no medial; other line ends are not told
 abbrev pub feedRow : ℕ
 feedRow = 14
 

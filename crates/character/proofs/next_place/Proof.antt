@@ -1,6 +1,6 @@
 -- `character::next_place` meets its contract. The invariant: x has passed the place. Assumes nothing.
 use Prim.Native.Nat.{_-_}
-use mathlib.Core.Path.{_≡_, sym}
+use mathlib.Core.Path.{_≡_}
 use native.Mathlib.Omega.{arith}
 use borrow.Author.Needs.{needs}
 use Rattle.lookup.specs.Records.{recordAt, recordCount}
