@@ -6,14 +6,16 @@ use mathlib.Core.List.{List, [], _∷_, _++_}
 use native.Mathlib.Omega.{arith}
 use native.Mathlib.Decide.{decLt}
 use lib.ListN.{length, take, drop, getD, length-drop, take-append-drop}
-use lib.Seq.{drop-cons}
-use borrow.Author.Tests.{lt-ltb, le-ltb}
+use lib.Dec.{leb, ltb}
+use lib.Seq.{drop-cons, getD-drop}
+use borrow.Author.Tests.{ltb-true, ltb-false, leb-true, lt-ltb, le-ltb, le-leb}
+use Rattle.lists.proofs.BoolLaws.{and-left, and-right}
 use Rattle.utf8.specs.declared.Step.{Step}
 use Rattle.utf8.specs.declared.Step.the-variants.{Scalar, IllFormed, End}
 use Rattle.utf8.specs.Scalar.{isScalar, ScalarMeans, below-surrogates, above-surrogates}
 use Rattle.utf8.specs.Encoding.{encoding, codePoint}
 use Rattle.utf8.specs.Head.{stepOf}
-use Rattle.utf8.specs.Lead.{knownLength, packed}
+use Rattle.utf8.specs.Lead.{knownLength, packed, isTrail}
 use Rattle.utf8.proofs.ScalarLaws.{means-scalar, scalar-means}
 use Rattle.utf8.proofs.EncodingLaws.{encodes-sequence}
 use Rattle.utf8.proofs.SequenceLaws.{step-of-sequence, sequence-of-step}
@@ -28,6 +30,11 @@ after s at k (suc n) = getD s (at + k) 0 ∷ after s at (k + 1) n
 -- the byte at a place, and n more
 abbrev pub bytes : List ℕ → ℕ → ℕ → List ℕ
 bytes s at n = getD s at 0 ∷ after s at 1 n
+
+-- bytes that follow others
+abbrev Trails : List ℕ → Type 0
+Trails [] = Unit {0}
+Trails (b ∷ q) = (0x80 ≤ b) × (b < 0xC0) × Trails q
 
 take-after : (s : List ℕ) (at k n : ℕ) → at + k + n ≤ length s → take n (drop (at + k) s) ≡ after s at k n
 take-after s at k zero h = refl
@@ -55,13 +62,25 @@ module _ (s : List ℕ) (at n : ℕ) where
       ap stepOf (sym (take-append-drop (suc n) (drop at s)) ∙ ap (λ (l : List ℕ). l ++ r) (take-bytes h))
       ∙ step-of-sequence q r (encodes-sequence q (record { code = codePoint q; scalar = t; bytes = e }))
 
-  -- a sequence stands at a place and has so many bytes, as its first byte tells
+  trails : {l : ℕ} → ((i : ℕ) → 0 < i → i < l → isTrail (getD (drop at s) i 0) ≡ true) → (k m : ℕ) → 0 < k → k + m ≤ l → Trails (after s at k m)
+  trails f k zero h g = tt
+  trails f k (suc m) h g =
+      let b = getD s (at + k) 0 in
+      let e : isTrail b ≡ true = ap isTrail (sym (getD-drop at s k 0)) ∙ f k h (omega arith) in (
+        leb-true 0x80 b (and-left (leb 0x80 b) (ltb b 0xC0) e),
+        ltb-true b 0xC0 (and-right (leb 0x80 b) (ltb b 0xC0) e),
+        trails f (k + 1) m (omega arith) (omega arith),
+      )
+
+  -- a sequence that is not ASCII stands at a place and has so many bytes, as its first byte tells
   pub record Sure : Type 0 where
     pub within : at + suc n ≤ length s
     pub same : stepOf (drop at s) ≡ Scalar (codePoint (bytes s at n)) (suc n)
     pub wide : 0xF0 ≤ getD s at 0 → 0x10000 ≤ codePoint (bytes s at n)
+    pub lead : 0xC0 ≤ getD s at 0
+    pub others : Trails (after s at 1 n)
 
-  pub sure : at < length s → StandsAt s at → suc n ≡ knownLength (getD s at 0) → Sure
+  pub sure : (at < length s) × (0x80 ≤ getD s at 0) → StandsAt s at → suc n ≡ knownLength (getD s at 0) → Sure
   sure h t k =
       let x = t .code in
       let f = first-byte (drop at s) x (t .len) (t .same) in
@@ -76,6 +95,8 @@ module _ (s : List ℕ) (at n : ℕ) where
         within = w;
         same = t .same ∙ (λ i. Scalar (c i) (l i));
         wide = λ g. subst (λ (z : ℕ). 0x10000 ≤ z) c (go g (decLt x 0x80) (decLt x 0x800) (decLt x 0x10000));
+        lead = ltb-false (getD s at 0) 0xC0 (rw (le-leb 0x80 (getD s at 0) (h .1)) at (ap isTrail (sym (first-at s at)) ∙ f .first));
+        others = trails (f .others) 1 n (omega arith) (omega arith);
       }
     where
       go : 0xF0 ≤ getD s at 0 → Dec (t .code < 0x80) → Dec (t .code < 0x800) → Dec (t .code < 0x10000) → 0x10000 ≤ t .code

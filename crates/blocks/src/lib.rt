@@ -30,6 +30,18 @@ const UPPER: usize = 1024;
 
 pub const BLOCKS: usize = 4096;
 
+// What a byte that follows others has beside its six bits of the code point.
+const TRAIL: usize = 0x80;
+
+// What the bytes that tell the block have beside their bits of it: the first of two,
+const TWO_BYTES: usize = 0xC0;
+
+// the first and second of three,
+const THREE_BYTES: usize = 0xE0 * 64 + TRAIL;
+
+// the second and third of four, where the first is 0xF0.
+const FOUR_BYTES: usize = TRAIL * 64 + TRAIL;
+
 pub const CELLS: usize = 8704;
 
 // The first free row of each half.
@@ -54,9 +66,10 @@ fn widen(x: u8) -> usize
 // The cell of a row that is of a sequence's last byte.
 fn cell_of(cells: &[u8; 8704], row: u8, last: u8) -> usize
     requires { ⌜ (length (now cells) ≡ rowCount * blockSize) × (row < rowCount) ⌝ }
+    requires { ⌜ (0x80 ≤ last) × (last < 0xC0) ⌝ }
     ensures { λ r. ⌜ (r ≡ getD (now (cells .entry)) (row * blockSize + last % blockSize) 0) × (r < 256) ⌝ }
 {
-    widen(cells[row as usize * 64 + last as usize % 64])
+    widen(cells[row as usize * 64 + last as usize - TRAIL])
 }
 
 // What is held of a sequence of two bytes at a place, if its bytes are right; else 0. The same of three and four.
@@ -73,7 +86,7 @@ fn known_two<'a>(index: &'a [u8; 4096], cells: &'a [u8; 8704], text: &'a [u8], a
     if b / 64 != 2 {
         return 0;
     }
-    cell_of(cells, index[a as usize % 32], b) % 16
+    cell_of(cells, index[a as usize - TWO_BYTES], b) % 16
 }
 
 fn known_three<'a>(index: &'a [u8; 4096], cells: &'a [u8; 8704], text: &'a [u8], at: usize) -> usize
@@ -89,7 +102,7 @@ fn known_three<'a>(index: &'a [u8; 4096], cells: &'a [u8; 8704], text: &'a [u8],
     if c / 64 != 2 {
         return 0;
     }
-    let block = text[at] as usize % 16 * 64 + b as usize % 64;
+    let block = text[at] as usize * 64 + b as usize - THREE_BYTES;
     if block < 32 {
         return 0;
     }
@@ -119,7 +132,7 @@ fn known_four<'a>(index: &'a [u8; 4096], cells: &'a [u8; 8704], text: &'a [u8], 
     if d / 64 != 2 {
         return 0;
     }
-    let block = b as usize % 64 * 64 + c as usize % 64;
+    let block = b as usize * 64 + c as usize - FOUR_BYTES;
     cell_of(cells, index[block], d) / 16
 }
 
@@ -163,12 +176,12 @@ pub fn sure_at<'a>(index: &'a [u8; 4096], cells: &'a [u8; 8704], text: &'a [u8],
     let a = text[at];
     if a < 0xE0 {
         return Known {
-            traits: cell_of(cells, index[a as usize % 32], text[at + 1]) % 16,
+            traits: cell_of(cells, index[a as usize - TWO_BYTES], text[at + 1]) % 16,
             len: 2,
         };
     }
     if a < 0xF0 {
-        let block = a as usize % 16 * 64 + text[at + 1] as usize % 64;
+        let block = a as usize * 64 + text[at + 1] as usize - THREE_BYTES;
         return Known {
             traits: cell_of(cells, index[block], text[at + 2]) % 16,
             len: 3,
@@ -177,7 +190,7 @@ pub fn sure_at<'a>(index: &'a [u8; 4096], cells: &'a [u8; 8704], text: &'a [u8],
     if a != 0xF0 {
         return Known { traits: 0, len: 4 };
     }
-    let block = text[at + 1] as usize % 64 * 64 + text[at + 2] as usize % 64;
+    let block = text[at + 1] as usize * 64 + text[at + 2] as usize - FOUR_BYTES;
     Known {
         traits: cell_of(cells, index[block], text[at + 3]) / 16,
         len: 4,

@@ -24,7 +24,7 @@ returns-5 c = found-none
 cell-of-requires : tie.Need-cell-of-requires
 cell-of-requires c κs =
     let f = c .before .before .before .before .before .before .before .before .before .before .before .pre .0 in
-    (f .cells-long, f .rows _ (omega arith))
+    ((f .cells-long, f .rows _ (omega arith)), (omega arith, omega arith))
 
 returns-6 : tie.Need-returns-6
 returns-6 c =
@@ -77,6 +77,7 @@ known-four-spec =
     returns-3
     returns-4
     returns-5
+    (λ c. search needs)
     (λ c. search needs)
     (λ c. search needs)
     (λ c. search needs)

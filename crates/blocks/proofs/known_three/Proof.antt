@@ -1,5 +1,4 @@
 -- `blocks::known_three` meets its contract. Assumes nothing.
-use mathlib.Core.Path.{refl}
 use native.Mathlib.Omega.{arith}
 use borrow.Author.Needs.{needs}
 use Rattle.utf8.proofs.EncodingLaws.{encodes-3}
@@ -19,7 +18,7 @@ returns-3 c = found-none
 cell-of-requires : tie.Need-cell-of-requires
 cell-of-requires c κs =
     let f = c .before .before .before .before .before .before .before .before .pre .0 in
-    (f .cells-long, f .rows _ (omega arith))
+    ((f .cells-long, f .rows _ (omega arith)), (omega arith, omega arith))
 
 returns-4 : tie.Need-returns-4
 returns-4 c =
@@ -33,7 +32,7 @@ returns-4 c =
     _
     _
     (omega arith)
-    refl
+    (omega arith)
     (stands
     (a .text .now)
     (a .at)
@@ -53,6 +52,7 @@ known-three-spec =
     (λ c. search needs)
     returns
     returns-2
+    (λ c. search needs)
     (λ c. search needs)
     (λ c. search needs)
     (λ c. search needs)

@@ -1,5 +1,4 @@
 -- `blocks::known_two` meets its contract. Assumes nothing.
-use mathlib.Core.Path.{refl}
 use native.Mathlib.Omega.{arith}
 use borrow.Author.Needs.{needs}
 use Rattle.utf8.proofs.EncodingLaws.{encodes-2}
@@ -14,7 +13,7 @@ returns-2 : tie.Need-returns-2
 returns-2 c = found-none
 
 cell-of-requires : tie.Need-cell-of-requires
-cell-of-requires c κs = let f = c .before .before .before .before .before .before .pre .0 in (f .cells-long, f .rows _ (omega arith))
+cell-of-requires c κs = let f = c .before .before .before .before .before .before .pre .0 in ((f .cells-long, f .rows _ (omega arith)), (omega arith, omega arith))
 
 returns-3 : tie.Need-returns-3
 returns-3 c =
@@ -23,7 +22,7 @@ returns-3 c =
     let k = c .before .before .before .before .before .before .before in
     let p = k .pre .1 in
     let a = k .args in
-    found-lower _ _ (omega arith) refl (stands (a .text .now) (a .at) 1 (omega arith) (encodes-2 _ _ (omega arith, omega arith) (omega arith, omega arith))) (omega arith) (c .cell-of .ensures .0)
+    found-lower _ _ (omega arith) (omega arith) (stands (a .text .now) (a .at) 1 (omega arith) (encodes-2 _ _ (omega arith, omega arith) (omega arith, omega arith))) (omega arith) (c .cell-of .ensures .0)
 
 pub known-two-spec : {M : Type 1} → statement M
 known-two-spec =
@@ -34,6 +33,7 @@ known-two-spec =
     (λ c. search needs)
     returns
     returns-2
+    (λ c. search needs)
     (λ c. search needs)
     (λ c. search needs)
     cell-of-requires
