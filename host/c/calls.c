@@ -6,21 +6,8 @@
 #include <stdio.h>
 #include <string.h>
 
+#include "check.h"
 #include "luffinarc.h"
-
-static int passed, failed;
-
-static void check(int line, int holds)
-{
-    if (holds) {
-        passed++;
-    } else {
-        failed++;
-        printf("line %d fails\n", line);
-    }
-}
-
-#define CHECK(holds) check(__LINE__, (holds))
 
 /* The version word of both images. */
 #define VERSION 1048576
@@ -325,6 +312,5 @@ int main(int argc, char **argv)
     lines();
     marks();
     ill_formed(m, m_len);
-    printf("%d passed, %d failed\n", passed, failed);
-    return failed != 0;
+    return finish();
 }

@@ -1,8 +1,9 @@
 /* Lists the tokens of a text file: tokens IMAGE TEXT
  *
  * It checks the image once, and prints the number of tokens and a line for each, with its kind, its first byte, one past
- * its last byte and its line in the text, or a line for the refusal. Exit status: 0 the tokens were listed, 1 the image
- * or the text is refused, 2 a file cannot be read or memory is short.
+ * its last byte and its line in the text, or a line with the number of the refusal and what it carries. Standard error
+ * has the refused file, the refusal's name and what it says. Exit status: 0 the tokens were listed, 1 the image or the
+ * text is refused, 2 a file cannot be read or memory is short.
  */
 #include <inttypes.h>
 #include <stdio.h>
@@ -10,14 +11,16 @@
 
 #include "luffinarc.h"
 
-/* The bytes of a file, at most `most` and one more, which says that there are more. */
+/* The name of a file, and its bytes: at most `most` and one more, which says that there are more. */
 struct bytes {
+    const char *name;
     uint8_t *at;
     size_t len;
 };
 
 static int read_file(const char *name, size_t most, struct bytes *out)
 {
+    out->name = name;
     FILE *file = fopen(name, "rb");
     if (file == NULL) {
         perror(name);
@@ -34,9 +37,10 @@ static int read_file(const char *name, size_t most, struct bytes *out)
     return 1;
 }
 
-/* Prints a refusal: its number, and what it carries. */
-static void print_refusal(uint32_t refusal, const uint64_t *answer)
+/* Prints a refusal of a file: its number, and what it carries; its name and text go to standard error. */
+static void print_refusal(const char *name, uint32_t refusal, const uint64_t *answer)
 {
+    fprintf(stderr, "tokens: %s: %s: %s\n", name, luffinarc_refusal_name(refusal), luffinarc_refusal_text(refusal));
     switch (refusal) {
     case LUFFINARC_RANGE:
     case LUFFINARC_ENTRY:
@@ -75,12 +79,12 @@ static int list(struct bytes image, struct bytes text)
     uint64_t answer[LUFFINARC_ANSWER];
     uint32_t refusal = luffinarc_check(image.at, image.len, points, roles, answer);
     if (refusal != 0) {
-        print_refusal(refusal, answer);
+        print_refusal(image.name, refusal, answer);
         return 1;
     }
     refusal = luffinarc_count_checked(image.at, image.len, text.at, text.len, answer);
     if (refusal != 0) {
-        print_refusal(refusal, answer);
+        print_refusal(text.name, refusal, answer);
         return 1;
     }
     size_t words_len = LUFFINARC_RECORD_WORDS * (size_t)answer[0];
@@ -99,7 +103,7 @@ static int list(struct bytes image, struct bytes text)
 
 int main(int argc, char **argv)
 {
-    struct bytes image = {NULL, 0}, text = {NULL, 0};
+    struct bytes image = {NULL, NULL, 0}, text = {NULL, NULL, 0};
     if (argc != 3) {
         fprintf(stderr, "usage: tokens IMAGE TEXT\n");
         return 2;

@@ -19,6 +19,8 @@
  * overlap with anything else that it is given.
  *
  * A refused call changes no byte or word that was lent, `answer` apart. Every call leaves what it is lent to read.
+ *
+ * The header is C99 and C++11. luffinarc_refusal_name and luffinarc_refusal_text stand in it, all else in the library.
  */
 #ifndef LUFFINARC_H
 #define LUFFINARC_H
@@ -29,6 +31,19 @@
 #ifdef __cplusplus
 extern "C" {
 #endif
+
+/* The version of the library: three numbers, and the text "MAJOR.MINOR.PATCH". */
+#define LUFFINARC_VERSION_MAJOR 0
+#define LUFFINARC_VERSION_MINOR 1
+#define LUFFINARC_VERSION_PATCH 0
+#define LUFFINARC_VERSION "0.1.0"
+
+/* The version word of an image built from Unicode a.b.c, and the three numbers of a word. b and c are at most 255, a at
+ * most 65535; all are of type uint32_t. */
+#define LUFFINARC_UNICODE_VERSION(a, b, c) ((uint32_t)(a) * 65536u + (uint32_t)(b) * 256u + (uint32_t)(c))
+#define LUFFINARC_UNICODE_MAJOR(word) ((uint32_t)(word) >> 16)
+#define LUFFINARC_UNICODE_MINOR(word) (((uint32_t)(word) >> 8) & 255u)
+#define LUFFINARC_UNICODE_UPDATE(word) ((uint32_t)(word) & 255u)
 
 /* Limits: ranges and profile entries of an image, its bytes, and the bytes of a text. */
 #define LUFFINARC_MAX_RANGES 4096
@@ -83,6 +98,55 @@ enum luffinarc_refusal {
                                 * between two tokens that are no white space, and with it taken out of the text no
                                 * token would end where it stood */
 };
+
+/* The name of a result: of a refusal, that of its constant as "Length" or "IllFormed"; of 0 "none", of LUFFINARC_DONE
+ * "Done", of any other number "unknown". */
+static inline const char *luffinarc_refusal_name(uint32_t number)
+{
+    switch (number) {
+    case 0: return "none";
+    case LUFFINARC_LENGTH: return "Length";
+    case LUFFINARC_HEADER: return "Header";
+    case LUFFINARC_RANGE: return "Range";
+    case LUFFINARC_ENTRY: return "Entry";
+    case LUFFINARC_TEXT_LENGTH: return "TextLength";
+    case LUFFINARC_ILL_FORMED: return "IllFormed";
+    case LUFFINARC_CHARACTERS: return "Characters";
+    case LUFFINARC_ROOM: return "Room";
+    case LUFFINARC_NOT_SCALAR: return "NotScalar";
+    case LUFFINARC_CHANGE: return "Change";
+    case LUFFINARC_PROFILES: return "Profiles";
+    case LUFFINARC_BUFFER: return "Buffer";
+    case LUFFINARC_SHAPE: return "Shape";
+    case LUFFINARC_MARK: return "Mark";
+    case LUFFINARC_DONE: return "Done";
+    default: return "unknown";
+    }
+}
+
+/* What a result says, in a few words for messages, without what it carries. */
+static inline const char *luffinarc_refusal_text(uint32_t number)
+{
+    switch (number) {
+    case 0: return "no refusal";
+    case LUFFINARC_LENGTH: return "the image has a wrong length";
+    case LUFFINARC_HEADER: return "the image's header is wrong or a count is too large";
+    case LUFFINARC_RANGE: return "a range is bad";
+    case LUFFINARC_ENTRY: return "a profile entry is bad";
+    case LUFFINARC_TEXT_LENGTH: return "the text is too long";
+    case LUFFINARC_ILL_FORMED: return "ill-formed UTF-8";
+    case LUFFINARC_CHARACTERS: return "no token begins here";
+    case LUFFINARC_ROOM: return "more room is needed";
+    case LUFFINARC_NOT_SCALAR: return "the number is no scalar value";
+    case LUFFINARC_CHANGE: return "a code point has a class that it may not change to";
+    case LUFFINARC_PROFILES: return "the images have unequal profiles";
+    case LUFFINARC_BUFFER: return "a larger buffer is needed";
+    case LUFFINARC_SHAPE: return "a list, a place or a start does not fit";
+    case LUFFINARC_MARK: return "a direction mark parts a token";
+    case LUFFINARC_DONE: return "the place is the text's end";
+    default: return "no result has this number";
+    }
+}
 
 /* Classes of code points. */
 enum luffinarc_class {

@@ -1,78 +1,35 @@
-# For setting names in Thai and Tibetan as people write them; ../README.md says what each entry is for.
-# Medial: abbreviations, as of months in Thai
-002E 3
-# Thai: the baht sign, signs, digits
-0E3F 1
-0E4F 2
-0E50 1
-0E51 1
-0E52 1
-0E53 1
-0E54 1
-0E55 1
-0E56 1
-0E57 1
-0E58 1
-0E59 1
-0E5A 2
-0E5B 2
-# Tibetan: signs, the tsheg between syllables, digits and half digits
-0F01 2
-0F02 2
-0F03 2
-0F0B 3
-0F0C 3
-0F13 2
-0F15 2
-0F16 2
-0F17 2
-0F1A 2
-0F1B 2
-0F1C 2
-0F1D 2
-0F1E 2
-0F1F 2
-0F20 1
-0F21 1
-0F22 1
-0F23 1
-0F24 1
-0F25 1
-0F26 1
-0F27 1
-0F28 1
-0F29 1
-0F2A 1
-0F2B 1
-0F2C 1
-0F2D 1
-0F2E 1
-0F2F 1
-0F30 1
-0F31 1
-0F32 1
-0F33 1
-0F34 2
-0F36 2
-0F38 2
-0F85 2
-0FBE 2
-0FBF 2
-0FC0 2
-0FC1 2
-0FC2 2
-0FC3 2
-0FC4 2
-0FC5 2
-0FC7 2
-0FC8 2
-0FC9 2
-0FCA 2
-0FCB 2
-0FCC 2
-0FCE 2
-0FCF 2
-0FD5 2
-0FD6 2
-0FD7 2
-0FD8 2
+# For setting names in Thai and Tibetan as people write them. Lines: U+HEX ROLE or U+HEX..U+HEX ROLE. 74 entries.
+# Start: a name may begin with it. Nonstart: a name goes on with it. Medial: it stands inside a name.
+
+# The full stop in abbreviations, as of months in Thai
+U+002E Medial
+
+# Thai: the baht sign, which stands before an amount
+U+0E3F Start
+# a sign that begins a part
+U+0E4F Nonstart
+# digits: names may begin with a number, as a day does
+U+0E50..U+0E59 Start
+# signs that end a part
+U+0E5A..U+0E5B Nonstart
+
+# Tibetan: signs of headings
+U+0F01..U+0F03 Nonstart
+# the tsheg between syllables, and the one that does not break
+U+0F0B..U+0F0C Medial
+# carets, logotypes and signs of astrology
+U+0F13 Nonstart
+U+0F15..U+0F17 Nonstart
+U+0F1A..U+0F1F Nonstart
+# digits and half digits
+U+0F20..U+0F33 Start
+# signs of abbreviation, honour and elision, and a caret
+U+0F34 Nonstart
+U+0F36 Nonstart
+U+0F38 Nonstart
+U+0F85 Nonstart
+# signs of cantillation, symbols and pebbles
+U+0FBE..U+0FC5 Nonstart
+U+0FC7..U+0FCC Nonstart
+U+0FCE..U+0FCF Nonstart
+U+0FD5..U+0FD8 Nonstart

@@ -1,20 +1,50 @@
 //! Lists the hashtags of a text file under an image file: `hashtags IMAGE TEXT`.
+//!
+//! It prints a line for each hashtag: its first byte, one past its last byte, its line in the text and its bytes. Exit
+//! status: 0 the hashtags were listed, if there are any; 1 the image or the text is refused; 2 wrong use, or a file can't
+//! be read or written.
 
-use luffinarc::Image;
-use std::error::Error;
+use luffinarc::ImageBuf;
+use std::fmt::Display;
+use std::io::{self, Write};
+use std::path::{Path, PathBuf};
+use std::process::ExitCode;
 use std::{env, fs};
 
-fn main() -> Result<(), Box<dyn Error>> {
-    let names: Vec<String> = env::args().skip(1).collect();
-    if names.len() != 2 {
-        return Err("usage: hashtags IMAGE TEXT".into());
-    }
-    let bytes = fs::read(&names[0])?;
-    let text = fs::read_to_string(&names[1])?;
-    let image = Image::check(&bytes)?;
-    for tag in image.hashtags(&text)? {
+const REFUSED: u8 = 1;
+const FAILED: u8 = 2;
+
+/// What is told of an error, and the exit status.
+type Failure = (String, u8);
+
+/// An error of a file, with the file's name.
+fn of<E: Display>(file: &Path, status: u8) -> impl Fn(E) -> Failure + '_ {
+    move |error| (format!("hashtags: {}: {error}", file.display()), status)
+}
+
+fn list(image_file: &Path, text_file: &Path) -> Result<(), Failure> {
+    let bytes = fs::read(image_file).map_err(of(image_file, FAILED))?;
+    let text = fs::read(text_file).map_err(of(text_file, FAILED))?;
+    let image = ImageBuf::check(bytes).map_err(of(image_file, REFUSED))?;
+    let mut lines = Vec::new();
+    for tag in image.as_image().hashtags(&text).map_err(of(text_file, REFUSED))? {
         let (start, end) = (tag.range.start, tag.range.end);
-        println!("{start} {end} {} {}", tag.line, &text[tag.range]);
+        lines.extend(format!("{start} {end} {} ", tag.line).into_bytes());
+        lines.extend(&text[tag.range]);
+        lines.push(b'\n');
     }
-    Ok(())
+    io::stdout().write_all(&lines).map_err(of(Path::new("standard output"), FAILED))
+}
+
+fn main() -> ExitCode {
+    let files: Vec<PathBuf> = env::args_os().skip(1).map(PathBuf::from).collect();
+    let listed = match &files[..] {
+        [image, text] => list(image, text),
+        _ => Err(("usage: hashtags IMAGE TEXT".to_string(), FAILED)),
+    };
+    if let Err((why, status)) = listed {
+        eprintln!("{why}");
+        return ExitCode::from(status);
+    }
+    ExitCode::SUCCESS
 }

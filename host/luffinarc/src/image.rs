@@ -3,6 +3,7 @@
 use crate::calls::{self, Answer, Entries};
 use crate::names::{Class, Role};
 use crate::refusal::{pair_result, result, PairRefusal, Refusal};
+use crate::version::Version;
 use std::fmt;
 
 /// The most ranges that an image may have.
@@ -94,16 +95,25 @@ pub struct Found {
 }
 
 /// An accepted image: bytes that were checked once, and are not checked again by the calls on it.
-#[derive(Clone, Copy, Debug)]
+#[derive(Clone, Copy, PartialEq, Eq, Hash)]
 pub struct Image<'a> {
     // Accepted by the check, and borrowed, so that nothing changes them: the calls on a checked image ask for that.
     bytes: &'a [u8],
 }
 
-/// What an image holds beside its profile.
-struct Contents {
-    version: u32,
-    words: Vec<u32>,
+/// What the check of an image tells beside its profile.
+struct Summary {
+    version: Version,
+    ranges: usize,
+}
+
+/// Checks an image; the profile of an accepted one takes the place of the one given.
+fn checked(bytes: &[u8], profile: &mut Profile) -> Result<Summary, Refusal> {
+    let mut answer = Answer::default();
+    let number = calls::check(bytes, &mut profile.points, &mut profile.roles, &mut answer);
+    let [version, ranges, used, _] = result(number, answer)?;
+    profile.used = used as usize;
+    Ok(Summary { version: Version::from(version as u32), ranges: ranges as usize })
 }
 
 impl<'a> Image<'a> {
@@ -114,9 +124,7 @@ impl<'a> Image<'a> {
     /// [`Refusal::Length`], [`Refusal::Header`], [`Refusal::Range`] or [`Refusal::Entry`], the first that
     /// applies.
     pub fn check(bytes: &'a [u8]) -> Result<Image<'a>, Refusal> {
-        let (mut profile, mut answer) = (Profile::default(), Answer::default());
-        let number = calls::check(bytes, &mut profile.points, &mut profile.roles, &mut answer);
-        result(number, answer).map(|_| Image { bytes })
+        checked(bytes, &mut Profile::default()).map(|_| Image { bytes })
     }
 
     /// The image's bytes.
@@ -124,36 +132,32 @@ impl<'a> Image<'a> {
         self.bytes
     }
 
-    /// Reads the image; its profile takes the place of the one given.
-    fn read(&self, profile: &mut Profile) -> Contents {
-        let mut words = vec![0; RANGE_WORDS * MAX_RANGES];
-        let mut answer = Answer::default();
-        let (points, roles) = (&mut profile.points, &mut profile.roles);
-        let number = calls::read(self.bytes, &mut words, points, roles, &mut answer);
-        assert_eq!(number, 0, "an accepted image is read, and its ranges have room");
-        let [version, ranges, used, _] = answer;
-        words.truncate(RANGE_WORDS * ranges as usize);
-        profile.used = used as usize;
-        Contents { version: version as u32, words }
+    /// What the check tells; the image's profile takes the place of the one given.
+    fn summary(&self, profile: &mut Profile) -> Summary {
+        checked(self.bytes, profile).expect("an accepted image is accepted again")
     }
 
-    /// The version word. As [`profile`](Image::profile) and [`ranges`](Image::ranges), it is read from the bytes when it
-    /// is asked for.
-    pub fn version(&self) -> u32 {
-        self.read(&mut Profile::default()).version
+    /// The version. As [`profile`](Image::profile) and [`ranges`](Image::ranges), it is read from the bytes when it is
+    /// asked for.
+    pub fn version(&self) -> Version {
+        self.summary(&mut Profile::default()).version
     }
 
     /// The profile.
     pub fn profile(&self) -> Profile {
         let mut profile = Profile::default();
-        self.read(&mut profile);
+        self.summary(&mut profile);
         profile
     }
 
     /// The ranges, rising.
     pub fn ranges(&self) -> Vec<Range> {
+        let (mut profile, mut answer) = (Profile::default(), Answer::default());
+        let mut words = vec![0; RANGE_WORDS * self.summary(&mut profile).ranges];
+        let (points, roles) = (&mut profile.points, &mut profile.roles);
+        let number = calls::read(self.bytes, &mut words, points, roles, &mut answer);
+        assert_eq!(number, 0, "an accepted image is read, and its ranges have room");
         let range = |w: &[u32]| Range { first: w[0], last: w[1], class: given_class(w[2]) };
-        let words = self.read(&mut Profile::default()).words;
         words.chunks_exact(RANGE_WORDS).map(range).collect()
     }
 
@@ -176,17 +180,88 @@ impl<'a> Image<'a> {
     }
 }
 
-/// The image of a version, ranges and a profile.
+/// Shows the version and how many ranges and profile entries there are.
+impl fmt::Debug for Image<'_> {
+    fn fmt(&self, f: &mut fmt::Formatter<'_>) -> fmt::Result {
+        let mut profile = Profile::default();
+        let Summary { version, ranges } = self.summary(&mut profile);
+        let mut shown = f.debug_struct("Image");
+        shown.field("version", &format_args!("{version}"));
+        shown.field("ranges", &ranges).field("entries", &profile.used).finish()
+    }
+}
+
+/// An accepted image that owns its bytes.
+///
+/// ```
+/// use luffinarc::{write_image, ImageBuf, Profile, Refusal, Version};
+///
+/// fn load() -> Result<ImageBuf, Refusal> {
+///     let bytes = write_image(Version::new(16, 0, 0), &[], &Profile::default())?;
+///     ImageBuf::check(bytes)
+/// }
+///
+/// let image = load().unwrap();
+/// assert_eq!(image.as_image().count("").unwrap(), 0);
+/// ```
+#[derive(Clone, PartialEq, Eq, Hash)]
+pub struct ImageBuf {
+    // Accepted by the check, and never changed.
+    bytes: Vec<u8>,
+}
+
+impl ImageBuf {
+    /// Checks an image. The bytes of a refused one are dropped: [`Image::check`] only borrows them.
+    ///
+    /// # Errors
+    ///
+    /// Those of [`Image::check`].
+    pub fn check(bytes: Vec<u8>) -> Result<ImageBuf, Refusal> {
+        Image::check(&bytes)?;
+        Ok(ImageBuf { bytes })
+    }
+
+    /// The image, which is not checked again.
+    pub fn as_image(&self) -> Image<'_> {
+        Image { bytes: &self.bytes }
+    }
+
+    /// The image's bytes.
+    pub fn into_bytes(self) -> Vec<u8> {
+        self.bytes
+    }
+}
+
+/// Shows what [`Image`] shows.
+impl fmt::Debug for ImageBuf {
+    fn fmt(&self, f: &mut fmt::Formatter<'_>) -> fmt::Result {
+        f.debug_tuple("ImageBuf").field(&self.as_image()).finish()
+    }
+}
+
+/// Copies the image's bytes.
+impl From<Image<'_>> for ImageBuf {
+    fn from(image: Image<'_>) -> ImageBuf {
+        ImageBuf { bytes: image.bytes.to_vec() }
+    }
+}
+
+/// The image of a version, ranges and a profile. A version may be given as its word.
 ///
 /// # Errors
 ///
 /// [`Refusal::Header`] for too many ranges or entries, [`Refusal::Range`] or [`Refusal::Entry`] for a bad one.
-pub fn write_image(version: u32, ranges: &[Range], profile: &Profile) -> Result<Vec<u8>, Refusal> {
+pub fn write_image(
+    version: impl Into<Version>,
+    ranges: &[Range],
+    profile: &Profile,
+) -> Result<Vec<u8>, Refusal> {
     let word = |range: &Range| [range.first, range.last, range.class.number()];
     let words: Vec<u32> = ranges.iter().flat_map(word).collect();
     let mut out = vec![0; MAX_IMAGE];
     let mut answer = Answer::default();
     let (points, roles) = (&profile.points, &profile.roles);
+    let version = version.into().word();
     let number = calls::write(version, &words, points, roles, profile.used, &mut out, &mut answer);
     let [length, _, _, _] = result(number, answer)?;
     out.truncate(length as usize);

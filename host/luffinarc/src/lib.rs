@@ -8,7 +8,7 @@
 //! once, and the calls on it do not check it again.
 //!
 //! ```
-//! use luffinarc::{write_image, Class, Image, Kind, Profile, Range, Refusal, Role};
+//! use luffinarc::{write_image, Class, Image, Kind, Profile, Range, Refusal, Role, Version};
 //!
 //! fn main() -> Result<(), Refusal> {
 //!     let range = |first: char, last: char, class| Range { first: first.into(), last: last.into(), class };
@@ -21,7 +21,7 @@
 //!     ];
 //!     // A full stop between letters or digits is part of the identifier.
 //!     let profile = Profile::new(&[('.'.into(), Role::Medial)]);
-//!     let bytes = write_image(1_048_576, &ranges, &profile)?;
+//!     let bytes = write_image(Version::new(16, 0, 0), &ranges, &profile)?;
 //!
 //!     let image = Image::check(&bytes)?;
 //!     assert_eq!(image.class('7'), Class::Nonstart);
@@ -47,6 +47,7 @@ mod names;
 mod record;
 mod refusal;
 mod token;
+mod version;
 
 pub use changes::{
     list_changes, ChangedEntry, Changes, Run, CHANGED_ENTRY_WORDS, MAX_CHANGED_ENTRIES, MAX_RUNS,
@@ -54,10 +55,11 @@ pub use changes::{
 };
 pub use hashtag::{Hashtag, HASHTAG_KIND};
 pub use image::{
-    check_pair, write_image, Found, Image, Profile, Range, MAX_ENTRIES, MAX_IMAGE, MAX_RANGES,
-    RANGE_WORDS,
+    check_pair, write_image, Found, Image, ImageBuf, Profile, Range, MAX_ENTRIES, MAX_IMAGE,
+    MAX_RANGES, RANGE_WORDS,
 };
 pub use names::{Class, Kind, Role};
 pub use record::RECORD_WORDS;
 pub use refusal::{PairRefusal, Refusal};
 pub use token::{part, Taken, Token, Tokens, MAX_TEXT};
+pub use version::{NoVersion, Version};

@@ -1,5 +1,7 @@
 //! The classes, roles and kinds by name, with their numbers.
 
+use std::fmt;
+
 /// The class of a code point.
 #[derive(Clone, Copy, Debug, PartialEq, Eq, Hash)]
 pub enum Class {
@@ -35,6 +37,25 @@ impl Class {
     pub fn number(self) -> u32 {
         self as u32
     }
+
+    /// The name.
+    pub fn name(self) -> &'static str {
+        match self {
+            Class::Unassigned => "Unassigned",
+            Class::Start => "Start",
+            Class::Nonstart => "Nonstart",
+            Class::Syntax => "Syntax",
+            Class::White => "White",
+            Class::Other => "Other",
+        }
+    }
+}
+
+/// Shows the name.
+impl fmt::Display for Class {
+    fn fmt(&self, f: &mut fmt::Formatter<'_>) -> fmt::Result {
+        f.pad(self.name())
+    }
 }
 
 /// The role of a code point in a profile.
@@ -68,6 +89,24 @@ impl Role {
     /// The role's number.
     pub fn number(self) -> u32 {
         self as u32
+    }
+
+    /// The name.
+    pub fn name(self) -> &'static str {
+        match self {
+            Role::Start => "Start",
+            Role::Nonstart => "Nonstart",
+            Role::Medial => "Medial",
+            Role::Other => "Other",
+            Role::Hashtag => "Hashtag",
+        }
+    }
+}
+
+/// Shows the name.
+impl fmt::Display for Role {
+    fn fmt(&self, f: &mut fmt::Formatter<'_>) -> fmt::Result {
+        f.pad(self.name())
     }
 }
 
@@ -103,5 +142,23 @@ impl Kind {
     /// The kind's number.
     pub fn number(self) -> u32 {
         self as u32
+    }
+
+    /// The name.
+    pub fn name(self) -> &'static str {
+        match self {
+            Kind::Identifier => "Identifier",
+            Kind::Syntax => "Syntax",
+            Kind::Blank => "Blank",
+            Kind::LineEnd => "LineEnd",
+            Kind::Mark => "Mark",
+        }
+    }
+}
+
+/// Shows the name.
+impl fmt::Display for Kind {
+    fn fmt(&self, f: &mut fmt::Formatter<'_>) -> fmt::Result {
+        f.pad(self.name())
     }
 }

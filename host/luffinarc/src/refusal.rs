@@ -122,6 +122,47 @@ impl Refusal {
         self.row().0
     }
 
+    /// The refusal's name, without what it carries: `IllFormed`. In C it is what `luffinarc_refusal_name` gives.
+    pub fn name(&self) -> &'static str {
+        match self {
+            Refusal::Length => "Length",
+            Refusal::Header => "Header",
+            Refusal::Range { .. } => "Range",
+            Refusal::Entry { .. } => "Entry",
+            Refusal::TextLength => "TextLength",
+            Refusal::IllFormed { .. } => "IllFormed",
+            Refusal::Characters { .. } => "Characters",
+            Refusal::Room { .. } => "Room",
+            Refusal::NotScalar { .. } => "NotScalar",
+            Refusal::Change { .. } => "Change",
+            Refusal::Profiles => "Profiles",
+            Refusal::Buffer { .. } => "Buffer",
+            Refusal::Shape => "Shape",
+            Refusal::Mark { .. } => "Mark",
+        }
+    }
+
+    /// What the refusal says, without what it carries: `range 7 is bad`, as it is displayed, is `a range is bad` here.
+    /// In C it is what `luffinarc_refusal_text` gives.
+    pub fn text(&self) -> &'static str {
+        match self {
+            Refusal::Length => "the image has a wrong length",
+            Refusal::Header => "the image's header is wrong or a count is too large",
+            Refusal::Range { .. } => "a range is bad",
+            Refusal::Entry { .. } => "a profile entry is bad",
+            Refusal::TextLength => "the text is too long",
+            Refusal::IllFormed { .. } => "ill-formed UTF-8",
+            Refusal::Characters { .. } => "no token begins here",
+            Refusal::Room { .. } => "more room is needed",
+            Refusal::NotScalar { .. } => "the number is no scalar value",
+            Refusal::Change { .. } => "a code point has a class that it may not change to",
+            Refusal::Profiles => "the images have unequal profiles",
+            Refusal::Buffer { .. } => "a larger buffer is needed",
+            Refusal::Shape => "a list, a place or a start does not fit",
+            Refusal::Mark { .. } => "a direction mark parts a token",
+        }
+    }
+
     /// The numbers that the refusal carries: place and length of [`Refusal::IllFormed`], one number or none of others.
     pub fn carried(&self) -> impl Iterator<Item = u64> {
         let second = match *self {
@@ -132,14 +173,12 @@ impl Refusal {
     }
 }
 
+/// Shows what the refusal says, with what it carries.
 impl fmt::Display for Refusal {
     fn fmt(&self, f: &mut fmt::Formatter<'_>) -> fmt::Result {
         match self {
-            Refusal::Length => write!(f, "the image has a wrong length"),
-            Refusal::Header => write!(f, "the image's header is wrong or a count is too large"),
             Refusal::Range { index } => write!(f, "range {index} is bad"),
             Refusal::Entry { index } => write!(f, "profile entry {index} is bad"),
-            Refusal::TextLength => write!(f, "the text is too long"),
             Refusal::IllFormed { place, len } => {
                 write!(f, "ill-formed UTF-8 at byte {place}, length {len}")
             }
@@ -149,12 +188,15 @@ impl fmt::Display for Refusal {
             Refusal::Change { code_point } => {
                 write!(f, "U+{code_point:04X} has a class that it may not change to")
             }
-            Refusal::Profiles => write!(f, "the images have unequal profiles"),
             Refusal::Buffer { needed } => write!(f, "a buffer of {needed} bytes is needed"),
-            Refusal::Shape => write!(f, "a list, a place or a start does not fit"),
             Refusal::Mark { place } => {
                 write!(f, "the direction mark at byte {place} parts a token")
             }
+            Refusal::Length
+            | Refusal::Header
+            | Refusal::TextLength
+            | Refusal::Profiles
+            | Refusal::Shape => f.write_str(self.text()),
         }
     }
 }

@@ -1,6 +1,7 @@
 //! From sets of code points to the ranges of an image.
 
-use crate::ucd::{Sets, Span};
+use crate::span::Span;
+use crate::ucd::Sets;
 use luffinarc::{Class, Range};
 
 const XID_START: u8 = 1;

@@ -232,7 +232,7 @@ fn tagged(image: &[u8], text: &[u8], words: &[u32]) {
         assert!(inside.clone().count() > 0 && inside.all(continues));
         assert!(!text[end..].chars().next().map_or(false, continues));
         // No sign stands between CR and LF.
-        line += line_ends(text[from..start].as_bytes());
+        line += line_ends(&text.as_bytes()[from..start]);
         from = start;
         assert_eq!(tag[3], line);
         starts.push(start);

@@ -52,7 +52,7 @@ impl Region {
 
 thread_local! {
     /// The regions that no slice uses.
-    static REGIONS: RefCell<Vec<Region>> = RefCell::new(Vec::new());
+    static REGIONS: RefCell<Vec<Region>> = const { RefCell::new(Vec::new()) };
 }
 
 /// A copy of a slice of numbers, at the end of a region.

@@ -29,7 +29,8 @@ pub fn named(refusal: luffinarc::Refusal) -> Refusal {
 
 /// Writes a line past the test harness, so that it is always seen.
 pub fn say(line: &str) {
-    writeln!(std::io::stdout(), "{line}").unwrap();
+    let mut out = std::io::stdout();
+    writeln!(out, "{line}").unwrap();
 }
 
 /// The bytes of a file of the data folder.

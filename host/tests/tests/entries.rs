@@ -409,11 +409,12 @@ fn front(bytes: &[u8]) -> Option<&[u8]> {
     bytes.get(..word(bytes, 8) as usize)
 }
 
-/// Every image that was stored before is read and written again byte for byte.
+/// Every stored image that readers took before is read and written again byte for byte.
 #[test]
 fn images_of_before() {
-    let names = ["m", "m2", "unicode-14.0", "unicode-15.0", "unicode-16.0", "unicode-17.0"];
-    let stored = names.map(|name| data(&format!("images/{name}.img")));
+    let unicode = ["unicode-14.0", "unicode-15.0", "unicode-16.0", "unicode-17.0"];
+    let names = [&["m", "m2", "scripts-16.0", "scripts-17.0"][..], &unicode].concat();
+    let stored: Vec<_> = names.iter().map(|name| data(&format!("images/{name}.img"))).collect();
     let folder = concat!(env!("CARGO_MANIFEST_DIR"), "/../data/images");
     assert_eq!(std::fs::read_dir(folder).unwrap().count(), names.len());
     let in_vectors = vectors::all_bytes(32);

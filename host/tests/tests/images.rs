@@ -107,7 +107,7 @@ fn accepted_images() {
         let made = valid_image(&mut rng);
         let bytes = image_of(&made);
         let image = Image::check(&bytes).unwrap();
-        assert_eq!(image.version(), made.version);
+        assert_eq!(image.version().word(), made.version);
         let profile = image.profile();
         let entries = profile.entries().map(|(point, role)| (point, role.number()));
         assert!(entries.eq(made.profile.entries()));

@@ -1,4 +1,5 @@
-//! Names and numbers are the same in the C header, the Rust crate, the reader and Rattle.
+//! Names and numbers are the same in the C header, the Rust crate, the reader and Rattle; so are the texts of refusals and
+//! the version of the library in C and Rust.
 
 use luffinarc::{Class, Kind, Refusal, Role, HASHTAG_KIND};
 use luffinarc_reader::{changes, class, image, kind, record, role, token};
@@ -6,6 +7,7 @@ use std::fmt::Debug;
 
 const HEADER: &str = include_str!("../../include/luffinarc.h");
 const RATTLE: &str = include_str!("../../../crates/refusal/src/lib.rt");
+const MANIFEST: &str = include_str!("../../luffinarc/Cargo.toml");
 
 /// The number of a name in the C header, as `#define NAME NUMBER` or `NAME = NUMBER`.
 fn in_c(name: &str) -> u32 {
@@ -46,9 +48,20 @@ fn constant(of: &str, name: &str) -> u32 {
     source.lines().find_map(number).unwrap_or_else(|| panic!("no {name} in {of} of Rattle"))
 }
 
-#[test]
-fn refusals() {
-    let all = [
+/// What a function of the C header returns, by what stands after `case`, and after `default` at the end.
+fn cases_in_c(function: &str) -> Vec<(&'static str, &'static str)> {
+    let start = HEADER.find(&format!(" *{function}(")).expect("it is there");
+    let body = HEADER[start..].split("\n}").next().unwrap();
+    let case = |line: &'static str| {
+        let (label, value) = line.trim().split_once(": return \"")?;
+        Some((label.strip_prefix("case ").unwrap_or(label), value.strip_suffix("\";")?))
+    };
+    body.lines().filter_map(case).collect()
+}
+
+/// Every refusal; those that carry something carry 7, and 2.
+fn all_refusals() -> [Refusal; 14] {
+    [
         Refusal::Length,
         Refusal::Header,
         Refusal::Range { index: 7 },
@@ -63,9 +76,13 @@ fn refusals() {
         Refusal::Buffer { needed: 7 },
         Refusal::Shape,
         Refusal::Mark { place: 7 },
-    ];
-    for (refusal, number) in all.into_iter().zip(1..) {
-        assert_eq!(refusal.number(), number);
+    ]
+}
+
+#[test]
+fn refusals() {
+    for (refusal, number) in all_refusals().into_iter().zip(1..) {
+        assert_eq!((refusal.number(), refusal.name()), (number, name(refusal).as_str()));
         let of_reader = luffinarc_reader::Refusal::named(number, [7, 2]).unwrap();
         assert_eq!((name(of_reader), of_reader.number()), (name(refusal), number));
         assert!(refusal.carried().eq(of_reader.carried()));
@@ -78,6 +95,61 @@ fn refusals() {
     assert_eq!(luffinarc_reader::Refusal::named(15, [7, 2]), None);
     in_rattle("carried", "Refusal::IllFormed { place, len: _ } => place,");
     in_rattle("carried_second", "Refusal::IllFormed { place: _, len } => len,");
+}
+
+/// The names and the texts of results in C are those of Rust's refusals, and three more.
+#[test]
+fn names_and_texts_in_c() {
+    let of_rust = |first, value: fn(&Refusal) -> &'static str, done, none| {
+        let of_refusal =
+            |refusal: &Refusal| (format!("LUFFINARC_{}", c_name(refusal)), value(refusal));
+        let mut cases = vec![("0".to_string(), first)];
+        cases.extend(all_refusals().iter().map(of_refusal));
+        cases.extend([("LUFFINARC_DONE".to_string(), done), ("default".to_string(), none)]);
+        cases
+    };
+    let of_c = |function| {
+        let cases = cases_in_c(function).into_iter();
+        cases.map(|(label, value)| (label.to_string(), value)).collect::<Vec<_>>()
+    };
+    let names = of_rust("none", Refusal::name, "Done", "unknown");
+    assert_eq!(of_c("luffinarc_refusal_name"), names);
+    let (first, done) = ("no refusal", "the place is the text's end");
+    let texts = of_rust(first, Refusal::text, done, "no result has this number");
+    assert_eq!(of_c("luffinarc_refusal_text"), texts);
+}
+
+/// A refusal is displayed as its text, with what it carries put in.
+#[test]
+fn texts_and_what_is_carried() {
+    for refusal in all_refusals() {
+        let (general, carried) = match refusal {
+            Refusal::Range { .. } => ("a range", "range 7"),
+            Refusal::Entry { .. } => ("a profile entry", "profile entry 7"),
+            Refusal::IllFormed { .. } => ("UTF-8", "UTF-8 at byte 7, length 2"),
+            Refusal::Characters { .. } => ("here", "at byte 7"),
+            Refusal::Room { .. } => ("more room", "room for 7 records"),
+            Refusal::NotScalar { .. } => ("the number", "7 hex"),
+            Refusal::Change { .. } => ("a code point", "U+0007"),
+            Refusal::Buffer { .. } => ("a larger buffer", "a buffer of 7 bytes"),
+            Refusal::Mark { .. } => ("a direction mark", "the direction mark at byte 7"),
+            _ => ("", ""),
+        };
+        assert_eq!(refusal.carried().count() > 0, !general.is_empty(), "{refusal:?}");
+        assert!(refusal.text().contains(general), "{refusal:?}");
+        assert_eq!(refusal.text().replacen(general, carried, 1), refusal.to_string());
+    }
+}
+
+/// The version of the library in the header, and of its crates.
+#[test]
+fn version_of_the_library() {
+    let of_crate = |line: &'static str| line.strip_prefix("version = \"")?.strip_suffix('"');
+    let version = MANIFEST.lines().find_map(of_crate).expect("a crate has a version");
+    assert_eq!(version, env!("CARGO_PKG_VERSION"));
+    assert!(HEADER.contains(&format!("\n#define LUFFINARC_VERSION \"{version}\"\n")));
+    let part = |name| in_c(&format!("LUFFINARC_VERSION_{name}")).to_string();
+    assert_eq!(["MAJOR", "MINOR", "PATCH"].map(part).join("."), version);
 }
 
 /// The numbers of a variant in C, Rust and the reader.
@@ -99,6 +171,7 @@ fn classes_and_roles() {
     for (class, of_reader) in classes {
         same("CLASS", class, class.number(), of_reader);
         assert_eq!(Class::from_number(class.number()), Some(class));
+        assert_eq!((class.name(), class.to_string()), (name(class).as_str(), name(class)));
     }
     let roles = [
         (Role::Start, role::START),
@@ -110,6 +183,7 @@ fn classes_and_roles() {
     for (role, of_reader) in roles {
         same("ROLE", role, role.number(), of_reader);
         assert_eq!(Role::from_number(role.number()), Some(role));
+        assert_eq!((role.name(), role.to_string()), (name(role).as_str(), name(role)));
     }
     assert_eq!((Class::from_number(6), Role::from_number(6)), (None, None));
     assert_eq!(Role::from_number(0), None);
@@ -127,6 +201,7 @@ fn kinds() {
     for (kind, of_reader) in kinds {
         same("KIND", kind, kind.number(), of_reader);
         assert_eq!(Kind::from_number(kind.number()), Some(kind));
+        assert_eq!((kind.name(), kind.to_string()), (name(kind).as_str(), name(kind)));
     }
     assert_eq!((Kind::from_number(0), Kind::from_number(6)), (None, None));
 }

@@ -6,15 +6,10 @@ use luffinarc_reader::image::{parse, parse_within};
 use luffinarc_reader::{Calls, Reader};
 use luffinarc_tests::{data, say, Library};
 
-/// The profile's entries: lines of a code point and a role, and comments.
+/// The profile's entries.
 fn entries() -> Vec<(u32, Role)> {
-    let file = String::from_utf8(data("profiles/thai-tibetan.profile")).unwrap();
-    let entry = |line: &str| {
-        let (point, role) = line.split_once(' ').unwrap();
-        let role = Role::from_number(role.parse().unwrap()).unwrap();
-        (u32::from_str_radix(point, 16).unwrap(), role)
-    };
-    file.lines().filter(|line| !line.starts_with('#')).map(entry).collect()
+    let file = concat!(env!("CARGO_MANIFEST_DIR"), "/../data/profiles/thai-tibetan.profile");
+    luffinarc_maker::read_profile(file.as_ref()).unwrap()
 }
 
 /// The image of Unicode 16.0 with the profile.

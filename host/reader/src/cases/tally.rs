@@ -31,7 +31,9 @@ impl Tally {
     /// Prints the counts and demands these answers and no others.
     pub fn close(&self, call: &str, answers: &str) {
         let counts: Vec<String> = self.0.iter().map(|(name, n)| format!("{name}: {n}")).collect();
-        writeln!(std::io::stdout(), "cases {call}: {}", counts.join(", ")).unwrap();
+        // Written past the test harness, so that it is always seen.
+        let mut out = std::io::stdout();
+        writeln!(out, "cases {call}: {}", counts.join(", ")).unwrap();
         let mut wanted: Vec<&str> = answers.split(',').collect();
         wanted.sort();
         assert_eq!(self.0.keys().map(String::as_str).collect::<Vec<_>>(), wanted, "{call}");
