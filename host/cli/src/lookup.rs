@@ -1,9 +1,10 @@
 //! `luffinarc lookup`: the class of characters.
 
+use crate::advice::role_of;
 use crate::arguments::Arguments;
 use crate::console::{Console, Stop};
 use crate::input;
-use crate::refusal::{named, role_of, Report};
+use crate::refusal::{named, Report};
 use luffinarc::Image;
 use std::ffi::OsString;
 use std::io::Write;

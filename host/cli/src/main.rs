@@ -1,5 +1,6 @@
 //! The command `luffinarc`: tokens, hashtags and class images at the bench.
 
+mod advice;
 mod appearance;
 mod arguments;
 mod changes;
