@@ -1,6 +1,6 @@
 //! What can be done about a refused text, where that is known.
 
-use crate::appearance::is_hidden;
+use crate::appearance::{is_digit, is_hidden};
 use crate::place;
 use crate::text::{code_point, is_noncharacter};
 use luffinarc::{Class, Image, Role};
@@ -18,8 +18,17 @@ pub fn marks_at(
     let marks: Vec<char> =
         place::well_formed_front(&text[byte..]).chars().take_while(is_mark).collect();
     let length: usize = marks.iter().map(|c| c.len_utf8()).sum();
-    let one = "without it this would be one token: take it out, or put a blank beside it";
-    let more = "without them this would be one token: take them out, or put a blank beside them";
+    let (one, more) = if has_blanks(image) {
+        (
+            "without it this would be one token: take it out, or put a blank beside it",
+            "without them this would be one token: take them out, or put a blank beside them",
+        )
+    } else {
+        (
+            "without it this would be one token: take it out",
+            "without them this would be one token: take them out",
+        )
+    };
     let (label, help) = match marks[..] {
         ['\u{200E}'] => ("U+200E, of class White, parts it", one),
         ['\u{200F}'] => ("U+200F, of class White, parts it", one),
@@ -33,12 +42,17 @@ pub fn role_of(image: &Image, number: u32) -> Option<Role> {
     image.profile().entries().find(|entry| entry.0 == number).map(|entry| entry.1)
 }
 
+/// Whether a blank is White in the image, as it should be: only then it helps.
+fn has_blanks(image: &Image) -> bool {
+    image.class(' ') == Class::White
+}
+
 /// What can be done about a character that can't be seen, if it is one.
-fn about_hidden(c: char, byte: usize) -> Option<&'static str> {
+fn about_hidden(image: &Image, c: char, byte: usize) -> Option<&'static str> {
     match c {
         '\u{FEFF}' if byte == 0 => Some("a byte order mark: store the file without it"),
         '\0' => Some("a null character: store the file as UTF-8, if it is UTF-16"),
-        c if c.is_whitespace() => {
+        c if c.is_whitespace() && !place::ends_line(c) && has_blanks(image) => {
             Some("it looks like a blank, and is none in this image: type U+0020")
         }
         c if is_hidden(c) => Some("it can't be seen: take it out"),
@@ -57,28 +71,26 @@ fn profile_line(c: char) -> String {
 
 /// What can be done where no token begins with a character.
 pub fn about_character(image: &Image, c: char, byte: usize) -> String {
-    let (role, profile) = (role_of(image, c.into()), profile_line(c));
-    match image.class(c) {
+    let (class, role, profile) = (image.class(c), role_of(image, c.into()), profile_line(c));
+    match (class, about_hidden(image, c, byte)) {
         _ if role == Some(Role::Medial) => {
             "a medial stands inside an identifier, with one that may continue it on each side"
                 .to_string()
         }
         _ if role == Some(Role::Other) => "the image's profile makes it Other".to_string(),
-        Class::Unassigned if is_noncharacter(c.into()) => {
+        (Class::Unassigned, _) if is_noncharacter(c.into()) => {
             "a noncharacter: no version of Unicode will assign it".to_string()
         }
-        Class::Unassigned => {
+        (Class::Unassigned, _) => {
             let version = image.version();
             format!("Unassigned in the image of version {version}: a newer image may have it")
         }
-        Class::Nonstart if c.is_numeric() => {
+        (_, Some(help)) => help.to_string(),
+        (Class::Nonstart, _) if is_digit(c) => {
             format!("a digit can't begin an identifier in this image: {profile}")
         }
-        Class::Nonstart => format!("it may continue an identifier, not begin one: {profile}"),
-        _ => match about_hidden(c, byte) {
-            Some(help) => help.to_string(),
-            None => format!("it is in no token of this image: {profile}"),
-        },
+        (Class::Nonstart, _) => format!("it may continue an identifier, not begin one: {profile}"),
+        _ => format!("it is in no token of this image: {profile}"),
     }
 }
 

@@ -43,7 +43,7 @@ impl Arguments {
             if shown == "--" {
                 read.names.extend(args.by_ref());
             } else if shown == "-h" {
-                read.options.push(("--help", OsString::new()));
+                read.option(OsStr::new("--help"), &mut args, known)?;
             } else if shown.starts_with("--") {
                 read.option(&arg, &mut args, known)?;
             } else if shown.starts_with('-') && shown != "-" {

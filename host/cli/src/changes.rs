@@ -47,8 +47,11 @@ impl Names {
 
     /// The page doesn't take the place of an image.
     fn keep_images(&self) -> Result<(), String> {
-        let place = |name: &OsStr| canonicalize(name).ok();
-        let page = self.page.as_deref().and_then(place);
+        let place = |name: &OsStr| {
+            let file = if name == "-" { OsStr::new("/dev/stdin") } else { name };
+            canonicalize(file).ok()
+        };
+        let page = self.page.as_deref().and_then(|page| canonicalize(page).ok());
         let is_page = |name: &&OsString| page.is_some() && place(name) == page;
         match [&self.older, &self.newer].into_iter().find(is_page) {
             Some(name) => Err(format!("--html: {} is an image of the two", name.to_string_lossy())),

@@ -1,6 +1,6 @@
 //! What is wrong with an image that is refused, in words.
 
-use crate::text::{code_point, thousands};
+use crate::text::{code_point, counted, thousands};
 use luffinarc::{Class, Refusal, Role, MAX_ENTRIES, MAX_IMAGE, MAX_RANGES};
 
 /// The bytes of a header, of a range and of an entry.
@@ -20,15 +20,15 @@ fn count(number: u32) -> String {
 
 /// Why the length is wrong.
 fn of_length(bytes: &[u8]) -> String {
-    let length = thousands(bytes.len());
+    let length = counted(bytes.len(), "byte", "bytes");
     match word(bytes, 8) {
         _ if bytes.len() > MAX_IMAGE => {
             format!("the file has more than {} bytes, the most of an image", thousands(MAX_IMAGE))
         }
         Some(total) if bytes.len() >= HEADER => {
-            format!("the file has {length} bytes, and its header says {}", count(total))
+            format!("the file has {length}, and its header says {}", count(total))
         }
-        _ => format!("the file has {length} bytes, and an image has {HEADER} at least"),
+        _ => format!("the file has {length}, and an image has {HEADER} at least"),
     }
 }
 

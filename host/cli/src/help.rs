@@ -14,7 +14,7 @@ usage: luffinarc COMMAND [ARGUMENT..]
   make                             an image from the files of the Unicode Character Database
   help [COMMAND]                   this text, or that of a command
 
-A text or an image named - is standard input. Every command knows --help and --color auto|always|never.
+A text or an image named - is standard input. Every command but help knows --help and --color auto|always|never.
 
 exit status: 0 accepted; 1 a text, an image, a pair of images or a number is refused; 2 wrong use, an unreadable
 file or a failed write
@@ -29,7 +29,8 @@ usage: luffinarc tokens [--records | --json] IMAGE [FILE..]
 
   --records   the numbers of the library: kind, first byte, one past the last byte, line
   --json      an object for each token, a line each: file, line, column, kind, start, end, text; of a refused text
-              an object with file, refusal (number, name, meaning, carried), line, column, label and notes
+              an object with file, refusal (number, name, meaning, carried), notes and, where it has a place, line,
+              column and label
 
 Kinds: identifier (1), syntax (2), blank (3), lineend (4), mark (5).
 Without a file, standard input is read.
@@ -64,7 +65,7 @@ usage: luffinarc changes [--json] [--html FILE] OLDER NEWER
 
   --json        all of this in one object: older and newer (file, version, ranges, entries); runs (first, last,
                 first_hex, last_hex, code_points, older, newer, permitted); entries (code_point, hex, older, newer);
-                summary (older, newer, runs, code_points, permitted); may_follow; refusal (number, meaning, carried).
+                summary (older, newer, runs, code_points, permitted); may_follow; refusal (number, name, meaning, carried).
                 first, last and code_point are numbers, the hex ones texts as \"U+0041\"; older and newer are names
                 of classes or roles, null for no role; refusal is null if the newer may follow
   --html FILE   also a page for a browser, with a picture of the code space; it stands alone
@@ -75,7 +76,7 @@ Prints the class of characters after the profile, and the role of those that the
 
 usage: luffinarc lookup IMAGE CHARACTER|U+HEX..
 
-U+ may be u+. Of an argument that does not begin so, each character is looked up.
+U+ may be u+. Of any other argument each character is looked up.
 ";
 
 const SHOW: &str = "\

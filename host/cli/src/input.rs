@@ -32,10 +32,10 @@ fn read_name(name: &OsStr) -> String {
     }
 }
 
-/// The value of an option is the name of a file to write.
+/// The value of an option is the name of a file or a folder, not standard input or output.
 pub fn is_file_name(option: &str, name: &OsStr) -> Result<(), String> {
     if name.is_empty() || name == "-" {
-        Err(format!("{option}: the name of a file is needed"))
+        Err(format!("{option}: a name is needed"))
     } else {
         Ok(())
     }

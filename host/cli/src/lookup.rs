@@ -14,7 +14,7 @@ fn numbers(argument: &OsString) -> Result<Vec<u32>, String> {
     let shown = argument.to_str().ok_or(format!("{}: not UTF-8", argument.to_string_lossy()))?;
     let digits = shown.strip_prefix("U+").or_else(|| shown.strip_prefix("u+"));
     match digits {
-        Some(digits) if !digits.is_empty() => {
+        Some(digits) => {
             let is_hex = digits.bytes().all(|byte| byte.is_ascii_hexdigit());
             let number = u32::from_str_radix(digits, 16).ok().filter(|_| is_hex);
             Ok(vec![number.ok_or(format!("{shown}: not U+ and a hexadecimal number of 32 bits"))?])

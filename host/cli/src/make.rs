@@ -32,7 +32,10 @@ pub fn run(mut arguments: Arguments, console: &mut Console) -> Result<(), Stop> 
         profile: arguments.value("--profile").map(Into::into),
         out: needed(&arguments, "--out")?.into(),
     };
-    is_file_name("--out", options.out.as_os_str()).map_err(|m| crate::wrong("make", &m))?;
+    for name in ["--folder", "--profile", "--out"] {
+        let given = arguments.value(name).map_or(Ok(()), |value| is_file_name(name, value));
+        given.map_err(|message| crate::wrong("make", &message))?;
+    }
     check_out(&options).map_err(|m| crate::wrong("make", &format!("--out: {m}")))?;
     let bytes = make(&options)?;
     let out = visible(&options.out.to_string_lossy());

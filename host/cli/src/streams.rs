@@ -12,22 +12,26 @@ extern "C" {
     fn fcntl(file: i32, command: i32, ...) -> i32;
 }
 
-/// Numbers of Linux: the command that gets an open file's flags, their part that tells the direction, an error.
+/// Numbers of Linux: the command that gets an open file's flags; of these the directions, and one of a file that is only
+/// named; an error.
 const GET_FLAGS: i32 = 3;
 const DIRECTION: i32 = 3;
 const READ_ONLY: i32 = 0;
 const WRITE_ONLY: i32 = 1;
+const READ_AND_WRITE: i32 = 2;
+const ONLY_NAMED: i32 = 0o10000000;
 const BAD_FILE: i32 = 9;
 
 /// Asks whether standard input can be read and standard output be written.
 extern "C" fn ask() {
-    let is = |file: i32, direction: i32| {
+    let is_open = |file: i32, direction: i32| {
         // Safety: this command takes any number, and nothing more.
         let flags = unsafe { fcntl(file, GET_FLAGS) };
-        flags < 0 || flags & DIRECTION == direction
+        let goes = [direction, READ_AND_WRITE].contains(&(flags & DIRECTION));
+        flags >= 0 && flags & ONLY_NAMED == 0 && goes
     };
-    NO_INPUT.store(is(0, WRITE_ONLY), Ordering::Relaxed);
-    NO_OUTPUT.store(is(1, READ_ONLY), Ordering::Relaxed);
+    NO_INPUT.store(!is_open(0, READ_ONLY), Ordering::Relaxed);
+    NO_OUTPUT.store(!is_open(1, WRITE_ONLY), Ordering::Relaxed);
 }
 
 /// Runs before Rust's own start.

@@ -32,6 +32,12 @@ fn run(room: &Path, args: &[impl AsRef<OsStr>]) -> (i32, String, String) {
     (run.status, run.out, run.err)
 }
 
+/// The same with this standard input.
+fn run_on(room: &Path, args: &[&str], input: &[u8]) -> (i32, String, String) {
+    let run = run_command(&mut command(room, args), input);
+    (run.status, run.out, run.err)
+}
+
 /// A folder with copies of images under short names.
 fn with_images(name: &str, images: &[&str]) -> PathBuf {
     let room = room(name);
@@ -495,6 +501,25 @@ fn json_and_page() {
     html::read(&fs::read_to_string(room.join("p.html")).unwrap());
 }
 
+/// The page takes the place of no image, also where that is standard input.
+#[test]
+fn page_over_an_image() {
+    let room = with_images("over", &["m.img", "m2.img"]);
+    let before = fs::read(room.join("m.img")).unwrap();
+    let told = |args: &[&str]| {
+        let mut command = command(&room, args);
+        let run = command.stdin(fs::File::open(room.join("m.img")).unwrap()).output().unwrap();
+        assert_eq!(run.status.code(), Some(2));
+        assert_eq!(fs::read(room.join("m.img")).unwrap(), before);
+        String::from_utf8(run.stderr).unwrap()
+    };
+    assert!(told(&["--html", "m.img", "m.img", "m2.img"]).contains("m.img is an image of the two"));
+    assert!(told(&["--html", "m.img", "-", "m2.img"]).contains("- is an image of the two"));
+    fs::write(room.join("-"), "").unwrap();
+    let (status, _, stderr) = run_on(&room, &["--html", "./-", "-", "m2.img"], &before);
+    assert_eq!((status, stderr.as_str()), (0, ""));
+}
+
 /// A refused image is told with its file; nothing is printed, and no page is written.
 #[test]
 fn refused_images() {
@@ -534,8 +559,8 @@ fn wrong_use() {
         (&["m.img"], "the newer image's name is missing"),
         (&["m.img", "m2.img", "x"], "x: one name too many"),
         (&["-", "-"], "standard input can't be both images"),
-        (&["--html", "", "m.img", "m2.img"], "--html: the name of a file is needed"),
-        (&["--html=-", "m.img", "m2.img"], "--html: the name of a file is needed"),
+        (&["--html", "", "m.img", "m2.img"], "--html: a name is needed"),
+        (&["--html=-", "m.img", "m2.img"], "--html: a name is needed"),
         (&["--html", "./m2.img", "m.img", "m2.img"], "--html: m2.img is an image of the two"),
     ];
     let unread: [(&[&str], &str); 2] = [

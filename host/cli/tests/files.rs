@@ -277,6 +277,20 @@ fn closed_streams() {
     assert_eq!(told("check $1 - >/dev/null"), (0, String::new()));
 }
 
+/// A file that was opened only to be named can't be read (O_PATH of Linux).
+#[cfg(target_os = "linux")]
+#[test]
+fn an_input_that_is_only_named() {
+    use std::os::unix::fs::OpenOptionsExt;
+    let image = image("unicode-16.0");
+    let only_named =
+        fs::OpenOptions::new().read(true).custom_flags(0o10000000).open(&image).unwrap();
+    let mut command = command();
+    let output = command.args(["check", &image, "-"]).stdin(only_named).output().unwrap();
+    assert_eq!(output.status.code(), Some(2));
+    assert_eq!(output.stderr, b"luffinarc: <stdin>: Bad file descriptor\n");
+}
+
 /// A hostile name makes no second line and no escape sequence.
 #[test]
 fn names_that_cannot_be_seen() {
@@ -354,7 +368,7 @@ fn lookup() {
         run(&["lookup", &image, ""]),
         &format!("lookup: an empty argument names no character {help}"),
     );
-    for bad in ["U+100000000", "U+xyz", "U++1"] {
+    for bad in ["U+100000000", "U+xyz", "U++1", "U+", "u+"] {
         fails(
             run(&["lookup", &image, bad]),
             &format!("lookup: {bad}: not U+ and a hexadecimal number of 32 bits {help}"),

@@ -92,6 +92,10 @@ fn other_characters() {
         "= help: it looks like a blank, and is none in this image: type U+0020"
     );
     assert_eq!(help("a\u{202E}b"), "= help: it can't be seen: take it out");
+    assert_eq!(help("# \u{200D}"), "= help: it can't be seen: take it out");
+    assert_eq!(help("\u{26A0}\u{FE0F}"), "= help: it can't be seen: take it out");
+    let digit = "= help: a digit can't begin an identifier in this image: a profile with the line `U+1E951 Start` lets it (`luffinarc help make`)";
+    assert_eq!(help("\u{1E951}"), digit);
     let null = "= help: a null character: store the file as UTF-8, if it is UTF-16";
     assert_eq!(help("a\0"), null);
     let euro = "= help: it is in no token of this image: a profile with the line `U+20AC Start` lets it (`luffinarc help make`)";
@@ -117,6 +121,24 @@ fn medials_and_characters_taken_out() {
     assert!(told.contains("a medial stands inside an identifier"), "{told}");
     let told = run_with(&["tokens", name], b"q").err;
     assert!(told.contains("the image's profile makes it Other"), "{told}");
+}
+
+/// No advice that leads to another refusal: blanks where the image has none.
+#[test]
+fn an_image_without_blanks() {
+    let file = room("no-blanks").join("image");
+    let class = luffinarc::Class::Start;
+    let marks = luffinarc::Range { first: 0x200E, last: 0x200F, class: luffinarc::Class::White };
+    let ranges = [
+        luffinarc::Range { first: 0x20, last: 0x20, class: luffinarc::Class::Other },
+        luffinarc::Range { first: 0x61, last: 0x7A, class },
+        marks,
+    ];
+    fs::write(&file, luffinarc::write_image(1, &ranges, &Default::default()).unwrap()).unwrap();
+    let told = |text: &str| run_with(&["tokens", file.to_str().unwrap()], text.as_bytes()).err;
+    assert!(told("a b")
+        .ends_with("a profile with the line `U+0020 Start` lets it (`luffinarc help make`)\n"));
+    assert!(told("a\u{200E}b").ends_with("help: without it this would be one token: take it out\n"));
 }
 
 /// Wide characters take two columns, marks none; tabs are shown as four.

@@ -1,7 +1,7 @@
 //! Stores a file: whole or not at all.
 
 use crate::text::{of_file, plain};
-use std::fs::{self, File, OpenOptions};
+use std::fs::{self, File, OpenOptions, Permissions};
 use std::io::{self, ErrorKind, Write};
 use std::path::{Path, PathBuf};
 
@@ -23,9 +23,15 @@ fn create_beside(out: &Path) -> io::Result<(PathBuf, File)> {
     }
 }
 
+/// Writes a file beside the output, with the permissions of the one that it replaces, and moves it there.
 fn write_and_move(out: &Path, bytes: &[u8]) -> io::Result<()> {
+    let before = fs::metadata(out).ok().map(|before| before.permissions());
+    if before.as_ref().map_or(false, Permissions::readonly) {
+        return Err(ErrorKind::PermissionDenied.into());
+    }
     let (part, mut file) = create_beside(out)?;
-    let written = file.write_all(bytes).and_then(|()| file.sync_all());
+    let allowed = before.map_or(Ok(()), |before| file.set_permissions(before));
+    let written = allowed.and_then(|()| file.write_all(bytes)).and_then(|()| file.sync_all());
     written.and_then(|()| fs::rename(&part, out)).map_err(|error| {
         let _ = fs::remove_file(&part);
         error

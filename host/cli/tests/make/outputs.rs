@@ -29,9 +29,28 @@ fn no_file_name() {
     let room = Room::new("no-name");
     for name in ["", "-"] {
         let line = failed(make("16.0.0", &room.folder, None, Path::new(name)));
-        let why = "luffinarc: make: --out: the name of a file is needed (`luffinarc help make`";
+        let why = "luffinarc: make: --out: a name is needed (`luffinarc help make`";
         assert!(line.starts_with(why), "{line}");
     }
+}
+
+/// A file that is replaced keeps its permissions, and one that may not be written is left.
+#[test]
+fn permissions() {
+    use std::os::unix::fs::PermissionsExt;
+    let room = Room::new("permissions");
+    let image = room.path.join("image");
+    fs::write(&image, "before").unwrap();
+    let set = |mode| fs::set_permissions(&image, fs::Permissions::from_mode(mode)).unwrap();
+    let mode = || fs::metadata(&image).unwrap().permissions().mode() & 0o777;
+    set(0o444);
+    let line = failed(make("16.0.0", &room.folder, None, &image));
+    assert!(line.ends_with("image: permission denied\n"), "{line}");
+    assert_eq!((fs::read(&image).unwrap(), mode()), (b"before".to_vec(), 0o444));
+    set(0o600);
+    assert!(make("16.0.0", &room.folder, None, &image).status.success());
+    assert_eq!(mode(), 0o600);
+    assert_ne!(fs::read(&image).unwrap(), b"before");
 }
 
 /// The run fails because of its output, before the profile, which is bad, is read.
