@@ -22,7 +22,7 @@ pub record Accepted (s text : List ℕ) : Type 0 where
   pub all : readingOf s text .left ≡ []
 
 -- .. and the buffer has room for all its records, which are `limit` words
-pub record Fits (s text out : List ℕ) (limit : ℕ) : Type 0 where
+pub record HasRoom (s text out : List ℕ) (limit : ℕ) : Type 0 where
   pub accepted : Accepted s text
   pub short : length text ≤ maxText
   pub all : limit ≡ recordSize * length (tokensOf s text)

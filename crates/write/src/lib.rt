@@ -13,7 +13,7 @@ ghost use Rattle.grammar.specs.Reading.{maxText, readingOf, tokensOf};
 ghost use Rattle.scan.specs.declared.Counted.the-variants.{Tokens};
 ghost use Rattle.scan.specs.Turns.{turnTable, afterTable, waitingTable};
 ghost use Rattle.scan.specs.Counted.{countThrough};
-ghost use Rattle.write.specs.Bounds.{Accepted, Fits, Bounded, Kept, Wrote};
+ghost use Rattle.write.specs.Bounds.{Accepted, HasRoom, Bounded, Kept, Wrote};
 use scan::RECORD_WORDS;
 use scan::SETTLES;
 use scan::WAITING;
@@ -85,7 +85,7 @@ pub fn write_from<'a>(
     requires { ⌜ refusalOf (now image) ≡ none ⌝ }
     requires { ⌜ TokenTableOf (now image) (now table) ⌝ }
     requires { ⌜ (now turns ≡ turnTable) × (now after ≡ afterTable) × (now waiting ≡ waitingTable) ⌝ }
-    requires { ⌜ Fits (now image) (now text) (now out) limit ⌝ }
+    requires { ⌜ HasRoom (now image) (now text) (now out) limit ⌝ }
     requires { ⌜ stop ≤ length (now text) ⌝ }
     requires { ⌜ Bounded (now image) (now text) (now out) (run .state) (run .at) (run .line) (run .w) ⌝ }
     ensures { λ r. ⌜ Wrote (now (image .entry)) (now (text .entry)) (now (out .entry)) (now (out .exit)) limit stop (run .at) (run .w) r ⌝ }

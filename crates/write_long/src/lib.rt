@@ -14,7 +14,7 @@ ghost use Rattle.grammar.specs.Reading.{maxText, readingOf};
 ghost use Rattle.scan.specs.declared.Counted.the-variants.{Tokens};
 ghost use Rattle.scan.specs.Turns.{afterTable};
 ghost use Rattle.scan.specs.Counted.{countThrough};
-ghost use Rattle.write.specs.Bounds.{Fits, Bounded, Wrote};
+ghost use Rattle.write.specs.Bounds.{HasRoom, Bounded, Wrote};
 ghost use Rattle.write_long.specs.Steps.{QuickOf, stepTable, rowStates, rowState};
 use scan::RECORD_WORDS;
 use write::Run;
@@ -329,7 +329,7 @@ fn run_known<'a>(
     requires { ⌜ QuickOf (now image) (now table) ⌝ }
     requires { ⌜ Cached (now image) (now index) (now cells) ⌝ }
     requires { ⌜ (now steps ≡ stepTable) × (now kinds ≡ afterTable) × (now states ≡ rowStates) ⌝ }
-    requires { ⌜ Fits (now image) (now text) (now out) limit ⌝ }
+    requires { ⌜ HasRoom (now image) (now text) (now out) limit ⌝ }
     requires { ⌜ (row < 16) × (rowState row ≡ run .state) ⌝ }
     requires { ⌜ Bounded (now image) (now text) (now out) (run .state) (run .at) (run .line) (run .w) ⌝ }
     ensures { λ r. ⌜ Wrote (now (image .entry)) (now (text .entry)) (now (out .entry)) (now (out .exit)) limit (run .at) (run .at) (run .w) r ⌝ }

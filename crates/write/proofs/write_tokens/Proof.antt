@@ -6,7 +6,7 @@ use lib.ListN.{length, length-set}
 use borrow.Author.Needs.{needs}
 use Rattle.grammar.specs.Record.{recordSize}
 use Rattle.grammar.specs.Reading.{tokensOf}
-use Rattle.write.specs.Bounds.{Accepted, Fits, Kept}
+use Rattle.write.specs.Bounds.{Accepted, HasRoom, Kept}
 use Rattle.write.proofs.BoundLaws.{counted, none-written, kept-after, all-told, all-written}
 use Rattle.write.proofs.write_tokens.Statement.{statement}
 use Rattle.write.proofs.write_tokens.Tie as tie
@@ -15,8 +15,8 @@ use Rattle.write.proofs.write_tokens.Tie as tie
 told : (c : tie.Else1) → let a = c .before .before .before .before .args in Accepted (a .image .now) (a .text .now) × (length (tokensOf (a .image .now) (a .text .now)) ≡ a .count)
 told c = let a = c .before .before .before .before .args in counted (a .image .now) (a .text .now) (a .count) (c .before .before .before .before .pre .1 .1 .1 .0)
 
-fits : (c : tie.Else1) → let a = c .before .before .before .before .args in Fits (a .image .now) (a .text .now) (a .out .now) (recordSize * a .count)
-fits c =
+has-room : (c : tie.Else1) → let a = c .before .before .before .before .args in HasRoom (a .image .now) (a .text .now) (a .out .now) (recordSize * a .count)
+has-room c =
     let p = c .before .before .before .before .pre .1 .1 in
     record { accepted = told c .0; short = p .0; all = ap (λ (n : ℕ). recordSize * n) (sym (told c .1)); room = p .1 .1 }
 
@@ -38,7 +38,7 @@ begin-requires c κs =
 write-from-requires : tie.Need-write-from-requires
 write-from-requires c κs =
     let p = c .before .before .before .before .before .before .before .before .before .before .before .before .before .pre in
-    let f = fits (c .before .before .before .before .before .before .before .before .before) in
+    let f = has-room (c .before .before .before .before .before .before .before .before .before) in
     let b = c .before .before .before .before .before .before .begin .ensures in
     (p .0, (p .1 .0, ((refl, refl, refl), (record { accepted = f .accepted; short = f .short; all = f .all; room = omega (arith, f .room, b .1 .long) }, (omega arith, b .0)))))
 
@@ -57,7 +57,7 @@ same-length c = length-set (c .before .before .write-from .last .1 .1 .1 .1 .1 .
 returns-2 : tie.Need-returns-2
 returns-2 c =
     let a = c .before .before .before .before .before .before .before .before .before .before .before .before .before .before .before .before .args in
-    let f = fits (c .before .before .before .before .before .before .before .before .before .before .before .before) in
+    let f = has-room (c .before .before .before .before .before .before .before .before .before .before .before .before) in
     let w = c .before .before .write-from .ensures in
     all-written (f .accepted) (recordSize * a .count) (f .all) (a .out .now) (c .before .before .write-from .last .1 .1 .1 .1 .1 .1 .0) (kept c)
     (all-told (f .accepted) (recordSize * a .count) (f .all) (w .bounded) (w .done)) (omega (arith, c .before .before .before .before .before .before .before .before .before .before .before .before .if1 .left)) (f .room)

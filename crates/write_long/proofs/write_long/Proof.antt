@@ -9,7 +9,7 @@ use borrow.Author.Needs.{needs}
 use Rattle.grammar.specs.Record.{recordSize}
 use Rattle.grammar.specs.Reading.{tokensOf}
 use Rattle.scan.specs.Turns.{afterTable}
-use Rattle.write.specs.Bounds.{Accepted, Fits, Bounded, Kept}
+use Rattle.write.specs.Bounds.{Accepted, HasRoom, Bounded, Kept}
 use Rattle.write.proofs.BoundLaws.{bounded-less, counted, none-written, kept-after, all-told, all-written}
 use Rattle.write_long.specs.Steps.{rowStates, stepTable}
 use Rattle.write_long.proofs.StepLaws.{row-of, row-small, Held, held-by, Ended, ended-by}
@@ -28,14 +28,14 @@ abbrev μ-loop : tie.MeasureT-loop
 told : (c : tie.Else1 Inv-loop μ-loop) → let a = c .before .before .before .before .args in Accepted (a .image .now) (a .text .now) × (length (tokensOf (a .image .now) (a .text .now)) ≡ a .count)
 told c = let a = c .before .before .before .before .args in counted (a .image .now) (a .text .now) (a .count) (c .before .before .before .before .pre .1 .1 .1 .1 .0)
 
-fits : (c : tie.Else1 Inv-loop μ-loop) → let a = c .before .before .before .before .args in Fits (a .image .now) (a .text .now) (a .out .now) (recordSize * a .count)
-fits c =
+has-room : (c : tie.Else1 Inv-loop μ-loop) → let a = c .before .before .before .before .args in HasRoom (a .image .now) (a .text .now) (a .out .now) (recordSize * a .count)
+has-room c =
     let p = c .before .before .before .before .pre .1 .1 .1 in
     record { accepted = told c .0; short = p .0; all = ap (λ (n : ℕ). recordSize * n) (sym (told c .1)); room = p .1 .1 }
 
 -- .. as long as the buffer keeps its length
-fits-at : {s text before out : List ℕ} {limit : ℕ} → Fits s text before limit → Kept limit before out → Fits s text out limit
-fits-at f k = record { accepted = f .accepted; short = f .short; all = f .all; room = omega (arith, f .room, k .long) }
+room-kept : {s text before out : List ℕ} {limit : ℕ} → HasRoom s text before limit → Kept limit before out → HasRoom s text out limit
+room-kept f k = record { accepted = f .accepted; short = f .short; all = f .all; room = omega (arith, f .room, k .long) }
 
 -- the first record begins the list
 began :
@@ -61,7 +61,7 @@ ended :
     → let a = c .before .before .before .before .before .before .before .before .before .before .before .before .before .args in
     Ended (a .image .now) (a .text .now) (a .out .now) (c .if2 .out) (recordSize * a .count)
 ended c =
-    let f = fits (c .before .before .before .before .before .before .before .before .before) in
+    let f = has-room (c .before .before .before .before .before .before .before .before .before) in
     let i = c .before .before .loop .inv in
     let b = began (c .before .before .before) in
     ⊎-elim
@@ -105,7 +105,7 @@ run-known-requires : tie.Need-run-known-requires Inv-loop μ-loop
 run-known-requires c κs =
     let p = c .before .before .before .before .before .before .before .before .before .before .before .before .before .before .before .before .before .before .before .before .pre in
     let i = c .before .before .before .before .before .before .before .before .before .loop .inv in
-    (p .0, (c .before .before .before .before .before .before .before .before .before .before .before .before .before .before .before .quick-table .ensures _ (p .0) (p .1 .0), (p .1 .1 .0, ((refl {a = stepTable}, refl {a = afterTable}, refl {a = rowStates}), (fits-at (fits-at (fits (c .before .before .before .before .before .before .before .before .before .before .before .before .before .before .before .before)) (began (c .before .before .before .before .before .before .before .before .before .before))) (i .1), ((c .before .before .before .before .before .if3 .taken, row-of (c .before .before .before .before .before .before .before .before .before .loop .run .state) (bounded-less (i .0)) (c .before .before .before .before .before .if3 .taken)), i .0))))))
+    (p .0, (c .before .before .before .before .before .before .before .before .before .before .before .before .before .before .before .quick-table .ensures _ (p .0) (p .1 .0), (p .1 .1 .0, ((refl {a = stepTable}, refl {a = afterTable}, refl {a = rowStates}), (room-kept (room-kept (has-room (c .before .before .before .before .before .before .before .before .before .before .before .before .before .before .before .before)) (began (c .before .before .before .before .before .before .before .before .before .before))) (i .1), ((c .before .before .before .before .before .if3 .taken, row-of (c .before .before .before .before .before .before .before .before .before .loop .run .state) (bounded-less (i .0)) (c .before .before .before .before .before .if3 .taken)), i .0))))))
 
 add-write-from : tie.Need-add-write-from Inv-loop μ-loop
 add-write-from c = omega (arith, c .before .before .before .before .before .if5 .left, c .before .before .before .before .before .before .before .before .before .before .before .before .before .before .before .before .before .before .before .before .before .before .pre .1 .1 .1 .0)
@@ -114,7 +114,7 @@ write-from-requires : tie.Need-write-from-requires Inv-loop μ-loop
 write-from-requires c κs =
     let p = c .before .before .before .before .before .before .before .before .before .before .before .before .before .before .before .before .before .before .before .before .before .before .pre in
     let h = ran (c .before .before .before .before .before .before .before) in
-    (p .0, (p .1 .0, ((refl, refl, refl), (fits-at (fits-at (fits (c .before .before .before .before .before .before .before .before .before .before .before .before .before .before .before .before .before .before)) (began (c .before .before .before .before .before .before .before .before .before .before .before .before))) (h .kept), (omega (arith, c .before .before .before .before .before .if5 .left), h .bounded)))))
+    (p .0, (p .1 .0, ((refl, refl, refl), (room-kept (room-kept (has-room (c .before .before .before .before .before .before .before .before .before .before .before .before .before .before .before .before .before .before)) (began (c .before .before .before .before .before .before .before .before .before .before .before .before))) (h .kept), (omega (arith, c .before .before .before .before .before .if5 .left), h .bounded)))))
 
 loop-less : tie.Need-loop-less Inv-loop μ-loop
 loop-less c =
@@ -144,7 +144,7 @@ same-length c = length-set (c .if2 .out) _ _ ∙ ended c .kept .long
 returns-2 : tie.Need-returns-2 Inv-loop μ-loop
 returns-2 c =
     let a = c .before .before .before .before .before .before .before .before .before .before .before .before .before .args in
-    let f = fits (c .before .before .before .before .before .before .before .before .before) in
+    let f = has-room (c .before .before .before .before .before .before .before .before .before) in
     let h = ended c in
     all-written (f .accepted) (recordSize * a .count) (f .all) (a .out .now) (c .if2 .out) (h .kept) (h .told) (omega (arith, c .before .before .before .before .before .before .before .before .before .if1 .left)) (f .room)
 
