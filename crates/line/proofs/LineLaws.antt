@@ -56,9 +56,9 @@ is-line-end x (separator h l) = go (decLt x 0x2029)
     go (yes a) = let q : x ≡ 0x2028 = omega arith in rw q
     go (no a) = let q : x ≡ 0x2029 = omega arith in rw q
 
-small : (b : Bool) → one b ≤ 1
-small true = omega arith
-small false = omega arith
+pub one-at-most : (b : Bool) → one b ≤ 1
+one-at-most true = omega arith
+one-at-most false = omega arith
 
 -- what a byte tells
 pub data Tells (b : ℕ) : ℕ → Type 0 where
@@ -234,7 +234,7 @@ ends-few p q (c ∷ r) = go (endsLine (c .code) r) (ends-few (p + c .width) q r)
   where
     go : (b : Bool) → before q (lineEnds (p + c .width) r) ≤ length r →
         before q (cond b ((p + c .width) ∷ lineEnds (p + c .width) r) (lineEnds (p + c .width) r)) ≤ length (c ∷ r)
-    go true h = let o = small (leb (p + c .width) q) in omega arith
+    go true h = let o = one-at-most (leb (p + c .width) q) in omega arith
     go false h = omega arith
 
 -- lines rise from 1
@@ -244,7 +244,7 @@ before-rises p q (e ∷ es) h = let i = before-rises p q es h in let j = go (dec
   where
     go : Dec (q < e) → one (leb e p) ≤ one (leb e q)
     go (yes l) = rw (lt-leb e p (omega arith), lt-leb e q l) (omega arith)
-    go (no l) = rw (le-leb e q (omega arith)) (small (leb e p))
+    go (no l) = rw (le-leb e q (omega arith)) (one-at-most (leb e p))
 
 pub lines-rise : (text : List ℕ) (p q : ℕ) → p ≤ q → lineOf text p ≤ lineOf text q
 unfolding lineOf
@@ -299,7 +299,7 @@ module _ {text : List ℕ} {at line : ℕ} (i : LineAt text at line) where
     line-counted k h = subst (λ (j : ℕ). LineAt text (at + n) (line + j)) (sym h) line-step
 
     pub counted-few : (k : ℕ) → k ≡ one (endsLine x rest) → line + k ≤ 2 + length text
-    counted-few k h = omega (arith, line-few, small (endsLine x rest))
+    counted-few k h = omega (arith, line-few, one-at-most (endsLine x rest))
 
     pub line-passes : isLineEnd x ≡ false → LineAt text (at + n) line
     line-passes f = let z : line + one (endsLine x rest) ≡ line = omega (arith, ends-not x rest f) in subst (LineAt text (at + n)) z line-step

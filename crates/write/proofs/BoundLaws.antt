@@ -22,7 +22,7 @@ use Rattle.utf8.specs.Head.{IllHead}
 use Rattle.utf8.specs.Text.{Character, decode, textOf, charactersAt, widthOf}
 use Rattle.utf8.proofs.TextLaws.{ill-here, well-rest, decode-covers}
 use Rattle.image.specs.Check.{refusalOf}
-use Rattle.line.specs.Line.{one, lineOf, LineAt}
+use Rattle.line.specs.Line.{lineOf, LineAt}
 use Rattle.line.proofs.LineLaws.{line-first}
 use Rattle.character.specs.Read.{ReadTokenAs}
 use Rattle.character.specs.declared.Character.{Character as Read}
@@ -42,10 +42,6 @@ use Rattle.scan.specs.Counted.{countedBy, readThrough, countThrough}
 use Rattle.scan.proofs.TurnLaws.{Tokens, Under, L, Stands, kind-less, stands-less, Going, left}
 use Rattle.scan.proofs.ReachLaws.{Place, Here, here, Look, NoCharacter, at-end, Reached, reached-begins, After, tokens-come, after-settling, left-settled, settles-none, read-end, after-turn, after-waiting, left-here}
 use Rattle.write.specs.Bounds.{Accepted, wordAt, ToldTo, Marked, Bounded, Kept}
-
-pub one-small : (b : Bool) → one b ≤ 1
-one-small true = omega arith
-one-small false = omega arith
 
 -- the words of one record of a list
 record-word : (text : List ℕ) (ts : Tokens) (t : Tok Character Kind) (us : Tokens) (j : ℕ) →

@@ -10,9 +10,9 @@ use Rattle.utf8.specs.Head.{stepOf}
 use Rattle.utf8.specs.Text.{charactersAt}
 use Rattle.line.specs.Line.{endsLine, one}
 use Rattle.grammar.proofs.FewLaws.{few-tokens}
-use Rattle.line.proofs.LineLaws.{line-begins, line-counted}
+use Rattle.line.proofs.LineLaws.{one-at-most, line-begins, line-counted}
 use Rattle.scan.proofs.ReachLaws.{Here, here-small, reached-begins}
-use Rattle.write.proofs.BoundLaws.{one-small, read-here, bounded-begins}
+use Rattle.write.proofs.BoundLaws.{read-here, bounded-begins}
 use Rattle.write.proofs.begin.Statement.{statement}
 use Rattle.write.proofs.begin.Tie as tie
 
@@ -54,7 +54,7 @@ counted c =
     c .count-end .ensures ∙ ap (λ (n : ℕ). one (endsLine (r .code) (charactersAt (c .before .before .before .before .before .before .before .args .text .now) n))) z
 
 add-t13 : tie.Need-add-t13
-add-t13 c = omega (arith, c .count-end .ensures, one-small (endsLine (c .before .before .read-for-tokens .result .code) (charactersAt (c .before .before .before .before .before .before .before .args .text .now) (c .before .before .read-for-tokens .result .len))))
+add-t13 c = omega (arith, c .count-end .ensures, one-at-most (endsLine (c .before .before .read-for-tokens .result .code) (charactersAt (c .before .before .before .before .before .before .before .args .text .now) (c .before .before .read-for-tokens .result .len))))
 
 returns : tie.Need-returns
 returns c =
