@@ -6,10 +6,8 @@ use mathlib.Core.List.{List, [], _∷_, _++_}
 use native.Mathlib.Omega.{arith}
 use native.Mathlib.Decide.{decLt}
 use lib.ListN.{length, take, drop, getD, length-drop, take-append-drop}
-use lib.Dec.{leb, ltb}
 use lib.Seq.{drop-cons, getD-drop}
-use borrow.Author.Tests.{ltb-true, ltb-false, leb-true, lt-ltb, le-ltb, le-leb}
-use Rattle.lists.proofs.BoolLaws.{and-left, and-right}
+use borrow.Author.Tests.{ltb-false, lt-ltb, le-ltb, le-leb}
 use Rattle.utf8.specs.declared.Step.{Step}
 use Rattle.utf8.specs.declared.Step.the-variants.{Scalar, IllFormed, End}
 use Rattle.utf8.specs.Scalar.{isScalar, ScalarMeans, below-surrogates, above-surrogates}
@@ -18,7 +16,7 @@ use Rattle.utf8.specs.Head.{stepOf}
 use Rattle.utf8.specs.Lead.{knownLength, packed, isTrail}
 use Rattle.utf8.proofs.ScalarLaws.{means-scalar, scalar-means}
 use Rattle.utf8.proofs.EncodingLaws.{encodes-sequence}
-use Rattle.utf8.proofs.SequenceLaws.{step-of-sequence, sequence-of-step}
+use Rattle.utf8.proofs.SequenceLaws.{trail-range, step-of-sequence, sequence-of-step}
 use Rattle.utf8.proofs.TextLaws.{step-bounds, first-byte, first-at}
 use Rattle.blocks.specs.Blocks.{blockSize, blockCount, upperBlock, heldAt, Tells, FoundAt, StandsAt, ScalarBlock}
 
@@ -65,12 +63,8 @@ module _ (s : List ℕ) (at n : ℕ) where
   trails : {l : ℕ} → ((i : ℕ) → 0 < i → i < l → isTrail (getD (drop at s) i 0) ≡ true) → (k m : ℕ) → 0 < k → k + m ≤ l → Trails (after s at k m)
   trails f k zero h g = tt
   trails f k (suc m) h g =
-      let b = getD s (at + k) 0 in
-      let e : isTrail b ≡ true = ap isTrail (sym (getD-drop at s k 0)) ∙ f k h (omega arith) in (
-        leb-true 0x80 b (and-left (leb 0x80 b) (ltb b 0xC0) e),
-        ltb-true b 0xC0 (and-right (leb 0x80 b) (ltb b 0xC0) e),
-        trails f (k + 1) m (omega arith) (omega arith),
-      )
+      let r = trail-range (getD s (at + k) 0) (ap isTrail (sym (getD-drop at s k 0)) ∙ f k h (omega arith)) in
+      (r .0, r .1, trails f (k + 1) m (omega arith) (omega arith))
 
   -- a sequence that is not ASCII stands at a place and has so many bytes, as its first byte tells
   pub record Sure : Type 0 where

@@ -9,8 +9,8 @@ use native.Mathlib.Decide.{decLt}
 use mathlib.Core.Option.{none}
 use lib.ListN.{length, getD, drop, length-drop}
 use lib.Seq.{getD-drop}
-use lib.Dec.{leb, ltb, eqb}
-use borrow.Author.Tests.{lt-ltb, le-ltb, leb-true, ltb-true, ne-eqb}
+use lib.Dec.{eqb}
+use borrow.Author.Tests.{lt-ltb, le-ltb, ne-eqb}
 use Rattle.lists.proofs.BoolLaws.{and-left, and-right, impossible}
 use Rattle.utf8.specs.declared.Step.{Step}
 use Rattle.utf8.specs.declared.Step.the-variants.{Scalar, IllFormed, End}
@@ -19,7 +19,7 @@ use Rattle.utf8.specs.declared.Text.{Text}
 use Rattle.utf8.specs.declared.Text.the-variants.{WellFormed, IllFormed as Bad}
 use Rattle.utf8.specs.Lead.{lengthOf, knownLength, isTrail}
 use Rattle.utf8.specs.Text.{Character, charactersAt, widthOf, textOf, shift}
-use Rattle.utf8.proofs.SequenceLaws.{known-bounds, ill-at, end-empty}
+use Rattle.utf8.proofs.SequenceLaws.{trail-range, known-bounds, ill-at, end-empty}
 use Rattle.utf8.proofs.TextLaws.{step-bounds, known-length, turn, ascii-at, characters-step, characters-ill, characters-end}
 use Rattle.line.specs.Ends.{look, endOf}
 use Rattle.line.proofs.LineLaws.{end-most, trail-tells}
@@ -61,8 +61,7 @@ plain-byte b h = go (decLt b 0x80)
 
 pub trail-passes : (b : ℕ) → isTrail b ≡ true → stopOf true b ≡ 0
 trail-passes b e =
-    let h = leb-true 0x80 b (and-left (leb 0x80 b) (ltb b 0xC0) e) in
-    let l = ltb-true b 0xC0 (and-right (leb 0x80 b) (ltb b 0xC0) e) in
+    let r = trail-range b e in
     rw (ne-eqb b 0x23 (λ f. absurd (omega arith)), ne-eqb b 0xEF (λ f. absurd (omega arith))) (trail-tells b e)
 
 -- what the table has for a byte

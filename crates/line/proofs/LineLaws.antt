@@ -6,16 +6,16 @@ use mathlib.Core.List.{List, [], _∷_, _++_, append-assoc}
 use native.Mathlib.Omega.{arith}
 use native.Mathlib.Decide.{decLt}
 use lib.ListN.{length, getD, drop}
-use lib.Dec.{leb, ltb, eqb}
-use borrow.Author.Tests.{eq-eqb, ne-eqb, eqb-true, eqb-false, leb-true, ltb-true, lt-ltb, le-ltb, le-leb, lt-leb}
+use lib.Dec.{leb, eqb}
+use borrow.Author.Tests.{eq-eqb, ne-eqb, eqb-true, eqb-false, lt-ltb, le-ltb, le-leb, lt-leb}
 use mathlib.Core.Logic.{_⊎_, inl, inr}
-use Rattle.lists.proofs.BoolLaws.{impossible, and-left, and-right}
+use Rattle.lists.proofs.BoolLaws.{impossible}
 use Rattle.utf8.specs.declared.Step.{Step}
 use Rattle.utf8.specs.declared.Step.the-variants.{Scalar, IllFormed, End}
 use Rattle.utf8.specs.Lead.{isTrail}
 use Rattle.utf8.specs.Head.{stepOf, IllHead}
 use Rattle.utf8.specs.Text.{Character, decode, charactersAt, widthOf}
-use Rattle.utf8.proofs.SequenceLaws.{ill-at}
+use Rattle.utf8.proofs.SequenceLaws.{trail-range, ill-at}
 use Rattle.utf8.proofs.EncodedLaws.{AllWide}
 use Rattle.utf8.proofs.TextLaws.{first-byte, decode-end, characters-few, characters-wide, first-at, ascii-at, characters-step, characters-ill, characters-end, width-append}
 use Rattle.line.specs.Line.{isLineEnd, feedFirst, endsLine, one, lineEnds, before, lineOf, LineAt}
@@ -93,8 +93,7 @@ end-most b = go (end-tells b)
 pub trail-tells : (b : ℕ) → isTrail b ≡ true → endOf b ≡ 0
 unfolding endOf
 trail-tells b e =
-    let h = leb-true 0x80 b (and-left (leb 0x80 b) (ltb b 0xC0) e) in
-    let l = ltb-true b 0xC0 (and-right (leb 0x80 b) (ltb b 0xC0) e) in
+    let r = trail-range b e in
     rw (le-ltb b 0x0A (omega arith), le-ltb b 0x0D (omega arith), ne-eqb b 0x0D (λ f. absurd (omega arith)), ne-eqb b 0xC2 (λ f. absurd (omega arith)), ne-eqb b 0xE2 (λ f. absurd (omega arith)))
 
 -- whether a line ends with a code point

@@ -8,8 +8,8 @@ use mathlib.Core.Logic.{inl, inr}
 use native.Mathlib.Omega.{arith}
 use native.Mathlib.Decide.{decLt}
 use lib.ListN.{length, take, drop, getD, length-append, length-take, take-append-drop}
-use lib.Dec.{ltb}
-use borrow.Author.Tests.{lt-ltb, le-ltb, le-leb, lt-leb}
+use lib.Dec.{leb, ltb}
+use borrow.Author.Tests.{leb-true, ltb-true, lt-ltb, le-ltb, le-leb, lt-leb}
 use Rattle.lists.proofs.BoolLaws.{and-left, and-right, impossible}
 use Rattle.utf8.specs.declared.Step.{Step}
 use Rattle.utf8.specs.declared.Step.the-variants.{Scalar, IllFormed, End}
@@ -64,6 +64,9 @@ pub record Right (q : List ℕ) (x : ℕ) : Type 0 where
 -- bytes that follow others
 trail : (y : ℕ) → y < 0x40 → isTrail (0x80 + y) ≡ true
 trail y h = rw (le-leb 0x80 (0x80 + y) (omega arith), lt-ltb (0x80 + y) 0xC0 (omega arith))
+
+pub trail-range : (b : ℕ) → isTrail b ≡ true → (0x80 ≤ b) × (b < 0xC0)
+trail-range b e = (leb-true 0x80 b (and-left (leb 0x80 b) (ltb b 0xC0) e), ltb-true b 0xC0 (and-right (leb 0x80 b) (ltb b 0xC0) e))
 
 low-lead : (b : ℕ) → b < 0x80 → isTrail b ≡ false
 low-lead b h = rw (lt-leb 0x80 b h)
