@@ -1,14 +1,14 @@
 // The change lister: reads an older image and right after it a newer one from standard input, and prints what changed or the refusal.
 ghost use Prim.Native.Nat.{_*_, _≤_};
 ghost use lib.ListN.{length};
-ghost use Rattle.lookup.specs.declared.Section.the-variants.{Ranges, Entries};
+ghost use Rattle.image.specs.declared.records.Section.the-variants.{Ranges, Entries};
 ghost use Rattle.changes.specs.Answer.{changeSize};
-use change_listing::MAX_ENTRY_WORDS;
-use change_listing::MAX_INPUT;
-use change_listing::MAX_RUN_WORDS;
 use changes::Changes;
 use changes::ENTRY_WORDS;
 use changes::RUN_WORDS;
+use input::images::MAX_ENTRY_WORDS;
+use input::images::MAX_INPUT;
+use input::images::MAX_RUN_WORDS;
 use libc::STDIN_FILENO;
 use refusal::Refusal;
 
@@ -66,7 +66,7 @@ fn main() {
     let n = io::read_full(STDIN_FILENO, &mut input);
     let mut runs = [0u32; MAX_RUN_WORDS];
     let mut entries = [0u32; MAX_ENTRY_WORDS];
-    let answer = change_listing::list_read(&input, n, &mut runs, &mut entries);
+    let answer = input::images::list_read(&input, n, &mut runs, &mut entries);
     match answer {
         Changes::Older(r) => print_refused(b" older", r),
         Changes::Newer(r) => print_refused(b" newer", r),

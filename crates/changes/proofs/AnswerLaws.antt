@@ -12,8 +12,8 @@ use Rattle.refusal.specs.declared.Refusal.{Refusal}
 use Rattle.image.specs.Check.{refusalOf}
 use Rattle.image.specs.Accepted.{Accepted}
 use Rattle.image.proofs.ImageLaws.{accepted, refused-none, refusal-means, means-refusal}
-use Rattle.lookup.specs.declared.Section.the-variants.{Ranges, Entries}
-use Rattle.compare.specs.Judged.{judgedBy}
+use Rattle.image.specs.declared.records.Section.the-variants.{Ranges, Entries}
+use Rattle.pair.specs.Judged.{judgedBy}
 use Rattle.changes.specs.Change.{Change}
 use Rattle.changes.specs.ChangeList.{runsOf, entriesOf}
 use Rattle.changes.specs.Answer.{changeSize, listWords, listedOf, changesBy, answerWithin, answerOf, bufferAfter, runsAfterWithin, runsAfter, entriesAfterWithin, entriesAfter}

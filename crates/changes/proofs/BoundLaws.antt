@@ -9,13 +9,13 @@ use native.Mathlib.Decide.{decLt, ℕ-discrete}
 use lib.ListN.{length}
 use Rattle.image.specs.Limits.{lastCodePoint, maxRanges, maxEntries}
 use Rattle.image.specs.Check.{refusalOf}
-use Rattle.lookup.specs.declared.Section.{Section}
-use Rattle.lookup.specs.declared.Section.the-variants.{Ranges, Entries}
-use Rattle.lookup.specs.Records.{recordAt, recordCount, sectionClass}
-use Rattle.lookup.proofs.RecordLaws.{fits}
-use Rattle.compare.specs.declared.Ahead.{Ahead}
-use Rattle.compare.specs.Walk.{Walk, AheadOf, codePoints}
-use Rattle.compare.proofs.WalkLaws.{walk-begins, ends-ahead, gap-ahead, range-ahead, ready, Least, both-ahead}
+use Rattle.image.specs.declared.records.Section.{Section}
+use Rattle.image.specs.declared.records.Section.the-variants.{Ranges, Entries}
+use Rattle.image.specs.Records.{recordAt, recordCount, sectionClass}
+use Rattle.image.proofs.SectionLaws.{fits}
+use Rattle.pair.specs.declared.walk.Ahead.{Ahead}
+use Rattle.pair.specs.Walk.{Walk, AheadOf, codePoints}
+use Rattle.pair.proofs.WalkLaws.{walk-begins, ends-ahead, gap-ahead, range-ahead, ready, Least, both-ahead}
 use Rattle.changes.specs.ChangeList.{runsOf, entriesOf}
 use Rattle.changes.specs.Answer.{changesOf}
 use Rattle.changes.specs.Walked.{restOf}

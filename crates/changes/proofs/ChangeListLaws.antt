@@ -14,7 +14,7 @@ use Rattle.utf8.specs.Scalar.{isScalar, surrogate, past-last}
 use Rattle.utf8.proofs.ScalarLaws.{means-scalar}
 use Rattle.changes.specs.Change.{Change, Holds, Each, Neighbours, empty, one, two, Before, Apart, Alone, Changed, AllChanges, Runs, Singles}
 use Rattle.changes.specs.ChangeList.{begunAt, goesOn, only, changesFrom}
-use Rattle.compare.specs.Walk.{codePoints}
+use Rattle.pair.specs.Walk.{codePoints}
 
 -- what holds of x, and of y where that is after x, holds of y
 or-later : (P : ℕ → Type 0) {x : ℕ} → P x → (y : ℕ) → x ≤ y → (x < y → P y) → P y

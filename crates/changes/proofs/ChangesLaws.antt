@@ -18,9 +18,9 @@ use Rattle.image.specs.Same.{SameProfile}
 use Rattle.image.specs.Accepted.{Accepted}
 use Rattle.image.specs.Check.{rangeClass, entryRole}
 use Rattle.image.proofs.ImageLaws.{refused-none, means-refusal}
-use Rattle.lookup.proofs.ClassLaws.{class-scalar}
-use Rattle.lookup.proofs.RisingLaws.{class-none}
-use Rattle.lookup.proofs.RecordLaws.{range-class, entry-role}
+use Rattle.image.proofs.ClassLaws.{class-scalar}
+use Rattle.image.proofs.RisingLaws.{class-none}
+use Rattle.image.proofs.SectionLaws.{range-class, entry-role}
 use Rattle.pair.specs.declared.Pair.{Pair}
 use Rattle.pair.specs.declared.Pair.the-variants as pair
 use Rattle.pair.specs.Means.{OnlyPermitted, FirstChange, PermittedAt, PairMeans, bad-older, bad-newer, other-profile, bad-change, all-permitted}

@@ -6,8 +6,8 @@ use mathlib.Core.Option.{Option}
 use lib.ListN.{length}
 use Rattle.refusal.specs.declared.Refusal.{Refusal}
 use Rattle.image.specs.Check.{refusalWithin}
-use Rattle.lookup.specs.declared.Section.the-variants.{Ranges, Entries}
-use Rattle.compare.specs.Judged.{judgedBy}
+use Rattle.image.specs.declared.records.Section.the-variants.{Ranges, Entries}
+use Rattle.pair.specs.Judged.{judgedBy}
 use Rattle.changes.specs.Answer.{listedOf, changesBy, bufferAfter, answerWithin, runsAfterWithin, entriesAfterWithin}
 use Rattle.changes.specs.declared.Changes.{Changes}
 

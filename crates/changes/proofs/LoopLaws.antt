@@ -11,12 +11,12 @@ use borrow.Author.Tests.{eq-eqb, eqb-true, not-true, not-false}
 use borrow.Rule.Slice.PartMut.{putMid}
 use Rattle.lists.specs.Laid.{laid}
 use Rattle.lists.proofs.LaidLaws.{laid-none, laid-step, length-laid, lent}
-use Rattle.lookup.specs.declared.Section.{Section}
-use Rattle.lookup.specs.declared.Section.the-variants.{Ranges, Entries}
-use Rattle.compare.specs.declared.Ahead.{Ahead}
-use Rattle.compare.specs.declared.Step.{Step}
-use Rattle.compare.specs.Walk.{AheadOf, Ready, StepOf, codePoints}
-use Rattle.compare.proofs.WalkLaws.{ready}
+use Rattle.image.specs.declared.records.Section.{Section}
+use Rattle.image.specs.declared.records.Section.the-variants.{Ranges, Entries}
+use Rattle.pair.specs.declared.walk.Ahead.{Ahead}
+use Rattle.pair.specs.declared.walk.Step.{Step}
+use Rattle.pair.specs.Walk.{AheadOf, Ready, StepOf, codePoints}
+use Rattle.pair.proofs.WalkLaws.{ready}
 use Rattle.changes.specs.Change.{Change}
 use Rattle.changes.specs.Answer.{changesOf, changeWords, changeSize, listWords}
 use Rattle.changes.specs.Walked.{changeOf, restOf}

@@ -13,12 +13,12 @@ use Rattle.image.specs.Accepted.{Accepted}
 use Rattle.image.specs.Check.{entryRole}
 use Rattle.image.proofs.ImageLaws.{refused-none}
 use Rattle.image.proofs.RoleLaws.{role-same}
-use Rattle.lookup.specs.declared.Section.the-variants.{Entries}
-use Rattle.lookup.specs.Records.{entryRange}
-use Rattle.lookup.specs.Placed.{Rising}
-use Rattle.lookup.specs.Means.{HasClass, held, in-none}
-use Rattle.lookup.proofs.RisingLaws.{class-cases, class-held, rise, one-holds}
-use Rattle.lookup.proofs.RecordLaws.{entry-role, records-rise}
+use Rattle.image.specs.declared.records.Section.the-variants.{Entries}
+use Rattle.image.specs.Records.{entryRange}
+use Rattle.image.specs.Placed.{Rising}
+use Rattle.image.specs.Records.{HasClass, held, in-none}
+use Rattle.image.proofs.RisingLaws.{class-cases, class-held, rise, one-holds}
+use Rattle.image.proofs.SectionLaws.{entry-role, records-rise}
 
 abbrev SameRoles : List ℕ → List ℕ → Type 0
 SameRoles s t = (x : ℕ) → isScalar x ≡ true → entryRole s x ≡ entryRole t x

@@ -11,10 +11,10 @@ use borrow.Author.Tests.{lt-ltb, le-ltb, ltb-true, ltb-false}
 use Rattle.refusal.specs.declared.Refusal.{Refusal}
 use Rattle.refusal.specs.declared.Refusal.the-variants as refusal
 use Rattle.image.specs.Check.{refusalOf}
-use Rattle.lookup.specs.declared.Section.{Section}
-use Rattle.lookup.specs.declared.Section.the-variants.{Ranges, Entries}
-use Rattle.compare.specs.declared.Judged.{Judged}
-use Rattle.compare.specs.Judged.{judgedBy}
+use Rattle.image.specs.declared.records.Section.{Section}
+use Rattle.image.specs.declared.records.Section.the-variants.{Ranges, Entries}
+use Rattle.pair.specs.declared.Judged.{Judged}
+use Rattle.pair.specs.Judged.{judgedBy}
 use Rattle.changes.specs.ChangeList.{runsOf, entriesOf}
 use Rattle.changes.specs.Answer.{changeSize, listedOf, changesBy, bufferAfter, answerWithin, answerOf, runsAfterWithin, runsAfter, entriesAfterWithin, entriesAfter}
 use Rattle.changes.specs.Walked.{neededOf}

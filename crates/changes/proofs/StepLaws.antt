@@ -8,12 +8,12 @@ use native.Mathlib.Omega.{arith}
 use lib.Dec.{eqb}
 use borrow.Author.Tests.{eq-eqb, ne-eqb, eqb-true}
 use Rattle.lists.proofs.BoolLaws.{and-left, and-right}
-use Rattle.lookup.specs.declared.Section.{Section}
-use Rattle.lookup.specs.declared.Section.the-variants.{Ranges, Entries}
-use Rattle.lookup.specs.Records.{sectionClass}
-use Rattle.lookup.proofs.RecordLaws.{range-class, entry-role}
-use Rattle.compare.specs.declared.Step.{Step}
-use Rattle.compare.specs.Walk.{StepOf, codePoints}
+use Rattle.image.specs.declared.records.Section.{Section}
+use Rattle.image.specs.declared.records.Section.the-variants.{Ranges, Entries}
+use Rattle.image.specs.Records.{sectionClass}
+use Rattle.image.proofs.SectionLaws.{range-class, entry-role}
+use Rattle.pair.specs.declared.walk.Step.{Step}
+use Rattle.pair.specs.Walk.{StepOf, codePoints}
 use Rattle.changes.specs.Change.{Change}
 use Rattle.changes.specs.ChangeList.{begunAt, only, goesOn, changesFrom, runsOf, entriesOf}
 use Rattle.changes.specs.Answer.{changesOf}

@@ -9,11 +9,11 @@ use Rattle.lists.specs.Laid.{laid}
 use Rattle.refusal.specs.declared.Refusal.the-variants as refusal
 use Rattle.image.specs.Limits.{maxEntries}
 use Rattle.image.specs.Check.{refusalWithin}
-use Rattle.lookup.specs.declared.Section.{Section}
-use Rattle.lookup.specs.declared.Section.the-variants.{Ranges, Entries}
-use Rattle.compare.specs.declared.Judged.{Judged}
-use Rattle.compare.specs.declared.Judged.the-variants as judged
-use Rattle.compare.specs.Judged.{judgedBy}
+use Rattle.image.specs.declared.records.Section.{Section}
+use Rattle.image.specs.declared.records.Section.the-variants.{Ranges, Entries}
+use Rattle.pair.specs.declared.Judged.{Judged}
+use Rattle.pair.specs.declared.Judged.the-variants as judged
+use Rattle.pair.specs.Judged.{judgedBy}
 use Rattle.changes.specs.Change.{Change}
 use Rattle.changes.specs.ChangeList.{runsOf, entriesOf}
 use Rattle.changes.specs.declared.Changes.{Changes}

@@ -4,7 +4,7 @@ use mathlib.Core.Bool.{Bool, true, false, _&&_, cond}
 use mathlib.Core.List.{List, [], _∷_}
 use lib.Dec.{eqb}
 use Rattle.image.specs.Check.{rangeClass, entryRole}
-use Rattle.compare.specs.Walk.{codePoints}
+use Rattle.pair.specs.Walk.{codePoints}
 use Rattle.changes.specs.Change.{Change}
 
 -- the first change of a list, begun at x

@@ -10,7 +10,7 @@ use Rattle.refusal.specs.declared.Refusal.the-variants as refusal
 use Rattle.image.specs.Check.{rangeClass, entryRole}
 use Rattle.image.specs.Accepted.{Accepted}
 use Rattle.image.specs.Means.{RefusalMeans}
-use Rattle.lookup.specs.declared.Section.the-variants.{Ranges, Entries}
+use Rattle.image.specs.declared.records.Section.the-variants.{Ranges, Entries}
 use Rattle.changes.specs.Change.{Change, Runs, Singles}
 use Rattle.changes.specs.Answer.{changeSize, listWords}
 use Rattle.changes.specs.declared.Changes.{Changes}

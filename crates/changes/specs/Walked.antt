@@ -3,13 +3,13 @@ use Prim.Native.Nat.{ℕ, _-_}
 use mathlib.Core.Bool.{Bool, true, false, cond}
 use mathlib.Core.List.{List}
 use lib.Dec.{ltb}
-use Rattle.lookup.specs.declared.Section.{Section}
-use Rattle.lookup.specs.declared.Section.the-variants.{Ranges, Entries}
-use Rattle.lookup.specs.Records.{sectionClass}
-use Rattle.compare.specs.declared.Step.{Step}
+use Rattle.image.specs.declared.records.Section.{Section}
+use Rattle.image.specs.declared.records.Section.the-variants.{Ranges, Entries}
+use Rattle.image.specs.Records.{sectionClass}
+use Rattle.pair.specs.declared.walk.Step.{Step}
 use Rattle.changes.specs.Change.{Change}
 use Rattle.changes.specs.ChangeList.{changesFrom}
-use Rattle.compare.specs.Walk.{codePoints}
+use Rattle.pair.specs.Walk.{codePoints}
 
 -- the change of a step that begins at x
 abbrev pub changeOf : ℕ → Step → Change

@@ -8,13 +8,13 @@ ghost use lib.Dec.{eqb};
 ghost use lib.ListN.{length};
 ghost use Rattle.lists.specs.Laid.{laid};
 ghost use Rattle.image.specs.Check.{refusalOf};
-ghost use Rattle.lookup.specs.declared.Section.the-variants.{Ranges, Entries};
+ghost use Rattle.image.specs.declared.records.Section.the-variants.{Ranges, Entries};
 ghost use Rattle.changes.specs.Answer.{changesOf, changeWords, changeSize, listWords, listedOf, bufferAfter, answerOf, runsAfter, entriesAfter};
 ghost use Rattle.changes.specs.Walked.{changeOf, neededOf};
-use compare::CODE_POINTS;
-use compare::Judged;
-use compare::Step;
-use lookup::Section;
+use image::records::Section;
+use pair::Judged;
+use pair::walk::CODE_POINTS;
+use pair::walk::Step;
 use refusal::Refusal;
 
 // The words of a run and of an entry in their lists.
@@ -73,14 +73,14 @@ fn count_changes(older: &[u8], newer: &[u8], section: Section) -> usize
     requires { ⌜ refusalOf (now newer) ≡ none ⌝ }
     ensures { λ r. ⌜ r ≡ length (changesOf section (now (older .entry)) (now (newer .entry))) ⌝ }
 {
-    let n = lookup::count_records(older, section);
-    let m = lookup::count_records(newer, section);
+    let n = image::records::count_records(older, section);
+    let m = image::records::count_records(newer, section);
     let mut x: u32 = 0;
-    let mut a = compare::look_ahead(older, section, n, 0, 0);
-    let mut b = compare::look_ahead(newer, section, m, 0, 0);
+    let mut a = pair::walk::look_ahead(older, section, n, 0, 0);
+    let mut b = pair::walk::look_ahead(newer, section, m, 0, 0);
     let mut count: usize = 0;
     while x < CODE_POINTS {
-        let t = compare::walk_step(older, newer, section, n, m, a, b, x);
+        let t = pair::walk::walk_step(older, newer, section, n, m, a, b, x);
         if is_change(t.older.class, t.newer.class) {
             count += 1;
         }
@@ -99,16 +99,16 @@ fn write_changes(older: &[u8], newer: &[u8], section: Section, out: &mut [u32]) 
     ensures { λ r. ⌜ r ≡ length (changesOf section (now (older .entry)) (now (newer .entry))) ⌝ }
     ensures { λ _. ⌜ now (out .exit) ≡ laid (now (out .entry)) 0 (listWords section (changesOf section (now (older .entry)) (now (newer .entry)))) ⌝ }
 {
-    let n = lookup::count_records(older, section);
-    let m = lookup::count_records(newer, section);
+    let n = image::records::count_records(older, section);
+    let m = image::records::count_records(newer, section);
     let size = size_of(section);
     let mut x: u32 = 0;
-    let mut a = compare::look_ahead(older, section, n, 0, 0);
-    let mut b = compare::look_ahead(newer, section, m, 0, 0);
+    let mut a = pair::walk::look_ahead(older, section, n, 0, 0);
+    let mut b = pair::walk::look_ahead(newer, section, m, 0, 0);
     let mut count: usize = 0;
     let mut at: usize = 0;
     while x < CODE_POINTS {
-        let t = compare::walk_step(older, newer, section, n, m, a, b, x);
+        let t = pair::walk::walk_step(older, newer, section, n, m, a, b, x);
         if is_change(t.older.class, t.newer.class) {
             put_change(&mut out[at..], section, x, t);
             count += 1;
@@ -128,8 +128,8 @@ fn count_needed(older: &[u8], newer: &[u8], section: Section, room: usize) -> us
     requires { ⌜ refusalOf (now newer) ≡ none ⌝ }
     ensures { λ r. ⌜ r ≡ neededOf room (length (changesOf section (now (older .entry)) (now (newer .entry)))) ⌝ }
 {
-    let n = lookup::count_records(older, section);
-    let m = lookup::count_records(newer, section);
+    let n = image::records::count_records(older, section);
+    let m = image::records::count_records(newer, section);
     if n + m <= room / 2 + room % 2 {
         return 0;
     }
@@ -171,7 +171,7 @@ pub fn list_changes(older: &[u8], newer: &[u8], runs: &mut [u32], entries: &mut 
     ensures { λ _. ⌜ now (runs .exit) ≡ runsAfter (now (older .entry)) (now (newer .entry)) (now (runs .entry)) (now (entries .entry)) ⌝ }
     ensures { λ _. ⌜ now (entries .exit) ≡ entriesAfter (now (older .entry)) (now (newer .entry)) (now (runs .entry)) (now (entries .entry)) ⌝ }
 {
-    let judged = compare::judge_both(older, newer);
+    let judged = pair::judge_both(older, newer);
     match judged {
         Judged::Older(r) => Changes::Older(r),
         Judged::Newer(r) => Changes::Newer(r),

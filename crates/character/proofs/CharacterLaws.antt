@@ -14,11 +14,11 @@ use Rattle.image.specs.Profile.{afterRole, isMedial, isHashtag}
 use Rattle.image.specs.Check.{refusalOf, hashtagOf}
 use Rattle.image.specs.declared.Range.{Range}
 use Rattle.image.proofs.RoleLaws.{after-known}
-use Rattle.lookup.specs.declared.Section.{Section}
-use Rattle.lookup.specs.declared.Section.the-variants.{Ranges, Entries}
-use Rattle.lookup.specs.Records.{recordAt, recordCount, sectionClass}
-use Rattle.lookup.proofs.RisingLaws.{class-held, class-gap}
-use Rattle.lookup.proofs.RecordLaws.{records-rise, range-known, class-by-sections, medial-by-sections, hashtag-by-sections}
+use Rattle.image.specs.declared.records.Section.{Section}
+use Rattle.image.specs.declared.records.Section.the-variants.{Ranges, Entries}
+use Rattle.image.specs.Records.{recordAt, recordCount, sectionClass}
+use Rattle.image.proofs.RisingLaws.{class-held, class-gap}
+use Rattle.image.proofs.SectionLaws.{records-rise, range-known, class-by-sections, medial-by-sections, hashtag-by-sections}
 use Rattle.utf8.specs.declared.Step.the-variants.{Scalar}
 use Rattle.character.specs.Traits.{classPart, medialPart, hashtagPart, tokenTraits, traitsOf}
 use Rattle.utf8.proofs.TextLaws.{Unpacked, ascii-at}

@@ -4,9 +4,9 @@ use mathlib.Core.Path.{_≡_}
 use native.Mathlib.Omega.{arith}
 use Rattle.image.specs.declared.Range.{Range}
 use mathlib.Core.List.{List}
-use Rattle.lookup.specs.declared.Section.the-variants.{Ranges, Entries}
-use Rattle.lookup.specs.Records.{recordAt, recordCount}
-use Rattle.lookup.specs.Placed.{Passed, Placed}
+use Rattle.image.specs.declared.records.Section.the-variants.{Ranges, Entries}
+use Rattle.image.specs.Records.{recordAt, recordCount}
+use Rattle.image.specs.Placed.{Passed, Placed}
 use Rattle.character.specs.Read.{MemoOf, MemoAt}
 use Rattle.character.specs.declared.Memo.{Memo}
 

@@ -11,7 +11,7 @@ use lib.Dec.{leb}
 use Rattle.lists.proofs.BoolLaws.{impossible}
 use Rattle.image.specs.Class.{Class, White, classNamed}
 use Rattle.image.specs.Check.{refusalOf, classOf, medialOf, hashtagOf}
-use Rattle.lookup.proofs.LookupLaws.{class-of-known}
+use Rattle.image.proofs.SectionLaws.{class-of-known}
 use Rattle.grammar.specs.White.{WhiteKind, blank, lineEnd, mark, whiteOf}
 use Rattle.character.specs.Traits.{whitePart, classPart, medialPart, hashtagPart, tokenTraits, traitsOf, partClass, partWhite}
 

@@ -4,8 +4,8 @@ use Prim.Native.Nat.{ℕ, _≤_}
 use mathlib.Core.Path.{_≡_}
 use mathlib.Core.List.{List}
 use Rattle.grammar.specs.White.{whiteOf}
-use Rattle.lookup.specs.declared.Section.{Section}
-use Rattle.lookup.specs.Records.{sectionClass}
+use Rattle.image.specs.declared.records.Section.{Section}
+use Rattle.image.specs.Records.{sectionClass}
 use Rattle.character.specs.Traits.{whitePart}
 use Rattle.character.specs.declared.Stretch.{Stretch}
 

@@ -8,15 +8,15 @@ ghost use mathlib.Core.Bool.{_&&_};
 ghost use lib.Dec.{leb};
 ghost use Rattle.image.specs.Profile.{isMedial, isHashtag};
 ghost use Rattle.image.specs.Check.{refusalOf};
-ghost use Rattle.lookup.specs.Records.{recordAt, recordCount};
-ghost use Rattle.lookup.specs.declared.Section.the-variants.{Ranges, Entries};
-ghost use Rattle.lookup.specs.Placed.{Passed, Placed};
+ghost use Rattle.image.specs.Records.{recordAt, recordCount};
+ghost use Rattle.image.specs.declared.records.Section.the-variants.{Ranges, Entries};
+ghost use Rattle.image.specs.Placed.{Passed, Placed};
 ghost use Rattle.grammar.specs.White.{isMark};
 ghost use Rattle.lists.specs.Filled.{Filled};
 ghost use Rattle.character.specs.Traits.{medialPart, hashtagPart, traitsOf};
 ghost use Rattle.character.specs.Stretch.{StretchOf, WhiteStretchOf, Shared};
 ghost use Rattle.character.specs.Read.{MemoOf, MemoAt, TableOf, TokenTableOf, Settled, asciiCharacter, ReadAs, ReadTokenAs};
-use lookup::Section;
+use image::records::Section;
 
 // The class White; in traits its number is that of blanks, and line ends and marks have one each.
 const WHITE: u32 = 4;
@@ -139,10 +139,10 @@ fn join_traits(role: u32, part: u32) -> u32
     requires { ⌜ part ≤ 7 ⌝ }
     ensures { λ r. ⌜ r ≡ part + medialPart (isMedial role) + hashtagPart (isHashtag role) ⌝ }
 {
-    if lookup::is_medial(role) {
+    if image::records::is_medial(role) {
         return part + MEDIAL;
     }
-    if lookup::is_hashtag(role) {
+    if image::records::is_hashtag(role) {
         return part + HASHTAG;
     }
     part
@@ -164,7 +164,7 @@ fn gap_start(image: &[u8], section: Section, i: usize, x: u32) -> u32
     if i == 0 {
         return 0;
     }
-    let r = lookup::record_at(image, section, i - 1);
+    let r = image::records::record_at(image, section, i - 1);
     r.last + 1
 }
 
@@ -174,14 +174,14 @@ fn stretch_at(image: &[u8], section: Section, i: usize, x: u32) -> Stretch
     requires { ⌜ Placed (recordAt (now image) section) (recordCount (now image) section) i x ⌝ }
     ensures { λ r. ⌜ StretchOf (now (image .entry)) section x r ⌝ }
 {
-    if lookup::count_records(image, section) <= i {
+    if image::records::count_records(image, section) <= i {
         return Stretch {
             first: gap_start(image, section, i, x),
             last: 0xFFFFFFFF,
             class: 0,
         };
     }
-    let r = lookup::record_at(image, section, i);
+    let r = image::records::record_at(image, section, i);
     if x < r.first {
         return Stretch {
             first: gap_start(image, section, i, x),
@@ -202,10 +202,10 @@ fn place_of(image: &[u8], section: Section, x: u32) -> usize
     ensures { λ r. ⌜ Placed (recordAt (now (image .entry)) section) (recordCount (now (image .entry)) section) r x ⌝ }
 {
     let mut lo = 0;
-    let mut hi = lookup::count_records(image, section);
+    let mut hi = image::records::count_records(image, section);
     while lo < hi {
         let mid = (lo + hi) / 2;
-        let r = lookup::record_at(image, section, mid);
+        let r = image::records::record_at(image, section, mid);
         if r.last < x {
             lo = mid + 1;
             continue;
@@ -221,10 +221,10 @@ fn next_place(image: &[u8], section: Section, from: usize, x: u32) -> usize
     requires { ⌜ Passed (recordAt (now image) section) (recordCount (now image) section) from x ⌝ }
     ensures { λ r. ⌜ Placed (recordAt (now (image .entry)) section) (recordCount (now (image .entry)) section) r x ⌝ }
 {
-    let count = lookup::count_records(image, section);
+    let count = image::records::count_records(image, section);
     let mut i = from;
     while i < count {
-        let r = lookup::record_at(image, section, i);
+        let r = image::records::record_at(image, section, i);
         if x <= r.last {
             break;
         }
@@ -251,7 +251,7 @@ fn memo_of(image: &[u8], class: Stretch, role: Stretch, x: u32) -> Memo
     ensures { λ r. ⌜ MemoAt (now (image .entry)) x r ⌝ }
 {
     let both = share(class, role);
-    let after = lookup::after_role(role.class, class.class);
+    let after = image::records::after_role(role.class, class.class);
     let traits = join_traits(role.class, after);
     if after == WHITE {
         let all = share(both, white_stretch(x));

@@ -12,8 +12,8 @@ use Rattle.grammar.specs.White.{blank, lineEnd, mark}
 use Rattle.grammar.specs.Grammar.{Kind, identifier, syntax, whitespace}
 use Rattle.grammar.specs.Kinds.{kindNumber, kindOf, goesWith}
 use Rattle.grammar.specs.Beside.{View, other, afterIdentifier, nextView, partedBy, refusedBy, either}
-use Rattle.scan.specs.Turns.{waiting, traitMeaning, begunBy, turnBy, turnOf}
-use Rattle.scan.proofs.TurnLaws.{phase-waits}
+use Rattle.turns.specs.Turns.{waiting, traitMeaning, begunBy, turnBy, turnOf}
+use Rattle.turns.proofs.TurnLaws.{phase-waits}
 use Rattle.count.specs.Turns.{Side, free, ofIdentifier, ofMedial, ofIdentifierMark, ofMedialMark, ofMarkMedial, placed, sideNamed, plainOf, viewBy, besideBy, goesBy, countTurnBy, stateFor, countWaiting, refusedBeside}
 use Rattle.count.specs.Counting.{RefusedAt}
 
@@ -63,7 +63,7 @@ beside d q (whitespace blank) b = apart (λ p. refl) refl
 beside d q (whitespace lineEnd) b = apart (λ p. refl) refl
 beside d q (whitespace mark) b = beside-mark d q b
 
--- what a turn of counting tells, where n is the turn in `scan` and o the kind of token that the character begins
+-- what a turn of counting tells, where n is the turn in `turns` and o the kind of token that the character begins
 pub data Told (d : Side) (q : ℕ) (b : Bool) : ℕ → Option Kind → ℕ → Type 0 where
   goes : {o : Option Kind} → goesBy d ≡ 0 → Told d q b 0 o 0
   stays : {o : Option Kind} → goesBy d ≡ 4 → Told d q b 0 o 4
@@ -89,7 +89,7 @@ told d q b (suc (suc zero)) o = waits
 told d q b (suc (suc (suc zero))) o = settles
 told d q b (suc (suc (suc (suc n)))) o = let h : 4 ≤ suc (suc (suc (suc n))) = omega arith in stops h
 
--- where a medial waits or is settled, the turn is that of `scan`
+-- where a medial waits or is settled, the turn is that of `turns`
 pub told-same : {d : Side} {q n r : ℕ} {b : Bool} {o : Option Kind} → Told d q b n o r → 2 ≤ r → r ≤ 3 → n ≡ r
 told-same waits l h = refl
 told-same settles l h = refl

@@ -6,8 +6,8 @@ use native.Mathlib.Omega.{arith}
 use lib.ListN.{getD}
 use Rattle.lists.specs.Each.{eachFrom, each, column}
 use Rattle.lists.proofs.EachLaws.{column-at}
-use Rattle.scan.specs.Turns.{turnOf, afterOf}
-use Rattle.scan.proofs.TableLaws.{rowsOf, rows-at}
+use Rattle.turns.specs.Turns.{turnOf, afterOf}
+use Rattle.turns.proofs.TableLaws.{rowsOf, rows-at}
 use Rattle.count.specs.Turns.{countStates, countWaitingOf, countTurnOf, countAfterOf, turnTable, afterTable, waitingTable}
 
 turns-hold : turnTable ≡ column 256 (rowsOf countTurnOf) 256

@@ -14,11 +14,11 @@ use Rattle.grammar.specs.Beside.{other, refusedFrom}
 use Rattle.grammar.specs.Reading.{meaningOf}
 use Rattle.grammar.proofs.BesideLaws.{viewOf}
 use Rattle.character.specs.Read.{MemoOf}
-use Rattle.scan.specs.declared.Counted.{Counted}
-use Rattle.scan.specs.declared.Counted.the-variants.{Refused, Tokens as Complete}
-use Rattle.scan.specs.Counted.{countThrough, stopRefusal}
-use Rattle.scan.proofs.TurnLaws.{Tokens, Under}
-use Rattle.scan.proofs.ReachLaws.{Reached}
+use Rattle.grammar.specs.declared.Counted.{Counted}
+use Rattle.grammar.specs.declared.Counted.the-variants.{Refused, Tokens as Complete}
+use Rattle.grammar.specs.Counted.{countThrough, stopRefusal}
+use Rattle.turns.proofs.TurnLaws.{Tokens, Under}
+use Rattle.turns.proofs.ReachLaws.{Reached}
 use Rattle.count.specs.Turns.{plainOf, viewBy, countStates, countWaiting, countPendingOf}
 use Rattle.count.specs.declared.Run.{Run}
 use Rattle.count.specs.declared.Going.{Going}

@@ -9,7 +9,7 @@ use Rattle.grammar.specs.White.{WhiteKind, blank, lineEnd, mark}
 use Rattle.grammar.specs.Grammar.{Kind, identifier, syntax, whitespace}
 use Rattle.grammar.specs.Kinds.{kindOf}
 use Rattle.grammar.specs.Beside.{View, other, afterIdentifier, afterMedial, markAfterIdentifier, markAfterMedial, medialAfterMark}
-use Rattle.scan.specs.Turns.{waiting, numberBy, traitMeaning, turnOf, afterOf}
+use Rattle.turns.specs.Turns.{waiting, numberBy, traitMeaning, turnOf, afterOf}
 
 -- what stands before a place, as far as a mark could part it: a view without its byte
 pub data Side : Type 0 where
@@ -43,7 +43,7 @@ sideNamed (suc (suc (suc (suc (suc (suc (suc (suc zero)))))))) = ofMedialMark
 sideNamed (suc (suc (suc (suc (suc (suc (suc (suc (suc zero))))))))) = ofMarkMedial
 sideNamed (suc (suc (suc (suc (suc (suc (suc (suc (suc (suc n)))))))))) = ofIdentifier
 
--- .. and the state in which `scan` is
+-- .. and the state in which `turns` is
 abbrev pub plainOf : ℕ → ℕ
 plainOf zero = 0
 plainOf (suc zero) = 1
@@ -109,7 +109,7 @@ goesBy ofIdentifierMark = 4
 goesBy ofMedialMark = 4
 goesBy ofMarkMedial = 0
 
--- by the turn in `scan`, the kind of token that the character begins, and whether it is a medial; no token begins, 8
+-- by the turn in `turns`, the kind of token that the character begins, and whether it is a medial; no token begins, 8
 abbrev pub countTurnBy : Side → ℕ → Option Kind → Bool → ℕ
 countTurnBy d zero o b = goesBy d
 countTurnBy d (suc zero) o b = beginsBy d o b
@@ -120,7 +120,7 @@ countTurnBy d (suc (suc (suc (suc n)))) o b = 8
 unfoldable pub countTurnOf : ℕ → ℕ → ℕ
 countTurnOf n t = countTurnBy (sideNamed n) (turnOf (plainOf n) t) (kindOf traitMeaning t) (leb 8 t)
 
--- the state of a token beside which no mark stands, by its number in `scan`
+-- the state of a token beside which no mark stands, by its number in `turns`
 abbrev pub stateFor : ℕ → ℕ
 stateFor zero = 0
 stateFor (suc zero) = 1

@@ -1,4 +1,4 @@
-// Counting a text's tokens under a checked image, in one pass. The state says what is under way, as in `scan`, and what stands before it
+// Counting a text's tokens under a checked image, in one pass. The state says what is under way, as in `turns`, and what stands before it
 // as far as a direction mark could part it: so the pass knows at each token whether a mark is refused.
 ghost use mathlib.Core.Path.{_≡_};
 ghost use mathlib.Core.Option.{none};
@@ -7,12 +7,12 @@ ghost use Prim.Native.Nat.{ℕ, _≤_, _<_};
 ghost use lib.ListN.{length};
 ghost use Rattle.image.specs.Check.{refusalOf};
 ghost use Rattle.character.specs.Read.{TokenTableOf};
-ghost use Rattle.scan.specs.Counted.{countThrough};
+ghost use Rattle.grammar.specs.Counted.{countThrough};
 ghost use Rattle.count.specs.Counting.{CountingAs, CountedTo, finishedBy};
 ghost use Rattle.count.specs.Turns.{countStates, countTurnOf, countAfterOf, countWaitingOf, countPendingOf, countBeside, stateBeside, markBeside, refusedBeside, turnTable, afterTable, waitingTable};
 use character::Memo;
+use grammar::Counted;
 use refusal::Refusal;
-use scan::Counted;
 
 // The state: nothing yet, 0; an identifier; a medial Syntax right after one, 2; blanks, 3; line ends, 4; a mark after an identifier;
 // another Syntax, 6; another mark, 7; a mark after such a medial; a medial Syntax after a mark after an identifier; an identifier with a
@@ -489,7 +489,7 @@ pub fn count_from<'a>(
         let c = character::read_for_tokens(image, table, memo, text, at);
         let len = c.len;
         if len == 0 {
-            return Going::Refused(scan::refuse_at(text, at));
+            return Going::Refused(grammar::refuse_at(text, at));
         }
         memo = c.memo;
         let next = at + len;
@@ -508,7 +508,7 @@ pub fn count_from<'a>(
         }
         if turn == SETTLES {
             if state == WAITING {
-                return Going::Refused(scan::refuse_at(text, mid));
+                return Going::Refused(grammar::refuse_at(text, mid));
             }
             count += 1;
             state -= WAITING;
@@ -516,7 +516,7 @@ pub fn count_from<'a>(
             continue;
         }
         if JOINS < turn {
-            return Going::Refused(scan::refuse_at(text, at));
+            return Going::Refused(grammar::refuse_at(text, at));
         }
         count += count_beside(turn);
         mark = mark_beside(turn, mark, at);
@@ -541,7 +541,7 @@ pub fn finish(text: &[u8], run: Run) -> Counted
     ensures { λ r. ⌜ r ≡ finishedBy (now (text .entry)) run ⌝ }
 {
     if run.state == WAITING {
-        return Counted::Refused(scan::refuse_at(text, run.mid));
+        return Counted::Refused(grammar::refuse_at(text, run.mid));
     }
     if run.refused < text.len() {
         return Counted::Refused(Refusal::Mark(run.refused));

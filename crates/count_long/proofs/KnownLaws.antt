@@ -14,9 +14,9 @@ use Rattle.character.proofs.CharacterLaws.{read-ascii}
 use Rattle.grammar.specs.Step.{idle, under, held}
 use Rattle.grammar.specs.Record.{tokensWidth}
 use Rattle.blocks.specs.Blocks.{Shown}
-use Rattle.scan.specs.Turns.{afterOf}
-use Rattle.scan.proofs.TurnLaws.{Under, Stands}
-use Rattle.scan.proofs.ReachLaws.{Place, Here, here}
+use Rattle.turns.specs.Turns.{afterOf}
+use Rattle.turns.proofs.TurnLaws.{Under, Stands}
+use Rattle.turns.proofs.ReachLaws.{Place, Here, here}
 use Rattle.count.specs.Turns.{plainOf, countWaiting, countAfterOf, stateFor}
 use Rattle.count.specs.Counting.{Counting}
 use Rattle.count.proofs.BesideTurnLaws.{waits-plain}

@@ -9,8 +9,8 @@ use lib.Dec.{eqb, ltb}
 use borrow.Author.Tests.{eqb-true, lt-ltb}
 use Rattle.lists.specs.Each.{eachFrom, each, column}
 use Rattle.lists.proofs.EachLaws.{column-at}
-use Rattle.scan.specs.Turns.{turnOf, afterOf}
-use Rattle.scan.proofs.TableLaws.{rowsOf, rows-at}
+use Rattle.turns.specs.Turns.{turnOf, afterOf}
+use Rattle.turns.proofs.TableLaws.{rowsOf, rows-at}
 use Rattle.count.specs.Turns.{countTurnOf, countAfterOf, countWaitingOf}
 use Rattle.count_long.specs.Steps.{rowStates, rowState, stateRows, odd, stepBy, stepFor, stepTable}
 

@@ -6,13 +6,13 @@ ghost use Prim.Native.Nat.{_-_, _*_, _≤_, _<_};
 ghost use Rattle.image.specs.Check.{refusalOf};
 ghost use Rattle.character.specs.Read.{TokenTableOf};
 ghost use Rattle.blocks.specs.Blocks.{blockSize, blockCount, rowCount, Cached, Blank};
-ghost use Rattle.scan.specs.Counted.{countThrough};
+ghost use Rattle.grammar.specs.Counted.{countThrough};
 ghost use Rattle.count.specs.Turns.{countStates};
 ghost use Rattle.count.specs.Counting.{CountingAs};
 ghost use Rattle.count_long.specs.Steps.{rowStates, rowState, stateRows, stepFor, stepTable};
 use count::Going;
 use count::Run;
-use scan::Counted;
+use grammar::Counted;
 
 // A step from here on is none.
 const ODD: usize = 128;

@@ -11,3 +11,4 @@ pub mod Second
 pub mod Record
 pub mod Beside
 pub mod Reading
+pub mod Counted

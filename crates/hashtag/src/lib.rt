@@ -22,10 +22,10 @@ ghost use Rattle.hashtag.specs.Sign.{isSign};
 ghost use Rattle.hashtag.specs.Find.{runOf, hashtagsOf};
 ghost use Rattle.hashtag.specs.Listed.{spansWords, hashtagListOf, hashtagListWords, listedBy, countedThrough, closedBy};
 ghost use Rattle.hashtag.specs.Seek.{continuesFirst, freeAt, stopOf, StopsOf, Skipped, sumOf, Counted, CountedTo, Backed, signOf, Sought};
+use grammar::MAX_TEXT;
+use grammar::RECORD_WORDS;
 use image::Answer;
 use refusal::Refusal;
-use scan::MAX_TEXT;
-use scan::RECORD_WORDS;
 
 // The kind of a hashtag in its record.
 pub const HASHTAG: u32 = 6;
@@ -408,7 +408,7 @@ fn close(text: &[u8], at: usize, count: usize) -> Listed
     ensures { λ r. ⌜ r ≡ closedBy at count (textOf (drop at (now (text .entry)))) ⌝ }
 {
     if at < text.len() {
-        return Listed::Refused(scan::refuse_at(text, at));
+        return Listed::Refused(grammar::refuse_at(text, at));
     }
     Listed::Hashtags(count)
 }
@@ -453,7 +453,7 @@ fn write_hashtags<'a>(image: &'a [u8], table: &'a [u8; 128], text: &'a [u8], out
             return;
         }
         let end = find_end(image, table, text, sign.next);
-        scan::put_record(&mut out[w..], HASHTAG, sign.at, end, found.line);
+        grammar::put_record(&mut out[w..], HASHTAG, sign.at, end, found.line);
         w += RECORD_WORDS;
         at = sign.next;
         line = found.line;

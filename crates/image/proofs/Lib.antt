@@ -6,3 +6,6 @@ pub mod RoleLaws
 pub mod ReadLaws
 pub mod PermittedLaws
 pub mod AnswerLaws
+pub mod RisingLaws
+pub mod ClassLaws
+pub mod SectionLaws

@@ -6,6 +6,8 @@ pub mod Header
 pub mod Ranges
 pub mod Good
 pub mod Profile
+pub mod Records
+pub mod Placed
 pub mod Same
 pub mod Image
 pub mod Check

@@ -15,6 +15,8 @@ ghost use Rattle.image.specs.Profile.{pointAt, roleAt, goodEntryAlone, g
 ghost use Rattle.image.specs.Check.{refusalOf, acceptedOf, refusedBy, checkOf, readOf, wordsAfter};
 use refusal::Refusal;
 
+pub mod records;
+
 // The most ranges and profile entries that an image may have.
 pub const MAX_RANGES: usize = 4096;
 

@@ -1,1 +1,3 @@
-pub mod Input
+pub mod Front
+pub mod Script
+pub mod Images

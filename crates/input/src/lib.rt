@@ -1,8 +1,11 @@
-// Where an image at the front of a program's input ends.
-ghost use Rattle.input.specs.Input.{EndMeans};
+// What the programs do with their input: `script` an image and a text, `images` two images. Here: where an image at the front ends.
+ghost use Rattle.input.specs.Front.{EndMeans};
 use image::HEADER_BYTES;
 use image::MAX_IMAGE;
 use image::TOTAL_AT;
+
+pub mod images;
+pub mod script;
 
 // Where the image at the front of the input ends; 0 where it doesn't come whole.
 pub fn find_end(input: &[u8]) -> usize

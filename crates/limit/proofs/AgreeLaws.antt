@@ -17,21 +17,21 @@ use Rattle.image.proofs.LimitLaws.{header-still, same-refusal, same-check, same
 use Rattle.lookup.proofs.LimitLaws.{lookup-by}
 use Rattle.writer.proofs.LimitLaws.{answer-by-limits, bytes-by-limits}
 use Rattle.pair.proofs.LimitLaws.{pair-by}
-use Rattle.compare.specs.Judged.{judgedBy}
+use Rattle.pair.specs.Judged.{judgedBy}
 use Rattle.changes.specs.Answer.{answerWithin, changesBy, listedOf}
 use Rattle.changes.specs.declared.Changes.{Changes}
 use Rattle.changes.proofs.LimitLaws.{answer-by, runs-are, entries-are}
 use Rattle.changes.proofs.RoomLaws.{lists-both}
 use Rattle.changes.proofs.BoundLaws.{runs-by-limits, entries-by-records}
-use Rattle.input.specs.Input.{imageIn, restIn, WholeWithin}
-use Rattle.input.proofs.InputLaws.{means-whole, end-whole, sized-whole}
+use Rattle.input.specs.Front.{imageIn, restIn, WholeWithin}
+use Rattle.input.proofs.FrontLaws.{means-whole, end-whole, sized-whole}
 use Rattle.grammar.specs.Record.{listedWords, recordSize}
 use Rattle.grammar.specs.Reading.{outcomeWithin, countWithin, roomed, writtenWithin, listWithin, laidBy, listWordsWithin}
 use Rattle.token.specs.Taken.{takenWithin}
 use Rattle.hashtag.specs.Listed.{spansWords, foundWithin, hashtagsWrittenWithin, hashtagListWithin, hashtagWordsWithin}
-use Rattle.scan.specs.Counted.{countedBy}
-use Rattle.listing.specs.Input.{maxScript, scriptWithin, writtenFromWithin, listedWithin, wordsWithin as scriptWords, wholeAnswerWithin as wholeList}
-use Rattle.change_listing.specs.Input.{maxRunWords, maxEntryWordsWithin, answerFromWithin, wholeAnswerWithin as wholeChanges}
+use Rattle.grammar.specs.Counted.{countedBy}
+use Rattle.input.specs.Script.{maxScript, scriptWithin, writtenFromWithin, listedWithin, wordsWithin as scriptWords, wholeAnswerWithin as wholeList}
+use Rattle.input.specs.Images.{maxRunWords, maxEntryWordsWithin, answerFromWithin, wholeAnswerWithin as wholeChanges}
 use Rattle.limit.specs.Agree.{AgreeOnImage, AgreeOnPair, AgreeOnWriting, AgreeOnScript, AgreeOnChanges}
 
 module _ (k l : ℕ) where

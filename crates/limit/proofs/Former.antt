@@ -15,7 +15,7 @@ use Rattle.image.proofs.ImageLaws.{accepted}
 use Rattle.image.proofs.LimitLaws.{same-refusal, only-above}
 use Rattle.writer.specs.Writable.{Shaped}
 use Rattle.writer.proofs.LimitLaws.{answer-above, bytes-above}
-use Rattle.input.specs.Input.{imageIn, restIn}
+use Rattle.input.specs.Front.{imageIn, restIn}
 use Rattle.limit.specs.Former.{formerEntries, refusalAbove}
 use Rattle.limit.specs.Agree.{AgreeOnImage, AgreeOnPair, AgreeOnWriting, AgreeOnScript, AgreeOnChanges}
 use Rattle.limit.specs.Refuses.{RefusesWriting, RefusesImage}

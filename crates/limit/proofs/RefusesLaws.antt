@@ -21,16 +21,16 @@ use Rattle.pair.proofs.LimitLaws.{pair-by}
 use Rattle.changes.specs.declared.Changes.{Changes}
 use Rattle.changes.specs.declared.Changes.the-variants as changes
 use Rattle.changes.proofs.LimitLaws.{answer-by, runs-are, entries-are}
-use Rattle.input.specs.Input.{imageIn, restIn, WholeWithin}
-use Rattle.input.proofs.InputLaws.{means-whole, not-whole, dec-whole, end-whole, image-total, sized-whole}
+use Rattle.input.specs.Front.{imageIn, restIn, WholeWithin}
+use Rattle.input.proofs.FrontLaws.{means-whole, not-whole, dec-whole, end-whole, image-total, sized-whole}
 use Rattle.grammar.specs.Record.{recordSize, listedWords}
 use Rattle.grammar.specs.Reading.{outcomeWithin, countWithin, roomed, writtenWithin, listWithin, laidBy, listWordsWithin}
 use Rattle.token.specs.Taken.{takenWithin}
 use Rattle.hashtag.specs.Listed.{spansWords, foundWithin, hashtagsWrittenWithin, hashtagListWithin, hashtagWordsWithin}
-use Rattle.scan.specs.Counted.{countedBy}
-use Rattle.listing.specs.Input.{maxScript, scriptWithin, writtenFromWithin, listedWithin, wordsWithin as scriptWords, wholeAnswerWithin as wholeList}
-use Rattle.change_listing.specs.Input.{olderWithin, newerWithin, maxRunWords, maxEntryWordsWithin, wholeAnswerWithin as wholeChanges}
-use Rattle.change_listing.proofs.InputLaws.{cut-refused}
+use Rattle.grammar.specs.Counted.{countedBy}
+use Rattle.input.specs.Script.{maxScript, scriptWithin, writtenFromWithin, listedWithin, wordsWithin as scriptWords, wholeAnswerWithin as wholeList}
+use Rattle.input.specs.Images.{olderWithin, newerWithin, maxRunWords, maxEntryWordsWithin, wholeAnswerWithin as wholeChanges}
+use Rattle.input.proofs.ImagesLaws.{cut-refused}
 use Rattle.limit.specs.Former.{refusalAbove}
 use Rattle.limit.specs.Refuses.{RefusesChanges, RefusesScript, RefusesInput, RefusesImage}
 

@@ -13,8 +13,8 @@ use Rattle.changes.specs.Answer.{answerWithin, runsAfterWithin, entriesAfterWit
 use Rattle.grammar.specs.Reading.{countWithin, listWithin, listWordsWithin}
 use Rattle.token.specs.Taken.{takenWithin}
 use Rattle.hashtag.specs.Listed.{hashtagListWithin, hashtagWordsWithin}
-use Rattle.listing.specs.Input.{listedWithin, wordsWithin as scriptWords, wholeAnswerWithin as wholeList}
-use Rattle.change_listing.specs.Input.{answerFromWithin, runsFromWithin, entriesFromWithin, wholeAnswerWithin as wholeChanges}
+use Rattle.input.specs.Script.{listedWithin, wordsWithin as scriptWords, wholeAnswerWithin as wholeList}
+use Rattle.input.specs.Images.{answerFromWithin, runsFromWithin, entriesFromWithin, wholeAnswerWithin as wholeChanges}
 
 module _ (k l : ℕ) where
   -- the calls on one image

@@ -22,10 +22,10 @@ use Rattle.grammar.specs.Reading.{countWithin, listWithin, listWordsWithin}
 use Rattle.token.specs.Taken.{takenWithin}
 use Rattle.token.specs.declared.Taken.the-variants as taken
 use Rattle.hashtag.specs.Listed.{hashtagListWithin, hashtagWordsWithin}
-use Rattle.scan.specs.declared.Counted.the-variants as counted
-use Rattle.input.specs.Input.{imageIn, restIn}
-use Rattle.listing.specs.Input.{listedWithin, wordsWithin as scriptWords, wholeAnswerWithin as wholeList}
-use Rattle.change_listing.specs.Input.{answerFromWithin, runsFromWithin, entriesFromWithin, wholeAnswerWithin as wholeChanges}
+use Rattle.grammar.specs.declared.Counted.the-variants as counted
+use Rattle.input.specs.Front.{imageIn, restIn}
+use Rattle.input.specs.Script.{listedWithin, wordsWithin as scriptWords, wholeAnswerWithin as wholeList}
+use Rattle.input.specs.Images.{answerFromWithin, runsFromWithin, entriesFromWithin, wholeAnswerWithin as wholeChanges}
 
 module _ (limit : ℕ) where
   -- the writer, with 2, and the buffer stays

@@ -2,11 +2,11 @@
 ghost use Prim.Native.Nat.{_+_, _*_, _≤_};
 ghost use lib.ListN.{length};
 ghost use Rattle.grammar.specs.Record.{recordSize};
+use grammar::Counted;
+use grammar::RECORD_WORDS;
+use input::script::MAX_INPUT;
+use input::script::MAX_WORDS;
 use libc::STDIN_FILENO;
-use listing::MAX_INPUT;
-use listing::MAX_WORDS;
-use scan::Counted;
-use scan::RECORD_WORDS;
 
 // The kinds of tokens; the third is blanks.
 const IDENTIFIER: u32 = 1;
@@ -64,7 +64,7 @@ fn main() {
     let mut input = [0u8; MAX_INPUT];
     let n = io::read_full(STDIN_FILENO, &mut input);
     let mut words = [0u32; MAX_WORDS];
-    let counted = listing::list_read(&input, n, &mut words);
+    let counted = input::script::list_read(&input, n, &mut words);
     match counted {
         Counted::Refused(r) => {
             printing::print_refusal(r);

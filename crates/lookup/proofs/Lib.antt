@@ -1,6 +1,4 @@
 pub mod HalvingLaws
-pub mod RisingLaws
-pub mod ClassLaws
-pub mod RecordLaws
+pub mod SeekLaws
 pub mod LookupLaws
 pub mod LimitLaws

@@ -1,4 +1,4 @@
--- What each answer of a lookup says, exactly when; its count is at most 13, and a class after the profile at most 5. Assumes nothing.
+-- What each answer of a lookup says, exactly when; its count is at most 13. Assumes nothing.
 use Prim.Native.Nat.{ℕ, _≤_}
 use mathlib.Core.Path.{_≡_, refl, sym, ap, subst, _∙_}
 use mathlib.Core.Bool.{Bool, true, false, cond}
@@ -14,18 +14,18 @@ use Rattle.image.specs.Ranges.{rangeAt}
 use Rattle.image.specs.Profile.{pointAt, roleAt, afterRole}
 use Rattle.image.specs.Check.{refusalOf, classOf}
 use Rattle.image.proofs.ImageLaws.{refusal-means, means-refusal, accepted, refused-none}
-use Rattle.image.proofs.RoleLaws.{after-known}
-use Rattle.lookup.specs.declared.Section.the-variants.{Ranges, Entries}
+use Rattle.image.proofs.RisingLaws.{class-cases, class-of}
+use Rattle.image.proofs.SectionLaws.{fits, records-rise, class-by-sections}
+use Rattle.image.specs.Records.{entryRange, recordAt, recordCount, HasClass, held, in-none, HasRole, named, no-entry}
+use Rattle.image.specs.declared.records.Section.the-variants.{Ranges, Entries}
 use Rattle.lookup.specs.declared.Probe.{Probe}
 use Rattle.lookup.specs.declared.Found.{Found}
 use Rattle.lookup.specs.declared.Found.the-variants as found
-use Rattle.lookup.specs.Records.{entryRange, recordAt, recordCount}
 use Rattle.lookup.specs.Halving.{seekOf}
 use Rattle.lookup.specs.Lookup.{foundIn, lookupBy, lookupWithin, lookupOf}
-use Rattle.lookup.specs.Means.{HasClass, held, in-none, HasRole, named, no-entry, LookupMeans, image-refused, not-scalar, found-class}
+use Rattle.lookup.specs.Means.{LookupMeans, image-refused, not-scalar, found-class}
 use Rattle.lookup.proofs.HalvingLaws.{seek-thirteen}
-use Rattle.lookup.proofs.RisingLaws.{class-cases, class-of}
-use Rattle.lookup.proofs.RecordLaws.{fits, records-rise, found-at, range-known, class-by-sections}
+use Rattle.lookup.proofs.SeekLaws.{found-at}
 
 -- the answer by the image's refusal
 module _ (s : List ℕ) (x : ℕ) where
@@ -53,10 +53,6 @@ module _ (s : List ℕ) (x : ℕ) (a : refusalOf s ≡ none) where
       let v = ap (λ (z : Probe). z .class) f ∙ found-at s a Ranges x in
       let w = g ∙ (λ d. afterRole (u d) (v d)) ∙ sym (class-by-sections s x) in
       (λ d. found.Class (w d) (f d .count)) ∙ sym (scalar-class h)
-
--- the class after the profile is one of 0 to 5
-pub class-of-known : (s : List ℕ) (x : ℕ) → refusalOf s ≡ none → classOf s x ≤ 5
-class-of-known s x a = rw (class-by-sections s x) (after-known _ _ (range-known s a x))
 
 -- the role of x is that of the entry with this code point
 module _ (point role : ℕ → ℕ) (m x : ℕ) where

@@ -1,6 +1,6 @@
 -- What each answer of a lookup says, exactly when (docs/RULES.md, "The class image", "Lookup and its count"; refusals 1 to 4 and 9).
 -- `proofs/LookupLaws.antt` joins this to `lookupOf`.
-use Prim.Native.Nat.{ℕ, _≤_, _<_}
+use Prim.Native.Nat.{ℕ}
 use mathlib.Core.Path.{_≡_}
 use mathlib.Core.Bool.{true, false}
 use mathlib.Core.List.{List}
@@ -11,22 +11,12 @@ use Rattle.refusal.specs.declared.Refusal.the-variants as refusal
 use Rattle.image.specs.Header.{rangeCount, entryCount}
 use Rattle.image.specs.Ranges.{rangeAt}
 use Rattle.image.specs.Profile.{pointAt, roleAt, afterRole}
+use Rattle.image.specs.Records.{HasClass, HasRole}
 use Rattle.image.specs.Accepted.{Accepted}
 use Rattle.image.specs.Means.{RefusalMeans}
-use Rattle.image.specs.declared.Range.{Range}
 use Rattle.lookup.specs.Halving.{seekOf}
 use Rattle.lookup.specs.declared.Found.{Found}
 use Rattle.lookup.specs.declared.Found.the-variants as found
-
--- a class of x in n ranges: that of a range that holds x, or 0 where none does
-pub data HasClass (at : ℕ → Range) (n x : ℕ) : ℕ → Type 0 where
-  held : (i : ℕ) → i < n → at i .first ≤ x → x ≤ at i .last → HasClass at n x (at i .class)
-  in-none : ((i : ℕ) → i < n → at i .first ≤ x → x ≤ at i .last → ⊥) → HasClass at n x 0
-
--- a role of x in m profile entries: that of an entry with this code point, or 0 where none has it
-pub data HasRole (point role : ℕ → ℕ) (m x : ℕ) : ℕ → Type 0 where
-  named : (i : ℕ) → i < m → point i ≡ x → HasRole point role m x (role i)
-  no-entry : ((i : ℕ) → i < m → point i ≡ x → ⊥) → HasRole point role m x 0
 
 -- a refusal of the image; 9; or the class after the profile, and the number of steps of the halving rule
 pub data LookupMeans (s : List ℕ) (x : ℕ) : Found → Type 0 where

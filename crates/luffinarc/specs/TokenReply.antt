@@ -3,8 +3,8 @@ use Prim.Native.Nat.{ℕ}
 use mathlib.Core.List.{List, [], _∷_}
 use lib.ListN.{length, getD, take, drop}
 use Rattle.refusal.specs.Outcome.{Outcome, given, refused}
-use Rattle.scan.specs.declared.Counted.{Counted}
-use Rattle.scan.specs.declared.Counted.the-variants as counted
+use Rattle.grammar.specs.declared.Counted.{Counted}
+use Rattle.grammar.specs.declared.Counted.the-variants as counted
 use Rattle.token.specs.declared.Taken.{Taken}
 use Rattle.token.specs.declared.Taken.the-variants as taken
 use Rattle.hashtag.specs.declared.Listed.{Listed}

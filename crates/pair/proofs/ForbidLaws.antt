@@ -10,13 +10,13 @@ use Rattle.lists.proofs.FirstLaws.{first-is, first-none}
 use Rattle.utf8.specs.Scalar.{isScalar}
 use Rattle.image.specs.Check.{refusalOf, rangeClass}
 use Rattle.image.proofs.ImageLaws.{accepted}
-use Rattle.lookup.specs.declared.Section.the-variants.{Ranges}
-use Rattle.lookup.proofs.RecordLaws.{range-class}
-use Rattle.lookup.proofs.ClassLaws.{class-scalar}
-use Rattle.compare.specs.declared.Ahead.{Ahead}
-use Rattle.compare.specs.declared.Step.{Step}
-use Rattle.compare.specs.Walk.{AheadOf, Ready, StepOf, codePoints}
-use Rattle.compare.proofs.WalkLaws.{ready}
+use Rattle.image.specs.declared.records.Section.the-variants.{Ranges}
+use Rattle.image.proofs.SectionLaws.{range-class}
+use Rattle.image.proofs.ClassLaws.{class-scalar}
+use Rattle.pair.specs.declared.walk.Ahead.{Ahead}
+use Rattle.pair.specs.declared.walk.Step.{Step}
+use Rattle.pair.specs.Walk.{AheadOf, Ready, StepOf, codePoints}
+use Rattle.pair.proofs.WalkLaws.{ready}
 use Rattle.pair.specs.Change.{permitted}
 use Rattle.pair.specs.Pair.{forbiddenAt, firstForbidden}
 

@@ -1,3 +1,5 @@
+pub mod WalkLaws
+pub mod JudgedLaws
 pub mod ChangeLaws
 pub mod ForbidLaws
 pub mod RequiredLaws

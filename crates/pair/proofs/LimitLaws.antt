@@ -5,7 +5,7 @@ use mathlib.Core.List.{List}
 use mathlib.Core.Option.{Option}
 use Rattle.refusal.specs.declared.Refusal.{Refusal}
 use Rattle.image.specs.Check.{refusalWithin}
-use Rattle.compare.specs.Judged.{judgedBy}
+use Rattle.pair.specs.Judged.{judgedBy}
 use Rattle.pair.specs.Pair.{pairBy, pairWithin}
 
 pub pair-by :

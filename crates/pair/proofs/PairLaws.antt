@@ -22,8 +22,8 @@ use Rattle.image.specs.Same.{SameProfile}
 use Rattle.image.specs.Check.{refusalOf, rangeClass}
 use Rattle.image.specs.Accepted.{Accepted}
 use Rattle.image.proofs.ImageLaws.{accepted, refused-none, refusal-means, means-refusal}
-use Rattle.lookup.proofs.ClassLaws.{class-known}
-use Rattle.compare.specs.Judged.{judgedBy}
+use Rattle.image.proofs.ClassLaws.{class-known}
+use Rattle.pair.specs.Judged.{judgedBy}
 use Rattle.pair.specs.Change.{permitted}
 use Rattle.pair.specs.Means.{
   PermittedAt,
@@ -37,7 +37,7 @@ use Rattle.pair.specs.Means.{
   all-permitted,
 }
 use Rattle.pair.specs.Pair.{forbiddenAt, firstForbidden, differsAt, sameEntries, sameProfile, comparedOf, pairBy, pairWithin, pairOf}
-use Rattle.compare.specs.Walk.{codePoints}
+use Rattle.pair.specs.Walk.{codePoints}
 use Rattle.pair.specs.declared.Pair.{Pair}
 use Rattle.pair.specs.declared.Pair.the-variants as pair
 use Rattle.pair.proofs.ChangeLaws.{permitted-is, is-permitted}

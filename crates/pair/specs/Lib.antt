@@ -1,3 +1,5 @@
+pub mod Walk
+pub mod Judged
 pub mod Change
 pub mod Pair
 pub mod Required

@@ -11,10 +11,10 @@ use Rattle.image.specs.Limits.{maxEntries}
 use Rattle.image.specs.Header.{entryCount}
 use Rattle.image.specs.Profile.{pointAt, roleAt}
 use Rattle.image.specs.Check.{refusalWithin, rangeClass}
-use Rattle.compare.specs.declared.Judged.{Judged}
-use Rattle.compare.specs.declared.Judged.the-variants as judged
-use Rattle.compare.specs.Judged.{judgedBy}
-use Rattle.compare.specs.Walk.{codePoints}
+use Rattle.pair.specs.declared.Judged.{Judged}
+use Rattle.pair.specs.declared.Judged.the-variants as judged
+use Rattle.pair.specs.Judged.{judgedBy}
+use Rattle.pair.specs.Walk.{codePoints}
 use Rattle.pair.specs.Change.{permitted}
 use Rattle.pair.specs.declared.Pair.{Pair}
 use Rattle.pair.specs.declared.Pair.the-variants as pair

@@ -7,9 +7,9 @@ ghost use Rattle.image.specs.Limits.{entryBytes};
 ghost use Rattle.image.specs.Check.{refusalOf};
 ghost use Rattle.pair.specs.Change.{isContinueClass, permitted};
 ghost use Rattle.pair.specs.Pair.{firstForbidden, sameEntries, sameProfile, comparedOf, pairOf};
+ghost use Rattle.pair.specs.Judged.{judgedBy};
 ghost use Rattle.pair.specs.Required.{BothAccepted, EntriesFrom, wordsDiffer};
-use compare::CODE_POINTS;
-use compare::Judged;
+use image::Answer;
 use image::ENTRY_BYTES;
 use image::ENTRY_COUNT_AT;
 use image::HEADER_BYTES;
@@ -19,8 +19,18 @@ use image::RANGE_BYTES;
 use image::ROLE_AT;
 use image::START;
 use image::UNASSIGNED;
-use lookup::Section;
+use image::records::Section;
 use refusal::Refusal;
+use walk::CODE_POINTS;
+
+pub mod walk;
+
+// What judging two images gives: refusals 1 to 4 of the older, or of the newer, or none.
+pub enum Judged {
+    Older(Refusal),
+    Newer(Refusal),
+    Accepted,
+}
 
 // The answer of the pair check.
 pub enum Pair {
@@ -70,10 +80,10 @@ fn first_forbidden(older: &[u8], newer: &[u8], n: usize, m: usize) -> u32
     ensures { λ r. ⌜ r ≡ firstForbidden (now (older .entry)) (now (newer .entry)) ⌝ }
 {
     let mut x: u32 = 0;
-    let mut a = compare::look_ahead(older, Section::Ranges, n, 0, 0);
-    let mut b = compare::look_ahead(newer, Section::Ranges, m, 0, 0);
+    let mut a = walk::look_ahead(older, Section::Ranges, n, 0, 0);
+    let mut b = walk::look_ahead(newer, Section::Ranges, m, 0, 0);
     while x < CODE_POINTS {
-        let t = compare::walk_step(older, newer, Section::Ranges, n, m, a, b, x);
+        let t = walk::walk_step(older, newer, Section::Ranges, n, m, a, b, x);
         if is_permitted(t.older.class, t.newer.class) {
             a = t.older;
             b = t.newer;
@@ -136,8 +146,8 @@ fn compare_accepted(older: &[u8], newer: &[u8]) -> Pair
     requires { ⌜ refusalOf (now newer) ≡ none ⌝ }
     ensures { λ r. ⌜ r ≡ comparedOf (now (older .entry)) (now (newer .entry)) ⌝ }
 {
-    let n = lookup::count_records(older, Section::Ranges);
-    let m = lookup::count_records(newer, Section::Ranges);
+    let n = image::records::count_records(older, Section::Ranges);
+    let m = image::records::count_records(newer, Section::Ranges);
     if has_same_profile(older, newer, n, m) {
         let x = first_forbidden(older, newer, n, m);
         if x < CODE_POINTS {
@@ -148,11 +158,34 @@ fn compare_accepted(older: &[u8], newer: &[u8]) -> Pair
     Pair::Refused(Refusal::Profiles)
 }
 
+// Judges the older image wholly, then the newer.
+pub fn judge_both(older: &[u8], newer: &[u8]) -> Judged
+    ensures { λ r. ⌜ r ≡ judgedBy (refusalOf (now (older .entry))) (refusalOf (now (newer .entry))) ⌝ }
+{
+    let first = image::judge(older);
+    match first {
+        Answer::Refused(r) => Judged::Older(r),
+        Answer::Accepted {
+            version: _,
+            ranges: _,
+        } => {
+            let second = image::judge(newer);
+            match second {
+                Answer::Refused(r) => Judged::Newer(r),
+                Answer::Accepted {
+                    version: _,
+                    ranges: _,
+                } => Judged::Accepted,
+            }
+        }
+    }
+}
+
 // Whether the newer image differs from the older only by permitted changes.
 pub fn check_pair(older: &[u8], newer: &[u8]) -> Pair
     ensures { λ r. ⌜ r ≡ pairOf (now (older .entry)) (now (newer .entry)) ⌝ }
 {
-    let judged = compare::judge_both(older, newer);
+    let judged = judge_both(older, newer);
     match judged {
         Judged::Older(r) => Pair::Older(r),
         Judged::Newer(r) => Pair::Newer(r),

@@ -21,9 +21,9 @@ use Rattle.refusal.specs.Outcome.{Outcome, given, refused, unless, outcomeMap}
 use Rattle.grammar.specs.Record.{recordSize, roomOf, listedWords}
 use Rattle.grammar.specs.Reading.{maxText, readingOf, tokensOf, lengthRefusal, formRefusal, markRefusal, judged, outcomeWithin, outcomeOf, countWithin, countOf, roomed, laidBy, writtenWithin, writtenOf, listWithin, listOf, listWordsWithin, listWords}
 use Rattle.grammar.proofs.AnswerLaws.{counts-given, counts-refused, roomed-in, roomed-out}
-use Rattle.scan.specs.declared.Counted.{Counted}
-use Rattle.scan.specs.declared.Counted.the-variants as counted
-use Rattle.scan.specs.Counted.{countedBy, readThrough, countThrough}
+use Rattle.grammar.specs.declared.Counted.{Counted}
+use Rattle.grammar.specs.declared.Counted.the-variants as counted
+use Rattle.grammar.specs.Counted.{countedBy, readThrough, countThrough}
 
 by-refused : (o : Outcome ℕ) (r : Refusal) → counted.Refused r ≡ countedBy o → o ≡ refused r
 by-refused (given n) r e = impossible (cc)

@@ -23,9 +23,9 @@ use Rattle.grammar.specs.Division.{Division, ends, takes}
 use Rattle.grammar.specs.Grammar.{Kind, Token as TokenOf}
 use Rattle.grammar.specs.Reading.{maxText, meaningOf, readingOf, tokensOf}
 use Rattle.grammar.proofs.GrammarLaws.{fits, tokens-divide, tokens-unique}
-use Rattle.scan.specs.declared.First.{First}
-use Rattle.scan.specs.declared.First.the-variants as first
-use Rattle.scan.specs.First.{firstIn, firstBy, firstOf}
+use Rattle.turns.specs.declared.First.{First}
+use Rattle.turns.specs.declared.First.the-variants as first
+use Rattle.turns.specs.First.{firstIn, firstBy, firstOf}
 use Rattle.token.specs.declared.Taken.{Taken}
 use Rattle.token.specs.declared.Taken.the-variants.{Refused}
 use Rattle.token.specs.Taken.{takenOf}

@@ -25,10 +25,10 @@ use Rattle.grammar.specs.Record.{tokenWidth, tokensWidth}
 use Rattle.grammar.specs.Reading.{maxText, rulesOf, readingOf, tokensOf, lengthRefusal}
 use Rattle.grammar.proofs.ScanLaws.{reading-covers}
 use Rattle.grammar.proofs.RecordLaws.{tokens-width}
-use Rattle.scan.specs.declared.First.{First}
-use Rattle.scan.specs.declared.First.the-variants as first
-use Rattle.scan.specs.Counted.{stopRefusal}
-use Rattle.scan.specs.First.{firstIn, firstBy, firstOf}
+use Rattle.turns.specs.declared.First.{First}
+use Rattle.turns.specs.declared.First.the-variants as first
+use Rattle.grammar.specs.Counted.{stopRefusal}
+use Rattle.turns.specs.First.{firstIn, firstBy, firstOf}
 use Rattle.token.specs.declared.Taken.{Taken}
 use Rattle.token.specs.declared.Taken.the-variants.{Refused, Done, Token}
 use Rattle.token.specs.Taken.{placeRefusal, stopBy, stopOf, firstAt, tokenAt, takenWithin, takenOf}

@@ -9,16 +9,16 @@ ghost use Rattle.image.specs.Check.{refusalOf};
 ghost use Rattle.character.specs.Read.{TokenTableOf};
 ghost use Rattle.grammar.specs.Record.{roomOf};
 ghost use Rattle.grammar.specs.Reading.{maxText, countOf, listOf, listWords};
-ghost use Rattle.scan.specs.Counted.{countedBy};
+ghost use Rattle.grammar.specs.Counted.{countedBy};
 ghost use Rattle.token.specs.Taken.{takenOf};
 use blocks::BLOCKS;
 use blocks::CELLS;
+use grammar::Counted;
+use grammar::MAX_TEXT;
+use grammar::RECORD_WORDS;
 use image::Answer;
 use refusal::Refusal;
-use scan::Counted;
-use scan::First;
-use scan::MAX_TEXT;
-use scan::RECORD_WORDS;
+use turns::First;
 
 // From so many bytes on a text is long: what is known of its characters is kept, which takes 13 KB and some time to clear.
 const LONG: usize = 256;
@@ -155,10 +155,10 @@ pub fn take_checked<'a>(image: &'a [u8], text: &'a [u8], place: usize) -> Taken
         return Taken::Refused(Refusal::Shape);
     }
     let table = character::fill_token_table(image);
-    let first = scan::first_token(image, &table, &text[place..]);
+    let first = turns::first_token(image, &table, &text[place..]);
     match first {
         First::Nothing => Taken::Done,
-        First::IllFormed => Taken::Refused(scan::refuse_at(text, place)),
+        First::IllFormed => Taken::Refused(grammar::refuse_at(text, place)),
         First::NoToken => Taken::Refused(Refusal::Characters(place)),
         First::Token { kind, end } => Taken::Token {
             kind,

@@ -11,9 +11,9 @@ use Rattle.line.specs.Line.{lineOf, LineAt}
 use Rattle.grammar.specs.Step.{underWay}
 use Rattle.grammar.specs.Record.{recordSize, listedWords}
 use Rattle.grammar.specs.Reading.{maxText, readingOf, tokensOf}
-use Rattle.scan.specs.Turns.{waiting}
-use Rattle.scan.proofs.TurnLaws.{Tokens, Under}
-use Rattle.scan.proofs.ReachLaws.{Reached}
+use Rattle.turns.specs.Turns.{waiting}
+use Rattle.turns.proofs.TurnLaws.{Tokens, Under}
+use Rattle.turns.proofs.ReachLaws.{Reached}
 use Rattle.write.specs.declared.Run.{Run}
 
 -- the text is well-formed, and each of its characters is in a token

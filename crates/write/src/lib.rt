@@ -10,14 +10,14 @@ ghost use Rattle.image.specs.Check.{refusalOf};
 ghost use Rattle.character.specs.Read.{TokenTableOf};
 ghost use Rattle.grammar.specs.Record.{recordSize, listedWords};
 ghost use Rattle.grammar.specs.Reading.{maxText, readingOf, tokensOf};
-ghost use Rattle.scan.specs.declared.Counted.the-variants.{Tokens};
-ghost use Rattle.scan.specs.Turns.{turnTable, afterTable, waitingTable};
-ghost use Rattle.scan.specs.Counted.{countThrough};
+ghost use Rattle.grammar.specs.declared.Counted.the-variants.{Tokens};
+ghost use Rattle.turns.specs.Turns.{turnTable, afterTable, waitingTable};
+ghost use Rattle.grammar.specs.Counted.{countThrough};
 ghost use Rattle.write.specs.Bounds.{Accepted, HasRoom, Bounded, Kept, Wrote};
-use scan::RECORD_WORDS;
-use scan::SETTLES;
-use scan::WAITING;
-use scan::WAITS;
+use grammar::RECORD_WORDS;
+use turns::SETTLES;
+use turns::WAITING;
+use turns::WAITS;
 
 // How far the writing has come: the place, the state, the line of the place, and the first word after the records of the tokens that
 // have begun. In a state that waits, what the medial would be written as stands there.
@@ -57,7 +57,7 @@ pub fn begin<'a>(
     ensures { λ r. ⌜ Bounded (now (image .entry)) (now (text .entry)) (now (out .exit)) (r .state) (r .at) (r .line) (r .w) × Kept recordSize (now (out .entry)) (now (out .exit)) ⌝ }
 {
     let c = character::read_for_tokens(image, table, character::no_memo(), text, 0);
-    let state = scan::state_after(after, c.traits);
+    let state = turns::state_after(after, c.traits);
     out[0] = state;
     out[1] = 0;
     out[3] = 1;
@@ -101,7 +101,7 @@ pub fn write_from<'a>(
         }
         let c = character::read_for_tokens(image, table, memo, text, at);
         memo = c.memo;
-        let turn = scan::find_turn(turns, state, c.traits);
+        let turn = turns::find_turn(turns, state, c.traits);
         if turn == SETTLES {
             state -= WAITING;
             w += RECORD_WORDS;
@@ -109,17 +109,17 @@ pub fn write_from<'a>(
         }
         put_bound(
             &mut out[w - 2..],
-            scan::state_after(after, c.traits),
+            turns::state_after(after, c.traits),
             at,
             line,
         );
         at += c.len;
         line += line::count_end(text, c.code, at);
         if turn == WAITS {
-            state = scan::waiting_after(waiting, c.traits);
+            state = turns::waiting_after(waiting, c.traits);
             continue;
         }
-        state = scan::state_after(after, c.traits);
+        state = turns::state_after(after, c.traits);
         w += RECORD_WORDS * turn;
     }
     Run { at, state, line, w }
@@ -143,9 +143,9 @@ pub fn write_tokens<'a>(
     if count == 0 {
         return;
     }
-    let turns = scan::TURNS;
-    let after = scan::AFTER;
-    let waiting = scan::WAITING_AFTER;
+    let turns = turns::TURNS;
+    let after = turns::AFTER;
+    let waiting = turns::WAITING_AFTER;
     let limit = RECORD_WORDS * count;
     let run = begin(image, table, &after, text, out);
     let _last = write_from(

@@ -1,4 +1,4 @@
--- The steps of the hot loop are the turns of `scan`, and each keeps what `write` has of the words that stand. Assumes nothing.
+-- The steps of the hot loop are the turns of `turns`, and each keeps what `write` has of the words that stand. Assumes nothing.
 use Prim.Native.Nat.{ℕ, zero, suc, _+_, _*_, _/_, _%_, _≤_, _<_}
 use mathlib.Core.Path.{_≡_, refl, sym, ap, subst, _∙_}
 use mathlib.Core.Bool.{Bool, true, false, cond}
@@ -28,9 +28,9 @@ use Rattle.blocks.specs.Blocks.{StandsAt}
 use Rattle.grammar.specs.White.{blank, lineEnd, mark, whiteOf, isMark}
 use Rattle.grammar.specs.Grammar.{identifier, syntax, whitespace}
 use Rattle.grammar.specs.Record.{recordSize}
-use Rattle.scan.specs.Turns.{Phase, nothing, within, waits, states, traitMeaning, phaseNamed, turnBy, waitingOf, turnOf, afterOf}
-use Rattle.scan.proofs.TableLaws.{rowsOf, rows-at}
-use Rattle.scan.proofs.ReachLaws.{Place, Here, Look}
+use Rattle.turns.specs.Turns.{Phase, nothing, within, waits, states, traitMeaning, phaseNamed, turnBy, waitingOf, turnOf, afterOf}
+use Rattle.turns.proofs.TableLaws.{rowsOf, rows-at}
+use Rattle.turns.proofs.ReachLaws.{Place, Here, Look}
 use Rattle.write.specs.declared.Run.{Run}
 use Rattle.write.specs.Bounds.{Accepted, ToldTo, Bounded, Kept}
 use Rattle.write.proofs.BoundLaws.{Put, stands-here, bounded-turn, bounded-waits}

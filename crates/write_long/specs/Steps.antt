@@ -8,7 +8,7 @@ use lib.ListN.{length, getD}
 use lib.Dec.{eqb}
 use Rattle.line.specs.Line.{isLineEnd}
 use Rattle.character.specs.Traits.{tokenTraits}
-use Rattle.scan.specs.Turns.{waitingOf, turnOf, afterOf}
+use Rattle.turns.specs.Turns.{waitingOf, turnOf, afterOf}
 
 -- the number of LINE FEED in the hot loop's table, where it is a line end of White and no medial; other line ends are not told
 abbrev pub feedRow : ℕ

@@ -11,12 +11,12 @@ ghost use Rattle.character.specs.Read.{TokenTableOf};
 ghost use Rattle.blocks.specs.Blocks.{Cached};
 ghost use Rattle.grammar.specs.Record.{recordSize, listedWords};
 ghost use Rattle.grammar.specs.Reading.{maxText, readingOf};
-ghost use Rattle.scan.specs.declared.Counted.the-variants.{Tokens};
-ghost use Rattle.scan.specs.Turns.{afterTable};
-ghost use Rattle.scan.specs.Counted.{countThrough};
+ghost use Rattle.grammar.specs.declared.Counted.the-variants.{Tokens};
+ghost use Rattle.turns.specs.Turns.{afterTable};
+ghost use Rattle.grammar.specs.Counted.{countThrough};
 ghost use Rattle.write.specs.Bounds.{HasRoom, Bounded, Wrote};
 ghost use Rattle.write_long.specs.Steps.{QuickOf, stepTable, rowStates, rowState};
-use scan::RECORD_WORDS;
+use grammar::RECORD_WORDS;
 use write::Run;
 
 // Steps from this one on are not known here.
@@ -398,9 +398,9 @@ pub fn write_long<'a>(
     if count == 0 {
         return;
     }
-    let turns = scan::TURNS;
-    let after = scan::AFTER;
-    let waiting = scan::WAITING_AFTER;
+    let turns = turns::TURNS;
+    let after = turns::AFTER;
+    let waiting = turns::WAITING_AFTER;
     let steps = STEPS;
     let states = ROW_STATES;
     let rows_of = STATE_ROWS;

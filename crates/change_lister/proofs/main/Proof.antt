@@ -1,6 +1,6 @@
 -- `change_lister::main` is safe: the changes that were listed have their words in the buffers. Assumes nothing.
 use native.Mathlib.Omega.{arith}
-use Rattle.change_listing.proofs.MeansLaws.{listed-fits}
+use Rattle.input.proofs.ImagesMeansLaws.{listed-fits}
 use borrow.Author.Needs.{needs}
 use Rattle.change_lister.proofs.main.Statement.{statement}
 use Rattle.change_lister.proofs.main.Tie as tie

@@ -3,8 +3,8 @@ use Prim.Native.Nat.{_-_}
 use mathlib.Core.Logic.{⊎-elim}
 use native.Mathlib.Omega.{arith}
 use borrow.Author.Needs.{needs}
-use Rattle.compare.proofs.WalkLaws.{walk-begins}
-use Rattle.compare.specs.Walk.{codePoints}
+use Rattle.pair.proofs.WalkLaws.{walk-begins}
+use Rattle.pair.specs.Walk.{codePoints}
 use Rattle.changes.proofs.LoopLaws.{changed, unchanged, Counting, counting-begins, counting-passed, counting-next, counting-ends}
 use Rattle.changes.proofs.count_changes.Statement.{statement}
 use Rattle.changes.proofs.count_changes.Tie as tie

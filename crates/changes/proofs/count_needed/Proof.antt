@@ -4,7 +4,7 @@ use mathlib.Core.Path.{_∙_}
 use native.Mathlib.Omega.{arith}
 use borrow.Author.Needs.{needs}
 use lib.ListN.{length}
-use Rattle.lookup.proofs.RecordLaws.{few-records}
+use Rattle.image.proofs.SectionLaws.{few-records}
 use Rattle.changes.specs.Answer.{changesOf}
 use Rattle.changes.proofs.BoundLaws.{few-changes}
 use Rattle.changes.proofs.RoomLaws.{all-needed, needed-none}

@@ -4,7 +4,7 @@ use mathlib.Core.Path.{refl, sym, ap, _∙_}
 use lib.ListN.{length}
 use borrow.Author.Needs.{needs}
 use Rattle.refusal.specs.declared.Refusal.the-variants as refusal
-use Rattle.lookup.specs.declared.Section.the-variants.{Ranges, Entries}
+use Rattle.image.specs.declared.records.Section.the-variants.{Ranges, Entries}
 use Rattle.changes.specs.ChangeList.{runsOf, entriesOf}
 use Rattle.changes.specs.declared.Changes.the-variants as changes
 use Rattle.changes.proofs.RoomLaws.{needed, none-needed, words-suffice, lacks-runs, lacks-entries, lists-both}

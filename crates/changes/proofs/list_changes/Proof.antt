@@ -1,6 +1,6 @@
 -- `changes::list_changes` meets its contract. Assumes nothing.
 use mathlib.Core.Path.{refl, sym, _∙_}
-use Rattle.compare.proofs.JudgedLaws.{both-accepted}
+use Rattle.pair.proofs.JudgedLaws.{both-accepted}
 use Rattle.changes.proofs.RoomLaws.{answered-by}
 use borrow.Author.Needs.{needs}
 use Rattle.changes.proofs.list_changes.Statement.{statement}

@@ -4,8 +4,8 @@ use mathlib.Core.Logic.{⊎-elim}
 use native.Mathlib.Omega.{arith}
 use borrow.Author.Needs.{needs}
 use lib.ListN.{length, length-take, length-drop}
-use Rattle.compare.proofs.WalkLaws.{walk-begins}
-use Rattle.compare.specs.Walk.{codePoints}
+use Rattle.pair.proofs.WalkLaws.{walk-begins}
+use Rattle.pair.specs.Walk.{codePoints}
 use Rattle.changes.specs.Answer.{changeSize}
 use Rattle.changes.proofs.LoopLaws.{changed, unchanged, Writing, counting-ends, writing-begins, writing-passed, change-fits, writing-next, writing-ends}
 use Rattle.changes.proofs.write_changes.Statement.{statement}

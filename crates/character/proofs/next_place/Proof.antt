@@ -3,9 +3,9 @@ use Prim.Native.Nat.{_-_}
 use mathlib.Core.Path.{_≡_}
 use native.Mathlib.Omega.{arith}
 use borrow.Author.Needs.{needs}
-use Rattle.lookup.specs.Records.{recordAt, recordCount}
-use Rattle.lookup.specs.Placed.{Passed}
-use Rattle.lookup.proofs.RecordLaws.{few-records}
+use Rattle.image.specs.Records.{recordAt, recordCount}
+use Rattle.image.specs.Placed.{Passed}
+use Rattle.image.proofs.SectionLaws.{few-records}
 use Rattle.character.proofs.PlaceLaws.{passed-next, placed-here}
 use Rattle.character.proofs.next_place.Statement.{statement}
 use Rattle.character.proofs.next_place.Tie as tie

@@ -4,8 +4,8 @@ use mathlib.Core.Path.{_≡_}
 use mathlib.Core.Option.{none}
 use native.Mathlib.Omega.{arith}
 use Rattle.image.specs.Check.{refusalOf}
-use Rattle.lookup.specs.Records.{recordAt, recordCount}
-use Rattle.lookup.proofs.RecordLaws.{few-records}
+use Rattle.image.specs.Records.{recordAt, recordCount}
+use Rattle.image.proofs.SectionLaws.{few-records}
 use Rattle.character.proofs.PlaceLaws.{Between, between-begins, between-above, between-below, between-placed}
 use borrow.Author.Needs.{needs}
 use Rattle.character.proofs.place_of.Statement.{statement}

@@ -6,10 +6,10 @@ use native.Mathlib.Omega.{arith}
 use borrow.Author.Needs.{needs}
 use lib.ListN.{length}
 use Rattle.character.specs.Read.{MemoOf}
-use Rattle.scan.specs.declared.Counted.the-variants.{Refused}
+use Rattle.grammar.specs.declared.Counted.the-variants.{Refused}
 use Rattle.count.specs.Turns.{countWaiting, countAfterOf, refusedBeside}
 use Rattle.count.specs.Counting.{Counting}
-use Rattle.scan.proofs.ReachLaws.{Here, here, here-small}
+use Rattle.turns.proofs.ReachLaws.{Here, here, here-small}
 use Rattle.count.proofs.CountLaws.{
   CountLook,
   counting-few,

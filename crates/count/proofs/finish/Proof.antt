@@ -4,7 +4,7 @@ use mathlib.Core.Path.{ap}
 use native.Mathlib.Omega.{arith}
 use borrow.Author.Needs.{needs}
 use borrow.Author.Tests.{eq-eqb, ne-eqb, lt-ltb, le-ltb}
-use Rattle.scan.specs.declared.Counted.the-variants.{Refused, Tokens}
+use Rattle.grammar.specs.declared.Counted.the-variants.{Refused, Tokens}
 use Rattle.count.specs.Turns.{countWaiting}
 use Rattle.count.proofs.CountLaws.{pending-two}
 use Rattle.count.proofs.finish.Statement.{statement}

@@ -5,7 +5,7 @@ use mathlib.Core.Path.{refl, sym}
 use native.Mathlib.Omega.{arith}
 use borrow.Author.Needs.{needs}
 use lib.ListN.{length}
-use Rattle.scan.proofs.ReachLaws.{Here, here-small}
+use Rattle.turns.proofs.ReachLaws.{Here, here-small}
 use Rattle.count.specs.Counting.{Counting}
 use Rattle.count.proofs.CountLaws.{counting-few, counting-same}
 use Rattle.count_long.specs.Steps.{rowState}

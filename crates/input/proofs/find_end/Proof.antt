@@ -1,6 +1,6 @@
 -- `input::find_end` meets its contract. Assumes nothing.
 use native.Mathlib.Omega.{arith}
-use Rattle.input.specs.Input.{no-end, whole-end}
+use Rattle.input.specs.Front.{no-end, whole-end}
 use borrow.Author.Needs.{needs}
 use Rattle.input.proofs.find_end.Statement.{statement}
 use Rattle.input.proofs.find_end.Tie as tie

@@ -3,14 +3,14 @@ use Prim.Native.Nat.{ℕ, _<_, _-_}
 use mathlib.Core.Path.{sym, _∙_}
 use native.Mathlib.Omega.{arith}
 use Rattle.lookup.proofs.HalvingLaws.{seek-none, seek-low, seek-high, seek-here, seek-fits}
-use Rattle.lookup.proofs.RecordLaws.{few-records}
+use Rattle.image.proofs.SectionLaws.{few-records}
 use borrow.Fn.Kinds.{In}
 use borrow.Fn.PlainCycle.{Measures, is, falls, and}
 use Rattle.lookup.proofs.seek.Reads as seek
 use Rattle.lookup.proofs.seek.Kinds as seek-kinds
 use Rattle.lookup.proofs.+seek.Lts-seek as lts
 use Rattle.lookup.proofs.add_step.Reads as add-step-reads
-use Rattle.lookup.proofs.record_at.Reads as record-at-reads
+use Rattle.image.proofs.records.record_at.Reads as record-at-reads
 use Rattle.lookup.proofs.+seek.{statement}
 use Rattle.lookup.proofs.+seek.Tie.{close}
 

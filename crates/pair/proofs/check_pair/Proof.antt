@@ -1,6 +1,6 @@
 -- `pair::check_pair` meets its contract. Assumes nothing.
 use mathlib.Core.Path.{sym, _∙_}
-use Rattle.compare.proofs.JudgedLaws.{both-accepted}
+use Rattle.pair.proofs.JudgedLaws.{both-accepted}
 use Rattle.pair.specs.Pair.{pairWithin}
 use borrow.Author.Needs.{needs}
 use Rattle.pair.proofs.check_pair.Statement.{statement}

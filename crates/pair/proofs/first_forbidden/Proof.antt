@@ -3,9 +3,9 @@ use Prim.Native.Nat.{_-_}
 use mathlib.Core.Path.{sym, _∙_}
 use native.Mathlib.Omega.{arith}
 use borrow.Author.Needs.{needs}
-use Rattle.lookup.specs.declared.Section.the-variants.{Ranges}
-use Rattle.compare.proofs.WalkLaws.{walk-begins}
-use Rattle.compare.specs.Walk.{codePoints}
+use Rattle.image.specs.declared.records.Section.the-variants.{Ranges}
+use Rattle.pair.proofs.WalkLaws.{walk-begins}
+use Rattle.pair.specs.Walk.{codePoints}
 use Rattle.pair.proofs.ForbidLaws.{Clear, clear-begin, clear-next, clear-here, clear-end}
 use Rattle.pair.proofs.first_forbidden.Statement.{statement}
 use Rattle.pair.proofs.first_forbidden.Tie as tie

@@ -3,8 +3,8 @@ use mathlib.Core.Path.{_≡_, sym, ap, _∙_}
 use native.Mathlib.Omega.{arith}
 use lib.ListN.{drop, length-drop}
 use Rattle.lists.proofs.LaidLaws.{rest}
-use Rattle.scan.specs.declared.First.{First}
-use Rattle.scan.specs.First.{firstOf}
+use Rattle.turns.specs.declared.First.{First}
+use Rattle.turns.specs.First.{firstOf}
 use Rattle.token.specs.declared.Taken.the-variants.{Refused}
 use Rattle.token.specs.Taken.{takenOf}
 use Rattle.token.proofs.TakenLaws.{takenBy, stops-ill, taken-long, taken-past, taken-first, first-within}

@@ -11,7 +11,7 @@ use Rattle.utf8.specs.Text.{charactersAt}
 use Rattle.line.specs.Line.{endsLine, one}
 use Rattle.grammar.proofs.FewLaws.{few-tokens}
 use Rattle.line.proofs.LineLaws.{one-at-most, line-begins, line-counted}
-use Rattle.scan.proofs.ReachLaws.{Here, here-small, reached-begins}
+use Rattle.turns.proofs.ReachLaws.{Here, here-small, reached-begins}
 use Rattle.write.proofs.BoundLaws.{read-here, bounded-begins}
 use Rattle.write.proofs.begin.Statement.{statement}
 use Rattle.write.proofs.begin.Tie as tie

@@ -13,7 +13,7 @@ use Rattle.utf8.specs.Head.{stepOf}
 use Rattle.line.specs.Line.{LineAt}
 use Rattle.line.proofs.LineLaws.{line-counted, counted-few}
 use Rattle.grammar.specs.Record.{recordSize}
-use Rattle.scan.proofs.ReachLaws.{Here, here-small, Look, settles-here}
+use Rattle.turns.proofs.ReachLaws.{Here, here-small, Look, settles-here}
 use Rattle.write.specs.Bounds.{Bounded, Kept}
 use Rattle.write.proofs.BoundLaws.{Put, put-lent, kept-put, part-six, read-here, turn-few, settled-some, bounded-less, bounded-fits, bounded-settles, bounded-turn, bounded-waits}
 use Rattle.write.proofs.write_from.Statement.{statement}

@@ -14,9 +14,9 @@ use Rattle.line.specs.Line.{isLineEnd, LineAt}
 use Rattle.line.proofs.LineLaws.{line-few, line-passes}
 use Rattle.grammar.specs.Record.{recordSize}
 use Rattle.blocks.specs.Blocks.{Shown}
-use Rattle.scan.specs.Turns.{afterOf}
-use Rattle.scan.proofs.TableLaws.{after-at}
-use Rattle.scan.proofs.ReachLaws.{Here}
+use Rattle.turns.specs.Turns.{afterOf}
+use Rattle.turns.proofs.TableLaws.{after-at}
+use Rattle.turns.proofs.ReachLaws.{Here}
 use Rattle.write.specs.Bounds.{Bounded, Kept}
 use Rattle.write.proofs.BoundLaws.{Put, put-lent, part-six, kept-put, bounded-fits}
 use Rattle.write_long.specs.Steps.{QuickAt, rowState, plainTraits, stepFor}

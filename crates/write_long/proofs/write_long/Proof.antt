@@ -8,7 +8,7 @@ use lib.ListN.{length, length-set}
 use borrow.Author.Needs.{needs}
 use Rattle.grammar.specs.Record.{recordSize}
 use Rattle.grammar.specs.Reading.{tokensOf}
-use Rattle.scan.specs.Turns.{afterTable}
+use Rattle.turns.specs.Turns.{afterTable}
 use Rattle.write.specs.Bounds.{Accepted, HasRoom, Bounded, Kept}
 use Rattle.write.proofs.BoundLaws.{bounded-less, counted, none-written, kept-after, all-told, all-written}
 use Rattle.write_long.specs.Steps.{rowStates, stepTable}

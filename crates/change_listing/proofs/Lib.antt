@@ -1,3 +1,0 @@
-pub mod InputLaws
-pub mod MeansLaws
-pub mod ReachLaws

@@ -1,0 +1,56 @@
+-- A walk over a section of two images side by side, from code point 0 up (docs/RULES.md, "Permitted changes", "What changed").
+use Prim.Native.Nat.{ℕ, _+_, _≤_, _<_}
+use mathlib.Core.Path.{_≡_}
+use mathlib.Core.List.{List}
+use mathlib.Core.Option.{none}
+use Rattle.image.specs.Limits.{lastCodePoint}
+use Rattle.image.specs.Check.{refusalOf}
+use Rattle.image.specs.declared.records.Section.{Section}
+use Rattle.image.specs.declared.records.Section.the-variants.{Ranges, Entries}
+use Rattle.image.specs.Records.{recordAt, recordCount, sectionClass}
+use Rattle.image.specs.Placed.{Placed}
+use Rattle.pair.specs.declared.walk.Ahead.{Ahead}
+use Rattle.pair.specs.declared.walk.Step.{Step}
+
+-- one more than the last code point
+abbrev pub codePoints : ℕ
+codePoints = lastCodePoint + 1
+
+-- s is an accepted image, and i is the place of x among the records of a section
+pub record Walk (s : List ℕ) (section : Section) (i x : ℕ) : Type 0 where
+  pub accepted : refusalOf s ≡ none
+  pub place : Placed (recordAt s section) (recordCount s section) i x
+
+-- why a walk stops at `last`: in the ranges another class follows, since none touches its like; a role is that of one code point
+abbrev pub Stops : List ℕ → Section → ℕ → ℕ → ℕ → Type 0
+Stops s Ranges x last class = last < lastCodePoint → sectionClass s Ranges (last + 1) ≡ class → ⊥
+Stops s Entries x last class = (class ≡ 0 → ⊥) → last ≡ x
+
+-- the code points from x to the last one of r have its class, and the walk goes on after the last
+pub record AheadOf (s : List ℕ) (section : Section) (x : ℕ) (r : Ahead) : Type 0 where
+  pub from : x ≤ r .last
+  pub to : r .last ≤ lastCodePoint
+  pub same : (y : ℕ) → x ≤ y → y ≤ r .last → sectionClass s section y ≡ r .class
+  pub stops : Stops s section x (r .last) (r .class)
+  pub next : Walk s section (r .next) (r .last + 1)
+
+-- a walk at x: the rest of r is ahead, or what follows r
+pub record Ready (s : List ℕ) (section : Section) (x : ℕ) (r : Ahead) : Type 0 where
+  pub within : x ≤ r .last → AheadOf s section x r
+  pub past : r .last < x → Walk s section (r .next) x
+
+-- where the two classes differ: in the ranges, the next code point has not the same two; a change of role is that of one code point
+abbrev pub StopsBoth : List ℕ → List ℕ → Section → ℕ → Step → Type 0
+StopsBoth older newer Ranges x r =
+    sectionClass older Ranges (r .last + 1) ≡ r .older .class → sectionClass newer Ranges (r .last + 1) ≡ r .newer .class → ⊥
+StopsBoth older newer Entries x r = r .last ≡ x
+
+-- the code points from x to the last one of r have one class in each of two images, and the walk goes on after the last
+pub record StepOf (older newer : List ℕ) (section : Section) (x : ℕ) (r : Step) : Type 0 where
+  pub from : x ≤ r .last
+  pub to : r .last ≤ lastCodePoint
+  pub older-same : (y : ℕ) → x ≤ y → y ≤ r .last → sectionClass older section y ≡ r .older .class
+  pub newer-same : (y : ℕ) → x ≤ y → y ≤ r .last → sectionClass newer section y ≡ r .newer .class
+  pub stops : (r .older .class ≡ r .newer .class → ⊥) → StopsBoth older newer section x r
+  pub older-next : Ready older section (r .last + 1) (r .older)
+  pub newer-next : Ready newer section (r .last + 1) (r .newer)

@@ -1,3 +1,0 @@
-pub mod Turns
-pub mod Counted
-pub mod First
