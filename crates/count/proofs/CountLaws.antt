@@ -36,9 +36,10 @@ use Rattle.grammar.proofs.GrammarLaws.{tokens-divide}
 use Rattle.grammar.proofs.RecordLaws.{tokens-append}
 use Rattle.grammar.proofs.StepLaws.{Settles}
 use Rattle.grammar.proofs.BesideLaws.{placeOf, viewOf, view-snoc, refused-append, beside-second}
-use Rattle.grammar.specs.declared.Counted.the-variants.{Refused, Tokens as Counted}
+use Rattle.grammar.specs.declared.Counted.the-variants.{Refused, Records as Counted}
 use Rattle.turns.specs.Turns.{numberBy, waiting, traitMeaning, turnOf, afterOf, waitingOf}
-use Rattle.grammar.specs.Counted.{countedBy, readThrough, countThrough, stopRefusal}
+use Rattle.grammar.specs.Reading.{readThrough}
+use Rattle.grammar.specs.Counted.{countedBy, countThrough, stopRefusal}
 use Rattle.turns.proofs.TurnLaws.{Tokens, Under, L, Stands, kind-less, number-less, Going, Comes, first, grown, passed, begun, doneBy, left}
 use Rattle.turns.proofs.ReachLaws.{Place, Here, Look, at-end, Reached, reached-begins, After, complete-few, after-settling, left-settled, settles-none, read-end, after-turn, after-waiting, settles-here, left-here}
 use Rattle.count.specs.Turns.{Side, free, ofIdentifier, ofMedial, ofIdentifierMark, ofMedialMark, ofMarkMedial, placed, sideNamed, plainOf, viewBy, goesBy, countTurnOf, countWaiting, countStates, countAfterOf, countWaitingOf, countPendingOf, countBeside, stateBeside, markBeside, refusedBeside, stateFor}

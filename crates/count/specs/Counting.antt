@@ -15,7 +15,7 @@ use Rattle.grammar.specs.Reading.{meaningOf}
 use Rattle.grammar.proofs.BesideLaws.{viewOf}
 use Rattle.character.specs.Read.{MemoOf}
 use Rattle.grammar.specs.declared.Counted.{Counted}
-use Rattle.grammar.specs.declared.Counted.the-variants.{Refused, Tokens as Complete}
+use Rattle.grammar.specs.declared.Counted.the-variants.{Refused, Records as Complete}
 use Rattle.grammar.specs.Counted.{countThrough, stopRefusal}
 use Rattle.turns.proofs.TurnLaws.{Tokens, Under}
 use Rattle.turns.proofs.ReachLaws.{Reached}

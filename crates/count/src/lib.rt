@@ -547,7 +547,7 @@ pub fn finish(text: &[u8], run: Run) -> Counted
         return Counted::Refused(Refusal::Mark(run.refused));
     }
     let all = run.count + count_pending(run.state);
-    Counted::Tokens(all)
+    Counted::Records(all)
 }
 
 // The number of tokens.

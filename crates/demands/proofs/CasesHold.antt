@@ -15,25 +15,26 @@ use Rattle.image.specs.Check.{recordsRefusal, refusalWithin, rangeClass, entryR
 use Rattle.grammar.specs.White.{isMark, whiteOf}
 use Rattle.grammar.specs.Scan.{walk}
 use Rattle.grammar.specs.Second.{partsStill, refusesMark, firstRefused}
-use Rattle.grammar.specs.Reading.{meaningOf, readingOf, lengthRefusal, markRefusal, outcomeWithin, outcomeOf}
+use Rattle.grammar.specs.Before.{lengthRefusal, beforeWithin}
+use Rattle.grammar.specs.Reading.{meaningOf, readingOf, markRefusal, readThrough, outcomeWithin, outcomeOf}
 use Rattle.hashtag.specs.Sign.{isSign, isHashtagContinue}
 use Rattle.hashtag.specs.Find.{runOf, hashtagsFrom, hashtagsOf}
 use Rattle.hashtag.specs.Listed.{hashtagsThrough, foundWithin, hashtagsFound}
 use Rattle.demands.specs.Cases.{Case, M, M2, P, N, K, K1, K2, K3, K4, K5, K6, K7, K8, cases, lineCases, markCases, hashtagCases, numbersOf, hashtagNumbersOf}
 
 pub cases-hold : map (λ (c : Case). numbersOf (c .text) (outcomeOf (c .image) (c .text))) cases ≡ map (λ (c : Case). c .answer) cases
-unfolding firstFrom firstWhere isScalar subpartOf stepOf decodeIn decode textOf wordAt lengthWithin headerWithin rangeAt goodAlone follows goodRange firstBadRange classIn pointAt roleAt goodEntryAlone goodEntry firstBadEntry roleBy afterRole isMedial recordsRefusal refusalWithin rangeClass entryRole classOf medialOf isMark whiteOf walk partsStill refusesMark firstRefused meaningOf readingOf lengthRefusal markRefusal outcomeWithin isLineEnd endsLine lineEnds lineOf M M2 P cases
+unfolding firstFrom firstWhere isScalar subpartOf stepOf decodeIn decode textOf wordAt lengthWithin headerWithin rangeAt goodAlone follows goodRange firstBadRange classIn pointAt roleAt goodEntryAlone goodEntry firstBadEntry roleBy afterRole isMedial recordsRefusal refusalWithin rangeClass entryRole classOf medialOf isMark whiteOf walk partsStill refusesMark firstRefused meaningOf readingOf lengthRefusal beforeWithin markRefusal readThrough outcomeWithin isLineEnd endsLine lineEnds lineOf M M2 P cases
 cases-hold = refl
 
 pub line-cases-hold : map (λ (c : Case). numbersOf (c .text) (outcomeOf (c .image) (c .text))) lineCases ≡ map (λ (c : Case). c .answer) lineCases
-unfolding firstFrom firstWhere isScalar subpartOf stepOf decodeIn decode textOf wordAt lengthWithin headerWithin rangeAt goodAlone follows goodRange firstBadRange classIn pointAt roleAt goodEntryAlone goodEntry firstBadEntry roleBy afterRole isMedial recordsRefusal refusalWithin rangeClass entryRole classOf medialOf isMark whiteOf walk partsStill refusesMark firstRefused meaningOf readingOf lengthRefusal markRefusal outcomeWithin isLineEnd endsLine lineEnds lineOf K K1 K2 K3 lineCases
+unfolding firstFrom firstWhere isScalar subpartOf stepOf decodeIn decode textOf wordAt lengthWithin headerWithin rangeAt goodAlone follows goodRange firstBadRange classIn pointAt roleAt goodEntryAlone goodEntry firstBadEntry roleBy afterRole isMedial recordsRefusal refusalWithin rangeClass entryRole classOf medialOf isMark whiteOf walk partsStill refusesMark firstRefused meaningOf readingOf lengthRefusal beforeWithin markRefusal readThrough outcomeWithin isLineEnd endsLine lineEnds lineOf K K1 K2 K3 lineCases
 line-cases-hold = refl
 
 pub mark-cases-hold : map (λ (c : Case). numbersOf (c .text) (outcomeOf (c .image) (c .text))) markCases ≡ map (λ (c : Case). c .answer) markCases
-unfolding firstFrom firstWhere isScalar subpartOf stepOf decodeIn decode textOf wordAt lengthWithin headerWithin rangeAt goodAlone follows goodRange firstBadRange classIn pointAt roleAt goodEntryAlone goodEntry firstBadEntry roleBy afterRole isMedial recordsRefusal refusalWithin rangeClass entryRole classOf medialOf isMark whiteOf walk partsStill refusesMark firstRefused meaningOf readingOf lengthRefusal markRefusal outcomeWithin isLineEnd endsLine lineEnds lineOf K K4 K5 K6 K7 K8 markCases
+unfolding firstFrom firstWhere isScalar subpartOf stepOf decodeIn decode textOf wordAt lengthWithin headerWithin rangeAt goodAlone follows goodRange firstBadRange classIn pointAt roleAt goodEntryAlone goodEntry firstBadEntry roleBy afterRole isMedial recordsRefusal refusalWithin rangeClass entryRole classOf medialOf isMark whiteOf walk partsStill refusesMark firstRefused meaningOf readingOf lengthRefusal beforeWithin markRefusal readThrough outcomeWithin isLineEnd endsLine lineEnds lineOf K K4 K5 K6 K7 K8 markCases
 mark-cases-hold = refl
 
 pub hashtag-cases-hold :
     map (λ (c : Case). hashtagNumbersOf (c .text) (hashtagsFound (c .image) (c .text))) hashtagCases ≡ map (λ (c : Case). c .answer) hashtagCases
-unfolding firstFrom firstWhere isScalar subpartOf stepOf decodeIn decode textOf wordAt lengthWithin headerWithin rangeAt goodAlone follows goodRange firstBadRange classIn pointAt roleAt goodEntryAlone goodEntry firstBadEntry roleBy afterRole isHashtag recordsRefusal refusalWithin rangeClass entryRole classOf hashtagOf lengthRefusal isSign isHashtagContinue runOf hashtagsFrom hashtagsOf hashtagsThrough foundWithin isLineEnd endsLine lineEnds lineOf P N hashtagCases
+unfolding firstFrom firstWhere isScalar subpartOf stepOf decodeIn decode textOf wordAt lengthWithin headerWithin rangeAt goodAlone follows goodRange firstBadRange classIn pointAt roleAt goodEntryAlone goodEntry firstBadEntry roleBy afterRole isHashtag recordsRefusal refusalWithin rangeClass entryRole classOf hashtagOf lengthRefusal beforeWithin isSign isHashtagContinue runOf hashtagsFrom hashtagsOf hashtagsThrough foundWithin isLineEnd endsLine lineEnds lineOf P N hashtagCases
 hashtag-cases-hold = refl

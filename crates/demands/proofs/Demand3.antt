@@ -35,8 +35,9 @@ use Rattle.grammar.specs.Record.{recordSize, roomOf, listedWords}
 use Rattle.grammar.specs.Reading.{meaningOf, countOf, listOf, listWords}
 use Rattle.grammar.proofs.RecordLaws.{length-listed}
 use Rattle.grammar.proofs.BesideLaws.{placeOf, beside-second}
+use Rattle.grammar.specs.Before.{of-image, too-long, allowed as may-read}
 use Rattle.demands.specs.Demand2.{Divided, Stopped, FirstMark, NoMark}
-use Rattle.demands.specs.Means.{Refuses, of-image, too-long, ill-formed, no-token, mark, CountMeans, counts, count-refuses, ListMeans, lists, no-room, list-refuses}
+use Rattle.demands.specs.Means.{Refuses, refused-before, ill-formed, no-token, mark, CountMeans, counts, count-refuses, ListMeans, lists, no-room, list-refuses}
 use Rattle.demands.specs.Firm.{Allowed, Firm, Changed, Touched}
 use Rattle.demands.specs.Demand3.{Later, SaysYes, StandsAt, AnotherClass, NextChanged, Excepted, Promise, listIn, Demand3}
 use Rattle.demands.proofs.Stability.{firm-or-touched, division-stable, refused-stable}
@@ -120,9 +121,9 @@ module _ (older newer text : List ℕ) (L : Later older newer) where
   refused-characters x = ⊎-map no-token (λ x. x) (stopped (refuses-stopped x))
 
   refused-other : {r : Refusal} → ((p : ℕ) → r ≡ Characters p → ⊥) → Refuses older text r → Refuses newer text r
-  refused-other n (of-image m) = absurd (no-refusal (L .olderAccepted) m)
-  refused-other n (too-long a l) = too-long (L .newerAccepted) l
-  refused-other n (ill-formed a l m) = ill-formed (L .newerAccepted) l m
+  refused-other n (refused-before (of-image m)) = absurd (no-refusal (L .olderAccepted) m)
+  refused-other n (refused-before (too-long a l)) = refused-before (too-long (L .newerAccepted) l)
+  refused-other n (ill-formed (may-read a l) m) = ill-formed (may-read (L .newerAccepted) l) m
   refused-other n (no-token {p} t) = absurd (n p refl)
   refused-other n (mark f) = mark (marked f)
 

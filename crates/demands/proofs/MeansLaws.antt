@@ -7,7 +7,7 @@ use mathlib.Core.Option.{Option, none, some, Option·map}
 use native.Mathlib.Omega.{arith}
 use lib.ListN.{length}
 use lib.Dec.{ltb}
-use borrow.Author.Tests.{ltb-true, ltb-false, lt-ltb, le-ltb}
+use borrow.Author.Tests.{ltb-true, ltb-false}
 use Rattle.lists.specs.Laid.{laid}
 use Rattle.refusal.specs.declared.Refusal.{Refusal}
 use Rattle.refusal.specs.declared.Refusal.the-variants as refusal
@@ -17,19 +17,20 @@ use Rattle.utf8.specs.declared.Text.{Text}
 use Rattle.utf8.specs.declared.Text.the-variants as form
 use Rattle.utf8.specs.Text.{Character, TextMeans, well-formed, ill-formed as bad-form, textOf}
 use Rattle.utf8.proofs.TextLaws.{text-means, means-text}
-use Rattle.image.specs.Check.{refusalOf}
 use Rattle.image.specs.Accepted.{Accepted}
 use Rattle.image.specs.Means.{RefusalMeans}
-use Rattle.image.proofs.ImageLaws.{refusal-means, means-refusal, refusal-number, accepted, refused-none}
+use Rattle.image.proofs.ImageLaws.{means-refusal, refusal-number}
 use Rattle.grammar.specs.Scan.{Tok}
 use Rattle.grammar.specs.Grammar.{Kind}
 use Rattle.grammar.specs.Second.{firstRefused}
 use Rattle.grammar.specs.Record.{roomOf, listedWords}
-use Rattle.grammar.specs.Reading.{maxText, meaningOf, readingOf, lengthRefusal, formRefusalBy, formRefusal, markRefusalBy, markRefusal, judged, outcomeWithin, outcomeOf, countWithin, countOf, roomed, writtenWithin, listWithin, listOf, laidBy, listWordsWithin, listWords}
+use Rattle.grammar.specs.Before.{maxText, beforeText, BeforeMeans, of-image, allowed}
+use Rattle.grammar.specs.Reading.{meaningOf, readingOf, formRefusalBy, markRefusalBy, markRefusal, judged, readThrough, outcomeWithin, outcomeOf, countWithin, countOf, roomed, writtenWithin, listWithin, listOf, laidBy, listWordsWithin, listWords}
+use Rattle.grammar.proofs.BeforeLaws.{before-means, means-before}
 use Rattle.grammar.proofs.AnswerLaws.{counts-given, counts-refused, roomed-in, roomed-out, roomed-given}
 use Rattle.grammar.proofs.BesideLaws.{placeOf}
 use Rattle.demands.specs.Demand2.{Divided, Stopped, FirstMark, NoMark}
-use Rattle.demands.specs.Means.{Refuses, of-image, too-long, ill-formed, no-token, mark, CountMeans, counts, count-refuses, ListMeans, lists, no-room, list-refuses}
+use Rattle.demands.specs.Means.{Refuses, refused-before, ill-formed, no-token, mark, CountMeans, counts, count-refuses, ListMeans, lists, no-room, list-refuses}
 use Rattle.demands.proofs.DividedLaws.{reading-divides, divided-unique}
 use Rattle.demands.proofs.MarkedLaws.{Marked, marks, marked-some, marked-none}
 
@@ -39,11 +40,11 @@ image-number {s} {r} m = refusal-number s r (means-refusal s (some r) m)
 -- 7 and 14 come of the text alone
 module _ {s text : List ℕ} where
   pub refuses-stopped : {p : ℕ} → Refuses s text (refusal.Characters p) → Stopped s text p
-  refuses-stopped (of-image m) = absurd (omega (arith, image-number m))
+  refuses-stopped (refused-before (of-image m)) = absurd (omega (arith, image-number m))
   refuses-stopped (no-token t) = t
 
   pub refuses-marked : {p : ℕ} → Refuses s text (refusal.Mark p) → FirstMark s text p
-  refuses-marked (of-image m) = absurd (omega (arith, image-number m))
+  refuses-marked (refused-before (of-image m)) = absurd (omega (arith, image-number m))
   refuses-marked (mark f) = f
 
 module _ (s text : List ℕ) where
@@ -63,32 +64,26 @@ module _ (s text : List ℕ) where
 
   form-means : Accepted s → length text ≤ maxText → (t : Text) → TextMeans text t → OutcomeMeans (unless (formRefusalBy t) (judged s (readingOf s text .tokens) (readingOf s text .left)))
   form-means a l t (well-formed e) = judged-means (readingOf s text .tokens) (readingOf s text .left) (reading-divides (record { image = a; short = l; wellFormed = e }))
-  form-means a l t (bad-form e h p m) = refuses (ill-formed a l (bad-form e h p m))
-
-  length-means : Accepted s → (b : Bool) → ltb maxText (length text) ≡ b →
-      OutcomeMeans (unless (refusedIf b refusal.TextLength) (unless (formRefusal text) (judged s (readingOf s text .tokens) (readingOf s text .left))))
-  length-means a true e = refuses (too-long a (ltb-true _ _ e))
-  length-means a false e = form-means a (ltb-false _ _ e) (textOf text) (text-means text (textOf text) refl)
+  form-means a l t (bad-form e h p m) = refuses (ill-formed (allowed a l) (bad-form e h p m))
 
   own-means : OutcomeMeans (outcomeOf s text)
-  unfolding outcomeWithin lengthRefusal
-  own-means = go (refusalOf s) refl
+  unfolding outcomeWithin readThrough
+  own-means = go (beforeText maxText s text) (before-means maxText s text)
     where
-      go : (o : Option Refusal) → refusalOf s ≡ o →
-          OutcomeMeans (unless o (unless (lengthRefusal text) (unless (formRefusal text) (judged s (readingOf s text .tokens) (readingOf s text .left)))))
-      go none e = length-means (accepted s e) _ refl
-      go (some r) e = refuses (of-image (refusal-means s (some r) e))
+      go : (o : Option Refusal) → BeforeMeans maxText s text o → OutcomeMeans (unless o (readThrough s text))
+      go (some r) m = refuses (refused-before m)
+      go none (allowed a l) = form-means a l (textOf text) (text-means text (textOf text) refl)
 
   pub outcome-means : (o : Outcome (List (Tok Character Kind))) → outcomeOf s text ≡ o → OutcomeMeans o
   outcome-means o e = subst OutcomeMeans e own-means
 
   -- a text that is none of 1 to 6 is judged by its one division
   judged-by : {ts : List (Tok Character Kind)} {left : List Character} → Divided s text ts left → outcomeOf s text ≡ judged s ts left
-  unfolding outcomeWithin lengthRefusal
+  unfolding outcomeWithin readThrough
   judged-by d =
       let h = d .readable in
       let u = divided-unique (reading-divides h) d in
-      rw (refused-none s (h .image), le-ltb maxText (length text) (h .short), means-text text form.WellFormed (well-formed (h .wellFormed))) (λ i. judged s (u .0 i) (u .1 i))
+      rw (means-before maxText s text (allowed (h .image) (h .short)), means-text text form.WellFormed (well-formed (h .wellFormed))) (λ i. judged s (u .0 i) (u .1 i))
 
   -- one that has a division, by its first mark that is refused
   marked-by : {ts : List (Tok Character Kind)} (a : Option ℕ) → Divided s text ts [] → placeOf (firstRefused (meaningOf s) [] ts) ≡ a → outcomeOf s text ≡ unless (Option·map refusal.Mark a) (given ts)
@@ -100,11 +95,10 @@ module _ (s text : List ℕ) where
       go (some before) = refl
 
   pub means-outcome : (o : Outcome (List (Tok Character Kind))) → OutcomeMeans o → outcomeOf s text ≡ o
-  unfolding outcomeWithin lengthRefusal
+  unfolding outcomeWithin readThrough
   means-outcome o (divides d n) = marked-by none d (marked-none _ (marks d) n)
-  means-outcome o (refuses (of-image {r} m)) = rw (means-refusal s (some r) m)
-  means-outcome o (refuses (too-long a l)) = rw (refused-none s a, lt-ltb maxText (length text) l)
-  means-outcome o (refuses (ill-formed {p} {n} a l m)) = rw (refused-none s a, le-ltb maxText (length text) l, means-text text (form.IllFormed p n) m)
+  means-outcome o (refuses (refused-before m)) = rw (means-before maxText s text m)
+  means-outcome o (refuses (ill-formed {p} {n} b m)) = rw (means-before maxText s text b, means-text text (form.IllFormed p n) m)
   means-outcome o (refuses (no-token t)) = judged-by (t .divided) ∙ ap (λ (p : ℕ). refused (refusal.Characters p)) (sym (t .place))
   means-outcome o (refuses (mark {p} f)) = let d = f .mark .divided in marked-by (some p) d (marked-some _ (marks d) f)
 

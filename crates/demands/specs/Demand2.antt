@@ -11,7 +11,8 @@ use Rattle.grammar.specs.Division.{Division}
 use Rattle.grammar.specs.Grammar.{Kind, Token}
 use Rattle.grammar.specs.Marks.{RefusedMark}
 use Rattle.grammar.specs.Record.{tokensWidth}
-use Rattle.grammar.specs.Reading.{maxText, meaningOf}
+use Rattle.grammar.specs.Before.{maxText}
+use Rattle.grammar.specs.Reading.{meaningOf}
 
 -- an accepted image s; a text within the length limit; and its characters, in well-formed UTF-8 to its end
 pub record Readable (s text : List ℕ) (characters : List Character) : Type 0 where

@@ -3,30 +3,26 @@
 use Prim.Native.Nat.{ℕ, _≤_, _<_}
 use mathlib.Core.Path.{_≡_}
 use mathlib.Core.List.{List, []}
-use mathlib.Core.Option.{some}
+use mathlib.Core.Option.{none, some}
 use lib.ListN.{length}
 use Rattle.refusal.specs.declared.Refusal.{Refusal}
 use Rattle.refusal.specs.declared.Refusal.the-variants as refusal
 use Rattle.refusal.specs.Outcome.{Outcome, given, refused}
 use Rattle.utf8.specs.declared.Text.the-variants as form
 use Rattle.utf8.specs.Text.{Character, TextMeans}
-use Rattle.image.specs.Accepted.{Accepted}
-use Rattle.image.specs.Means.{RefusalMeans}
 use Rattle.grammar.specs.Scan.{Tok}
 use Rattle.grammar.specs.Grammar.{Kind}
 use Rattle.grammar.specs.Record.{roomOf}
-use Rattle.grammar.specs.Reading.{maxText}
+use Rattle.grammar.specs.Before.{maxText, BeforeMeans}
 use Rattle.demands.specs.Demand2.{Divided, Stopped, FirstMark, NoMark}
 
 module _ (s text : List ℕ) where
   -- the refusals of an image and a text, whatever the room
   pub data Refuses : Refusal → Type 0 where
-    -- 1 to 4: those of the image
-    of-image : {r : Refusal} → RefusalMeans s (some r) → Refuses r
-    -- 5: the text is too long
-    too-long : Accepted s → maxText < length text → Refuses refusal.TextLength
+    -- 1 to 5
+    refused-before : {r : Refusal} → BeforeMeans maxText s text (some r) → Refuses r
     -- 6: p is the first place at which no well-formed sequence begins, and n bytes there are the maximal subpart
-    ill-formed : {p n : ℕ} → Accepted s → length text ≤ maxText → TextMeans text (form.IllFormed p n) → Refuses (refusal.IllFormed p n)
+    ill-formed : {p n : ℕ} → BeforeMeans maxText s text none → TextMeans text (form.IllFormed p n) → Refuses (refusal.IllFormed p n)
     -- 7: the longest run of tokens from byte 0 ends at p, and no token begins there
     no-token : {p : ℕ} → Stopped s text p → Refuses (refusal.Characters p)
     -- 14: the text has a division, and the first mark in it that is refused stands at p

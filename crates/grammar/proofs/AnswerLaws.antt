@@ -1,10 +1,11 @@
--- What the answers of counting and of writing the list say of the outcome that they come from. Assumes nothing.
+-- What the answers of counting and of writing a list say of the outcome that they come from, of tokens or of hashtags. Assumes nothing.
 use Prim.Native.Nat.{ℕ, _≤_, _<_}
 use mathlib.Core.Path.{_≡_, refl, ap}
 use mathlib.Core.Bool.{Bool, true, false}
 use mathlib.Core.List.{List}
 use mathlib.Core.Logic.{_⊎_, inl, inr}
 use lib.ListN.{length}
+use Rattle.lists.specs.Laid.{laid}
 use lib.Dec.{ltb}
 use borrow.Author.Tests.{ltb-true, ltb-false, lt-ltb, le-ltb}
 use Rattle.lists.proofs.BoolLaws.{impossible}
@@ -12,7 +13,10 @@ use Rattle.refusal.specs.declared.Refusal.{Refusal}
 use Rattle.refusal.specs.declared.Refusal.the-variants as refusal
 use Rattle.refusal.specs.Outcome.{Outcome, given, refused, unless, refusedIf, outcomeMap}
 use Rattle.grammar.specs.Record.{roomOf}
-use Rattle.grammar.specs.Reading.{roomed}
+use Rattle.grammar.specs.Reading.{roomed, laidBy}
+use Rattle.grammar.specs.Counted.{countedBy}
+use Rattle.grammar.specs.declared.Counted.{Counted}
+use Rattle.grammar.specs.declared.Counted.the-variants.{Refused, Records}
 
 -- of tokens, or of anything that has a record each
 module _ {T : Type 0} where
@@ -46,3 +50,28 @@ module _ {T : Type 0} where
 
   pub roomed-given : (words : ℕ) (o : Outcome (List T)) (ts : List T) → roomed words o ≡ given ts → Roomed words o (given ts)
   roomed-given words o ts e = rw e at (roomed-cases words o)
+
+  -- counting, by its enum
+  pub by-refused : (o : Outcome (List T)) {r : Refusal} → Refused r ≡ countedBy (outcomeMap length o) → o ≡ refused r
+  by-refused (given ts) e = impossible (cc)
+  by-refused (refused q) {r} e = let f : q ≡ r = cc in ap refused f
+
+  pub by-count : (o : Outcome (List T)) {n : ℕ} → Records n ≡ countedBy (outcomeMap length o) → (ts : List T) × (o ≡ given ts) × (n ≡ length ts)
+  by-count (given ts) e = (ts, refl, cc)
+  by-count (refused r) e = impossible (cc)
+
+  -- writing the words of what is given into a buffer: the answer, and what the buffer then holds
+  module _ (words : List T → List ℕ) (out : List ℕ) where
+    abbrev pub Writes : Outcome (List T) → Counted → List ℕ → Type 0
+    Writes o c out′ = (c ≡ countedBy (outcomeMap length (roomed (length out) o))) × (out′ ≡ laidBy words out (roomed (length out) o))
+
+    pub writes-refused : {o : Outcome (List T)} {r : Refusal} → o ≡ refused r → Writes o (Refused r) out
+    writes-refused e = rw e (refl, refl)
+
+    module _ {o : Outcome (List T)} {ts : List T} {n : ℕ} (e : o ≡ given ts) (l : n ≡ length ts) where
+      -- 8: nothing is written
+      pub writes-no-room : roomOf (length out) < n → Writes o (Refused (refusal.Room n)) out
+      writes-no-room h = rw (e, l, roomed-out (length out) ts (rw l at h)) (refl, refl)
+
+      pub writes-given : n ≤ roomOf (length out) → Writes o (Records n) (laid out 0 (words ts))
+      writes-given h = rw (e, l, roomed-in (length out) ts (rw l at h)) (refl, refl)

@@ -1,23 +1,20 @@
 -- A text has no more tokens than bytes, so there is always room for them in so many records. Assumes nothing.
 use Prim.Native.Nat.{ℕ, _≤_, _<_}
 use mathlib.Core.Path.{_≡_, refl, ap, _∙_}
-use mathlib.Core.Bool.{Bool, true, false}
 use mathlib.Core.List.{List, [], _∷_}
 use mathlib.Core.Option.{Option, none, some}
 use native.Mathlib.Omega.{arith}
 use lib.ListN.{length, length-append}
-use lib.Dec.{ltb}
 use Rattle.lists.proofs.BoolLaws.{impossible}
 use Rattle.refusal.specs.declared.Refusal.{Refusal}
 use Rattle.refusal.specs.declared.Refusal.the-variants as refusal
 use Rattle.refusal.specs.Refusal.{numberOf}
-use Rattle.refusal.specs.Outcome.{Outcome, given, refused, unless, refusedIf}
+use Rattle.refusal.specs.Outcome.{Outcome, given, refused, unless}
 use Rattle.utf8.specs.declared.Text.{Text}
 use Rattle.utf8.specs.declared.Text.the-variants as form
 use Rattle.utf8.specs.Text.{Character, decode, textOf}
 use Rattle.utf8.proofs.TextLaws.{characters-few}
-use Rattle.image.specs.Check.{refusalOf}
-use Rattle.image.proofs.ImageLaws.{refusal-number}
+use Rattle.image.proofs.ImageLaws.{means-refusal, refusal-number}
 use Rattle.grammar.specs.Scan.{Tok}
 use Rattle.grammar.specs.Division.{Division}
 use Rattle.grammar.specs.Division as division
@@ -25,7 +22,9 @@ use Rattle.grammar.specs.Meaning.{Meaning}
 use Rattle.grammar.specs.Grammar.{Kind, identifier, syntax, whitespace, Token}
 use Rattle.grammar.specs.Second.{firstRefused}
 use Rattle.grammar.specs.Record.{roomOf}
-use Rattle.grammar.specs.Reading.{maxText, meaningOf, readingOf, tokensOf, lengthRefusal, formRefusalBy, markRefusalBy, markRefusal, judged, outcomeWithin, outcomeOf, roomed, writtenWithin, writtenOf, listWithin, listOf}
+use Rattle.grammar.specs.Before.{maxText, beforeText, BeforeMeans, of-image, too-long, allowed}
+use Rattle.grammar.specs.Reading.{meaningOf, readingOf, tokensOf, formRefusalBy, markRefusalBy, markRefusal, judged, readThrough, outcomeWithin, outcomeOf, roomed, writtenWithin, writtenOf, listWithin, listOf}
+use Rattle.grammar.proofs.BeforeLaws.{before-means}
 use Rattle.grammar.proofs.GrammarLaws.{tokens-divide}
 use Rattle.grammar.proofs.AnswerLaws.{counts-given, roomed-in, roomed-given}
 
@@ -65,17 +64,14 @@ module _ (s text : List ℕ) where
   by-form form.WellFormed o h = h
   by-form (form.IllFormed p m) o h = λ n e. impossible (cc)
 
-  by-length : (b : Bool) (o : Outcome (List (Tok Character Kind))) → Read o → Read (unless (refusedIf b refusal.TextLength) o)
-  by-length true o h = λ n e. impossible (cc)
-  by-length false o h = h
-
-  by-image : (a : Option Refusal) (o : Outcome (List (Tok Character Kind))) → refusalOf s ≡ a → Read o → Read (unless a o)
-  by-image none o e h = h
-  by-image (some r) o e h = λ n f. let k = ap numberOf f in omega (arith, refusal-number s r e)
-
   outcome-read : Read (outcomeOf s text)
-  unfolding outcomeWithin lengthRefusal
-  outcome-read = by-image (refusalOf s) _ refl (by-length (ltb maxText (length text)) _ (by-form (textOf text) _ (by-left (readingOf s text .left))))
+  unfolding outcomeWithin readThrough
+  outcome-read = go (beforeText maxText s text) (before-means maxText s text)
+    where
+      go : (o : Option Refusal) → BeforeMeans maxText s text o → Read (unless o (readThrough s text))
+      go o (of-image {r} m) = λ n f. let k = ap numberOf f in omega (arith, refusal-number s r (means-refusal s (some r) m))
+      go o (too-long a h) = λ n f. impossible (cc)
+      go o (allowed a h) = by-form (textOf text) _ (by-left (readingOf s text .left))
 
   -- 8 comes of the room alone
   pub outcome-no-room : (n : ℕ) → outcomeOf s text ≡ refused (refusal.Room n) → ⊥

@@ -1,3 +1,4 @@
+pub mod BeforeLaws
 pub mod ScanLaws
 pub mod DivisionLaws
 pub mod TailLaws

@@ -1,4 +1,4 @@
--- Counting a text's tokens (docs/RULES.md, "Tokens" and "Named refusals").
+-- What counting answers (docs/RULES.md, "Tokens" and "Named refusals").
 use Prim.Native.Nat.{ℕ, _+_}
 use mathlib.Core.List.{List}
 use lib.ListN.{length}
@@ -6,23 +6,17 @@ use Rattle.refusal.specs.declared.Refusal.{Refusal}
 use Rattle.refusal.specs.declared.Refusal.the-variants as refusal
 use Rattle.utf8.specs.declared.Text.{Text}
 use Rattle.utf8.specs.declared.Text.the-variants.{WellFormed, IllFormed}
-use Rattle.utf8.specs.Text.{Character}
-use Rattle.grammar.specs.Scan.{Tok}
-use Rattle.grammar.specs.Grammar.{Kind}
-use Rattle.refusal.specs.Outcome.{Outcome, given, refused, unless, outcomeMap}
-use Rattle.grammar.specs.Reading.{readingOf, formRefusal, judged}
+use Rattle.refusal.specs.Outcome.{Outcome, given, refused, outcomeMap}
+use Rattle.grammar.specs.Reading.{readThrough}
 use Rattle.grammar.specs.declared.Counted.{Counted}
-use Rattle.grammar.specs.declared.Counted.the-variants.{Refused, Tokens}
+use Rattle.grammar.specs.declared.Counted.the-variants.{Refused, Records}
 
 -- the enum's case for each outcome
 abbrev pub countedBy : Outcome ℕ → Counted
-countedBy (given n) = Tokens n
+countedBy (given n) = Records n
 countedBy (refused r) = Refused r
 
--- the tokens of a text within the length limit under an accepted image: 6, then 7, then 14, else all tokens
-unfoldable pub readThrough : List ℕ → List ℕ → Outcome (List (Tok Character Kind))
-readThrough s text = unless (formRefusal text) (judged s (readingOf s text .tokens) (readingOf s text .left))
-
+-- the answer of counting a text within the length limit under an accepted image
 unfoldable pub countThrough : List ℕ → List ℕ → Counted
 countThrough s text = countedBy (outcomeMap length (readThrough s text))
 

@@ -1,4 +1,5 @@
 pub mod All
+pub mod Before
 pub mod Scan
 pub mod Step
 pub mod Division

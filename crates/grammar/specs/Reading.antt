@@ -14,7 +14,8 @@ use Rattle.utf8.specs.declared.Text.the-variants.{WellFormed, IllFormed}
 use Rattle.utf8.specs.Text.{Character, decode, textOf}
 use Rattle.image.specs.Class.{classNamed}
 use Rattle.image.specs.Limits.{maxEntries}
-use Rattle.image.specs.Check.{refusalWithin, classOf, medialOf}
+use Rattle.image.specs.Check.{classOf, medialOf}
+use Rattle.grammar.specs.Before.{maxText, beforeWithin}
 use Rattle.grammar.specs.Scan.{Tok, Reading, Rules, reading}
 use Rattle.grammar.specs.White.{whiteOf}
 use Rattle.grammar.specs.Meaning.{Meaning}
@@ -23,10 +24,6 @@ use Rattle.grammar.specs.Kinds.{rules}
 use Rattle.grammar.specs.Second.{firstRefused}
 use Rattle.refusal.specs.Outcome.{Outcome, given, refused, unless, refusedIf, outcomeMap}
 use Rattle.grammar.specs.Record.{roomOf, tokensWidth, listedWords}
-
--- a text has at most so many bytes
-abbrev pub maxText : ℕ
-maxText = 1048576
 
 -- the class after the profile of a character, its kind of White, and whether it is a medial, under the image s
 unfoldable pub meaningOf : List ℕ → Meaning Character
@@ -46,10 +43,6 @@ readingOf s text = reading (rulesOf s) (decode text .characters)
 
 abbrev pub tokensOf : List ℕ → List ℕ → List (Tok Character Kind)
 tokensOf s text = readingOf s text .tokens
-
--- 5: the text is too long
-unfoldable pub lengthRefusal : List ℕ → Option Refusal
-lengthRefusal text = refusedIf (ltb maxText (length text)) refusal.TextLength
 
 -- 6: the first place in the whole text at which no well-formed sequence begins, and the length of the maximal subpart there
 abbrev pub formRefusalBy : Text → Option Refusal
@@ -72,12 +65,13 @@ abbrev pub judged : List ℕ → List (Tok Character Kind) → List Character �
 judged s ts [] = unless (markRefusal s ts) (given ts)
 judged s ts (c ∷ r) = refused (refusal.Characters (tokensWidth ts))
 
--- 1 to 4 of the image, then 5, then 6, then 7, then 14; else the text's tokens
+-- the tokens of a text under an accepted image: 6, then 7, then 14, else all tokens
+unfoldable pub readThrough : List ℕ → List ℕ → Outcome (List (Tok Character Kind))
+readThrough s text = unless (formRefusal text) (judged s (readingOf s text .tokens) (readingOf s text .left))
+
+-- what is judged before the text, then the text
 unfoldable pub outcomeWithin : ℕ → List ℕ → List ℕ → Outcome (List (Tok Character Kind))
-outcomeWithin limit s text =
-    unless (refusalWithin limit s)
-    (unless (lengthRefusal text)
-    (unless (formRefusal text) (judged s (readingOf s text .tokens) (readingOf s text .left))))
+outcomeWithin limit s text = unless (beforeWithin limit maxText s text) (readThrough s text)
 
 abbrev pub outcomeOf : List ℕ → List ℕ → Outcome (List (Tok Character Kind))
 outcomeOf s text = outcomeWithin maxEntries s text

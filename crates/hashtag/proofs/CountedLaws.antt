@@ -9,7 +9,7 @@ use lib.ListN.{length, getD, take, drop}
 use lib.Seq.{getD-drop}
 use Rattle.lists.proofs.LaidLaws.{rest as part-rest}
 use Rattle.line.specs.Ends.{look}
-use Rattle.hashtag.specs.Seek.{stopOf, sumOf, Counted}
+use Rattle.hashtag.specs.Seek.{stopOf, sumOf, LinesCounted}
 use Rattle.hashtag.specs.declared.Reach.{Reach}
 use Rattle.hashtag.proofs.SeekLaws.{passed-begins}
 
@@ -74,15 +74,15 @@ unfolding sumOf
 sum-four s k l m n a b c d = omega arith
 
 module _ {text : List ℕ} {from first : ℕ} where
-  pub counted-begins : from ≤ length text → Counted text from first (reach from first)
+  pub counted-begins : from ≤ length text → LinesCounted text from first (reach from first)
   unfolding sumOf
   counted-begins h =
       let z : 0 ≡ from - from = omega arith in
       record { passed = passed-begins true text from h; sum = subst (λ (k : ℕ). first ≡ first + sumOf text from k) z (omega arith); few = omega arith }
 
   -- some bytes more
-  pub counted-more : {at line : ℕ} → Counted text from first (reach at line) → (n s : ℕ) → 0 < n → at + n ≤ length text → s ≡ sumOf text at n → s < look →
-      Counted text from first (reach (at + n) (line + s))
+  pub counted-more : {at line : ℕ} → LinesCounted text from first (reach at line) → (n s : ℕ) → 0 < n → at + n ≤ length text → s ≡ sumOf text at n → s < look →
+      LinesCounted text from first (reach (at + n) (line + s))
   counted-more {at} {line} i n s o h e l =
       let p = i .passed in
       let b = p .above in
@@ -99,7 +99,7 @@ module _ {text : List ℕ} {from first : ℕ} where
       go j u v (no w) = sum-each text at n (omega arith) j (omega arith) v
 
   -- on from there
-  pub counted-on : {r q : Reach} → Counted text from first r → Counted text (r .at) (r .line) q → Counted text from first q
+  pub counted-on : {r q : Reach} → LinesCounted text from first r → LinesCounted text (r .at) (r .line) q → LinesCounted text from first q
   counted-on {r} {q} i k =
       let a = i .passed .above in
       let b = k .passed .above in

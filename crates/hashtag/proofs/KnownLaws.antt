@@ -18,7 +18,7 @@ use Rattle.line.specs.Line.{endsLine, one, LineAt}
 use Rattle.line.specs.Ends.{look, endAt}
 use Rattle.line.proofs.LineLaws.{told, end-at, line-counted, counted-few, line-passes}
 use Rattle.hashtag.specs.Sign.{isSign}
-use Rattle.hashtag.specs.Seek.{continuesFirst, freeAt, stopOf, Passed, sumOf, Counted, Backed, Sought}
+use Rattle.hashtag.specs.Seek.{continuesFirst, freeAt, stopOf, Passed, sumOf, LinesCounted, Backed, Sought}
 use Rattle.hashtag.specs.declared.Sign.{Sign}
 use Rattle.hashtag.specs.declared.Reach.{Reach}
 use Rattle.hashtag.proofs.SignLaws.{sign-ends-none, no-sign-here}
@@ -141,7 +141,7 @@ module _ (s text : List ℕ) where
               (f (at + n) (line + sumOf text at n) (walked-first i h (p .each at (omega arith) m))
               (record { above = a; within = p .within; each = λ j u v. p .each j (omega arith) v }) (omega (arith, h .here .some-bytes)))
 
-    pub walked-bytes : {at line : ℕ} {r : Reach} → Walked from at line → Counted text at line r → (r .at < length text → stopOf true (getD text (r .at) 0) < look → ⊥) →
+    pub walked-bytes : {at line : ℕ} {r : Reach} → Walked from at line → LinesCounted text at line r → (r .at < length text → stopOf true (getD text (r .at) 0) < look → ⊥) →
         Walked from (r .at) (r .line)
     walked-bytes {at} {line} {r} i c stop =
         subst (Walked from (r .at)) (sym (c .sum)) (walked-in stop (r .at - at) at line i (c .passed) (omega arith))

@@ -18,7 +18,7 @@ use Rattle.grammar.specs.Record.{recordSize, tokenWords}
 use Rattle.hashtag.specs.Find.{Span, runOf, hashtagsFrom, hashtagsOf}
 use Rattle.hashtag.specs.Listed.{hashtagKind, spanWords, spansWords, hashtagsThrough, countedThrough, closedBy}
 use Rattle.hashtag.specs.Seek.{hashtagsAt, Sought}
-use Rattle.hashtag.specs.declared.Listed.the-variants.{Hashtags}
+use Rattle.grammar.specs.declared.Counted.the-variants.{Records}
 use Rattle.hashtag.specs.declared.Sign.{Sign}
 use Rattle.hashtag.proofs.FindLaws.{found-none}
 use Rattle.hashtag.proofs.SeekLaws.{unshifted}
@@ -65,7 +65,7 @@ module _ (s text : List ℕ) where
   -- the answer, by what is said of the text from a place on
   closes : (at count : ℕ) (t : Text) → shift at t ≡ textOf text → length (hashtagsOf s text) ≡ count → closedBy at count t ≡ countedThrough s text
   unfolding countedThrough hashtagsThrough
-  closes at count WellFormed e n = rw (sym e) (ap Hashtags (sym n))
+  closes at count WellFormed e n = rw (sym e) (ap Records (sym n))
   closes at count (IllFormed p k) e n = rw (sym e)
 
   pub counting-closes : {count at : ℕ} {r : Sign} → Counting count at → Sought s text at r → r .next ≤ r .at → closedBy (r .at) count (textOf (drop (r .at) text)) ≡ countedThrough s text
@@ -74,7 +74,7 @@ module _ (s text : List ℕ) where
       let f : shift (r .at) (textOf (drop (r .at) text)) ≡ textOf text = ap (λ (k : ℕ). shift k (textOf (drop k text))) (sym e) ∙ h .form ∙ i .reached .form in
       closes (r .at) count (textOf (drop (r .at) text)) f (omega (arith, i .sum, ap length (h .none l .0)))
 
-  pub counting-ends : {count at : ℕ} → Counting count at → length text ≤ at → Hashtags count ≡ countedThrough s text
+  pub counting-ends : {count at : ℕ} → Counting count at → length text ≤ at → Records count ≡ countedThrough s text
   counting-ends {count} {at} i h =
       closes at count WellFormed (sym (end-here text at h) ∙ i .reached .form) (omega (arith, i .sum, ap length (none-left h)))
 

@@ -6,7 +6,7 @@ use mathlib.Core.List.{List, []}
 use mathlib.Core.Option.{Option, none, some}
 use lib.ListN.{length}
 use lib.Dec.{ltb}
-use borrow.Author.Tests.{ltb-true, ltb-false, lt-ltb, le-ltb}
+use borrow.Author.Tests.{ltb-true, ltb-false}
 use Rattle.lists.specs.Laid.{laid}
 use Rattle.refusal.specs.declared.Refusal.{Refusal}
 use Rattle.refusal.specs.declared.Refusal.the-variants as refusal
@@ -15,15 +15,15 @@ use Rattle.utf8.specs.declared.Text.{Text}
 use Rattle.utf8.specs.declared.Text.the-variants as form
 use Rattle.utf8.specs.Text.{Character, Encoded, TextMeans, well-formed, ill-formed as bad-form, decode, textOf}
 use Rattle.utf8.proofs.TextLaws.{means-decode, text-means, means-text}
-use Rattle.image.specs.Check.{refusalOf}
 use Rattle.image.specs.Accepted.{Accepted}
-use Rattle.image.proofs.ImageLaws.{refusal-means, means-refusal, accepted, refused-none}
 use Rattle.grammar.specs.Record.{roomOf}
-use Rattle.grammar.specs.Reading.{maxText, lengthRefusal, formRefusalBy, roomed, laidBy}
+use Rattle.grammar.specs.Before.{maxText, beforeText, BeforeMeans, allowed}
+use Rattle.grammar.specs.Reading.{formRefusalBy, roomed, laidBy}
+use Rattle.grammar.proofs.BeforeLaws.{before-means, means-before}
 use Rattle.grammar.proofs.AnswerLaws.{counts-given, counts-refused, roomed-in, roomed-out, roomed-given}
 use Rattle.hashtag.specs.Find.{Span, hashtagsOf, AllHashtags}
 use Rattle.hashtag.specs.Listed.{spansWords, hashtagsThrough, foundWithin, hashtagsFound, hashtagsWrittenWithin, hashtagListWithin, hashtagListOf, hashtagWordsWithin, hashtagListWords}
-use Rattle.hashtag.specs.Means.{Tagged, Refuses, of-image, too-long, ill-formed, HashtagListMeans, lists, no-room, list-refuses}
+use Rattle.hashtag.specs.Means.{Tagged, Refuses, refused-before, ill-formed, HashtagListMeans, lists, no-room, list-refuses}
 use Rattle.hashtag.proofs.AllLaws.{hashtags-all, all-hashtags}
 
 module _ (s text : List ℕ) where
@@ -38,31 +38,25 @@ module _ (s text : List ℕ) where
   form-means : Accepted s → length text ≤ maxText → (t : Text) → TextMeans text t → FoundMeans (unless (formRefusalBy t) (given (hashtagsOf s text)))
   form-means a l t (well-formed {cs} e) =
       tags (record { image = a; short = l; characters = cs; wellFormed = e; hashtags = subst (λ cs. AllHashtags s cs (hashtagsOf s text)) (characters-are e) (hashtags-all s text) })
-  form-means a l t (bad-form e h p m) = refuses (ill-formed a l (bad-form e h p m))
-
-  length-means : Accepted s → (b : Bool) → ltb maxText (length text) ≡ b → FoundMeans (unless (refusedIf b refusal.TextLength) (hashtagsThrough s text))
-  unfolding hashtagsThrough
-  length-means a true e = refuses (too-long a (ltb-true _ _ e))
-  length-means a false e = form-means a (ltb-false _ _ e) (textOf text) (text-means text (textOf text) refl)
+  form-means a l t (bad-form e h p m) = refuses (ill-formed (allowed a l) (bad-form e h p m))
 
   own-means : FoundMeans (hashtagsFound s text)
-  unfolding foundWithin lengthRefusal
-  own-means = go (refusalOf s) refl
+  unfolding foundWithin hashtagsThrough
+  own-means = go (beforeText maxText s text) (before-means maxText s text)
     where
-      go : (o : Option Refusal) → refusalOf s ≡ o → FoundMeans (unless o (unless (lengthRefusal text) (hashtagsThrough s text)))
-      go none e = length-means (accepted s e) _ refl
-      go (some r) e = refuses (of-image (refusal-means s (some r) e))
+      go : (o : Option Refusal) → BeforeMeans maxText s text o → FoundMeans (unless o (hashtagsThrough s text))
+      go (some r) m = refuses (refused-before m)
+      go none (allowed a l) = form-means a l (textOf text) (text-means text (textOf text) refl)
 
   tagged-is : {ts : List Span} → Tagged s text ts → hashtagsOf s text ≡ ts
   tagged-is {ts} d = all-hashtags s text ts (rw (characters-are (d .wellFormed)) (d .hashtags))
 
   means-found : (o : Outcome (List Span)) → FoundMeans o → hashtagsFound s text ≡ o
-  unfolding foundWithin hashtagsThrough lengthRefusal
+  unfolding foundWithin hashtagsThrough
   means-found o (tags d) =
-      rw (refused-none s (d .image), le-ltb maxText (length text) (d .short), means-text text form.WellFormed (well-formed (d .wellFormed))) (ap given (tagged-is d))
-  means-found o (refuses (of-image {r} m)) = rw (means-refusal s (some r) m)
-  means-found o (refuses (too-long a l)) = rw (refused-none s a, lt-ltb maxText (length text) l)
-  means-found o (refuses (ill-formed {p} {n} a l m)) = rw (refused-none s a, le-ltb maxText (length text) l, means-text text (form.IllFormed p n) m)
+      rw (means-before maxText s text (allowed (d .image) (d .short)), means-text text form.WellFormed (well-formed (d .wellFormed))) (ap given (tagged-is d))
+  means-found o (refuses (refused-before m)) = rw (means-before maxText s text m)
+  means-found o (refuses (ill-formed {p} {n} b m)) = rw (means-before maxText s text b, means-text text (form.IllFormed p n) m)
 
   -- writing the list into a buffer of so many words
   module _ (words : ℕ) where

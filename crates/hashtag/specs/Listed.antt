@@ -10,12 +10,13 @@ use Rattle.utf8.specs.declared.Text.{Text}
 use Rattle.utf8.specs.declared.Text.the-variants.{WellFormed, IllFormed}
 use Rattle.line.specs.Line.{lineOf}
 use Rattle.image.specs.Limits.{maxEntries}
-use Rattle.image.specs.Check.{refusalWithin}
 use Rattle.grammar.specs.Record.{tokenWords}
-use Rattle.grammar.specs.Reading.{lengthRefusal, formRefusal, roomed, laidBy}
+use Rattle.grammar.specs.Before.{maxText, beforeWithin}
+use Rattle.grammar.specs.Counted.{countedBy}
+use Rattle.grammar.specs.declared.Counted.{Counted}
+use Rattle.grammar.specs.declared.Counted.the-variants.{Refused, Records}
+use Rattle.grammar.specs.Reading.{formRefusal, roomed, laidBy}
 use Rattle.hashtag.specs.Find.{Span, hashtagsOf}
-use Rattle.hashtag.specs.declared.Listed.{Listed}
-use Rattle.hashtag.specs.declared.Listed.the-variants.{Refused, Hashtags}
 
 -- the kind of a hashtag in its record; no token has it
 abbrev pub hashtagKind : ℕ
@@ -29,26 +30,21 @@ abbrev pub spansWords : List ℕ → List Span → List ℕ
 spansWords text [] = []
 spansWords text (t ∷ ts) = spanWords text t ++ spansWords text ts
 
--- the enum's case for each outcome
-abbrev pub listedBy : Outcome ℕ → Listed
-listedBy (given n) = Hashtags n
-listedBy (refused r) = Refused r
-
--- 6, else the hashtags of a text within the length limit under an accepted image
+-- the hashtags of a text under an accepted image: 6, else all hashtags
 unfoldable pub hashtagsThrough : List ℕ → List ℕ → Outcome (List Span)
 hashtagsThrough s text = unless (formRefusal text) (given (hashtagsOf s text))
 
-unfoldable pub countedThrough : List ℕ → List ℕ → Listed
-countedThrough s text = listedBy (outcomeMap length (hashtagsThrough s text))
+unfoldable pub countedThrough : List ℕ → List ℕ → Counted
+countedThrough s text = countedBy (outcomeMap length (hashtagsThrough s text))
 
 -- the answer where so many hashtags were found, and the characters end at a place: what is said of the text from there on
-abbrev pub closedBy : ℕ → ℕ → Text → Listed
-closedBy at n WellFormed = Hashtags n
+abbrev pub closedBy : ℕ → ℕ → Text → Counted
+closedBy at n WellFormed = Records n
 closedBy at n (IllFormed p k) = Refused (refusal.IllFormed (at + p) k)
 
--- 1 to 4 of the image, then 5, then 6; else the text's hashtags
+-- what is judged before the text, then 6; else the text's hashtags
 unfoldable pub foundWithin : ℕ → List ℕ → List ℕ → Outcome (List Span)
-foundWithin limit s text = unless (refusalWithin limit s) (unless (lengthRefusal text) (hashtagsThrough s text))
+foundWithin limit s text = unless (beforeWithin limit maxText s text) (hashtagsThrough s text)
 
 abbrev pub hashtagsFound : List ℕ → List ℕ → Outcome (List Span)
 hashtagsFound s text = foundWithin maxEntries s text

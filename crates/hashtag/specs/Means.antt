@@ -3,7 +3,7 @@
 use Prim.Native.Nat.{ℕ, _≤_, _<_}
 use mathlib.Core.Path.{_≡_}
 use mathlib.Core.List.{List, []}
-use mathlib.Core.Option.{some}
+use mathlib.Core.Option.{none, some}
 use lib.ListN.{length}
 use Rattle.refusal.specs.declared.Refusal.{Refusal}
 use Rattle.refusal.specs.declared.Refusal.the-variants as refusal
@@ -11,9 +11,8 @@ use Rattle.refusal.specs.Outcome.{Outcome, given, refused}
 use Rattle.utf8.specs.declared.Text.the-variants as form
 use Rattle.utf8.specs.Text.{Character, Encoded, TextMeans}
 use Rattle.image.specs.Accepted.{Accepted}
-use Rattle.image.specs.Means.{RefusalMeans}
 use Rattle.grammar.specs.Record.{roomOf}
-use Rattle.grammar.specs.Reading.{maxText}
+use Rattle.grammar.specs.Before.{maxText, BeforeMeans}
 use Rattle.hashtag.specs.Find.{Span, AllHashtags}
 
 -- under an accepted image s the list ts has exactly the hashtags of the text, which is within the length limit and well-formed to its end
@@ -27,12 +26,10 @@ pub record Tagged (s text : List ℕ) (ts : List Span) : Type 0 where
 module _ (s text : List ℕ) where
   -- the refusals of an image and a text, whatever the room; none is for the text's characters
   pub data Refuses : Refusal → Type 0 where
-    -- 1 to 4: those of the image
-    of-image : {r : Refusal} → RefusalMeans s (some r) → Refuses r
-    -- 5: the text is too long
-    too-long : Accepted s → maxText < length text → Refuses refusal.TextLength
+    -- 1 to 5
+    refused-before : {r : Refusal} → BeforeMeans maxText s text (some r) → Refuses r
     -- 6: p is the first place at which no well-formed sequence begins, and n bytes there are the maximal subpart
-    ill-formed : {p n : ℕ} → Accepted s → length text ≤ maxText → TextMeans text (form.IllFormed p n) → Refuses (refusal.IllFormed p n)
+    ill-formed : {p n : ℕ} → BeforeMeans maxText s text none → TextMeans text (form.IllFormed p n) → Refuses (refusal.IllFormed p n)
 
   -- writing the list into a buffer of so many words: the number of hashtags where there is room for them, else 8 with the records needed
   pub data HashtagListMeans (words : ℕ) : Outcome ℕ → Type 0 where

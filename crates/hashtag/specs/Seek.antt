@@ -58,14 +58,14 @@ sumOf text from zero = 0
 sumOf text from (suc n) = sumOf text from n + stopOf true (getD text (from + n) 0)
 
 -- it stops nowhere from one place, on this line, to before another, and has counted line ends on its way
-pub record Counted (text : List ℕ) (from line : ℕ) (r : Reach) : Type 0 where
+pub record LinesCounted (text : List ℕ) (from line : ℕ) (r : Reach) : Type 0 where
   pub passed : Passed true text from (r .at)
   pub sum : r .line ≡ line + sumOf text from (r .at - from)
   pub few : r .line ≤ line + look * (r .at - from)
 
 -- .. up to where it stops, or to the text's end
-pub record CountedTo (text : List ℕ) (from line : ℕ) (r : Reach) : Type 0 where
-  pub counted : Counted text from line r
+pub record LinesCountedTo (text : List ℕ) (from line : ℕ) (r : Reach) : Type 0 where
+  pub counted : LinesCounted text from line r
   pub stop : r .at < length text → stopOf true (getD text (r .at) 0) < look → ⊥
 
 -- the last place before another, and no sooner than a third, where no byte stands that only follows others; the third where there is none

@@ -13,18 +13,21 @@ ghost use Rattle.utf8.specs.Lead.{isTrail};
 ghost use Rattle.utf8.specs.Text.{charactersAt, widthOf, textOf};
 ghost use Rattle.line.specs.Line.{LineAt};
 ghost use Rattle.image.specs.Check.{refusalOf};
+ghost use Rattle.given.specs.Given.{judgementOf};
 ghost use Rattle.character.specs.Traits.{partClass};
 ghost use Rattle.character.specs.Read.{TableOf};
 ghost use Rattle.grammar.specs.Kinds.{isContinue};
 ghost use Rattle.grammar.specs.Record.{recordSize};
-ghost use Rattle.grammar.specs.Reading.{maxText};
+ghost use Rattle.grammar.specs.Counted.{countedBy};
+ghost use Rattle.grammar.specs.Before.{maxText, beforeText};
 ghost use Rattle.hashtag.specs.Sign.{isSign};
 ghost use Rattle.hashtag.specs.Find.{runOf, hashtagsOf};
-ghost use Rattle.hashtag.specs.Listed.{spansWords, hashtagListOf, hashtagListWords, listedBy, countedThrough, closedBy};
-ghost use Rattle.hashtag.specs.Seek.{continuesFirst, freeAt, stopOf, StopsOf, Skipped, sumOf, Counted, CountedTo, Backed, signOf, Sought};
+ghost use Rattle.hashtag.specs.Listed.{spansWords, hashtagListOf, hashtagListWords, countedThrough, closedBy};
+ghost use Rattle.hashtag.specs.Seek.{continuesFirst, freeAt, stopOf, StopsOf, Skipped, sumOf, LinesCounted, LinesCountedTo, Backed, signOf, Sought};
+use given::Judgement;
+use grammar::Counted;
 use grammar::MAX_TEXT;
 use grammar::RECORD_WORDS;
-use image::Answer;
 use refusal::Refusal;
 
 // The kind of a hashtag in its record.
@@ -42,12 +45,6 @@ const WIDE_SIGNS: u8 = 0xEF;
 
 // What a table of bytes has where a search stops.
 const STOP: u8 = line::LOOK;
-
-// How many hashtags, or why not.
-pub enum Listed {
-    Refused(Refusal),
-    Hashtags(usize),
-}
 
 // A sign that begins a hashtag: its first byte, and one past its last. The same place twice: there is none.
 pub struct Sign {
@@ -207,7 +204,7 @@ fn pass_fours<'a>(stops: &'a [u8; 256], text: &'a [u8], from: usize, first: u32)
     requires { ⌜ StopsOf true (now stops) ⌝ }
     requires { ⌜ (from ≤ length (now text)) × (length (now text) ≤ maxText) ⌝ }
     requires { ⌜ first ≤ 16 * maxText ⌝ }
-    ensures { λ r. ⌜ Counted (now (text .entry)) from first r ⌝ }
+    ensures { λ r. ⌜ LinesCounted (now (text .entry)) from first r ⌝ }
 {
     let mut at = from;
     let mut line = first;
@@ -227,7 +224,7 @@ fn pass_bytes<'a>(stops: &'a [u8; 256], text: &'a [u8], from: usize, first: u32)
     requires { ⌜ StopsOf true (now stops) ⌝ }
     requires { ⌜ (from ≤ length (now text)) × (length (now text) ≤ maxText) ⌝ }
     requires { ⌜ first ≤ 16 * maxText ⌝ }
-    ensures { λ r. ⌜ CountedTo (now (text .entry)) from first r ⌝ }
+    ensures { λ r. ⌜ LinesCountedTo (now (text .entry)) from first r ⌝ }
 {
     let mut at = from;
     let mut line = first;
@@ -402,19 +399,19 @@ fn seek_known<'a>(
 }
 
 // The answer where the characters end at a place: so many hashtags, or refusal 6 if the text goes on there.
-fn close(text: &[u8], at: usize, count: usize) -> Listed
+fn close(text: &[u8], at: usize, count: usize) -> Counted
     requires { ⌜ at ≤ length (now text) ⌝ }
     requires { ⌜ (at < length (now text) → IllHead (drop at (now text))) ⌝ }
     ensures { λ r. ⌜ r ≡ closedBy at count (textOf (drop at (now (text .entry)))) ⌝ }
 {
     if at < text.len() {
-        return Listed::Refused(grammar::refuse_at(text, at));
+        return Counted::Refused(grammar::refuse_at(text, at));
     }
-    Listed::Hashtags(count)
+    Counted::Records(count)
 }
 
 // The number of hashtags.
-fn count_hashtags<'a>(image: &'a [u8], table: &'a [u8; 128], text: &'a [u8]) -> Listed
+fn count_hashtags<'a>(image: &'a [u8], table: &'a [u8; 128], text: &'a [u8]) -> Counted
     requires { ⌜ refusalOf (now image) ≡ none ⌝ }
     requires { ⌜ TableOf (now image) (now table) ⌝ }
     ensures { λ r. ⌜ r ≡ countedThrough (now (image .entry)) (now (text .entry)) ⌝ }
@@ -430,7 +427,7 @@ fn count_hashtags<'a>(image: &'a [u8], table: &'a [u8; 128], text: &'a [u8]) -> 
         count += 1;
         at = sign.next;
     }
-    Listed::Hashtags(count)
+    Counted::Records(count)
 }
 
 // The words of all hashtags of a well-formed text.
@@ -460,40 +457,53 @@ fn write_hashtags<'a>(image: &'a [u8], table: &'a [u8; 128], text: &'a [u8], out
     }
 }
 
-// The list of a text's hashtags, written whole, under an image that was checked. After a refusal the buffer is as it was.
-pub fn list_checked<'a>(image: &'a [u8], text: &'a [u8], out: &mut [u32]) -> Listed
-    requires { ⌜ refusalOf (now image) ≡ none ⌝ }
-    ensures { λ r. ⌜ r ≡ listedBy (hashtagListOf (now (image .entry)) (now (text .entry)) (length (now (out .entry)))) ⌝ }
+// The list of the hashtags of a text that may be read.
+fn list_accepted<'a>(image: &'a [u8], text: &'a [u8], out: &mut [u32]) -> Counted
+    requires { ⌜ beforeText maxText (now image) (now text) ≡ none ⌝ }
+    ensures { λ r. ⌜ r ≡ countedBy (hashtagListOf (now (image .entry)) (now (text .entry)) (length (now (out .entry)))) ⌝ }
     ensures { λ r. ⌜ now (out .exit) ≡ hashtagListWords (now (image .entry)) (now (text .entry)) (now (out .entry)) ⌝ }
 {
-    if MAX_TEXT < text.len() {
-        return Listed::Refused(Refusal::TextLength);
-    }
     let table = character::fill_table(image);
     let counted = count_hashtags(image, &table, text);
     match counted {
-        Listed::Refused(r) => Listed::Refused(r),
-        Listed::Hashtags(count) => {
+        Counted::Refused(r) => Counted::Refused(r),
+        Counted::Records(count) => {
             if out.len() / RECORD_WORDS < count {
-                return Listed::Refused(Refusal::Room(count));
+                return Counted::Refused(Refusal::Room(count));
             }
             write_hashtags(image, &table, text, out);
-            Listed::Hashtags(count)
+            Counted::Records(count)
         }
     }
 }
 
-// The list of a text's hashtags, written whole. After a refusal the buffer is as it was.
-pub fn list<'a>(image: &'a [u8], text: &'a [u8], out: &mut [u32]) -> Listed
-    ensures { λ r. ⌜ r ≡ listedBy (hashtagListOf (now (image .entry)) (now (text .entry)) (length (now (out .entry)))) ⌝ }
+// The list of a text's hashtags, after what is judged before it.
+fn list_judged<'a>(before: Judgement, image: &'a [u8], text: &'a [u8], out: &mut [u32]) -> Counted
+    requires { ⌜ before ≡ judgementOf (beforeText maxText (now image) (now text)) ⌝ }
+    ensures { λ r. ⌜ r ≡ countedBy (hashtagListOf (now (image .entry)) (now (text .entry)) (length (now (out .entry)))) ⌝ }
     ensures { λ r. ⌜ now (out .exit) ≡ hashtagListWords (now (image .entry)) (now (text .entry)) (now (out .entry)) ⌝ }
 {
-    let answer = image::judge(image);
-    match answer {
-        Answer::Refused(r) => Listed::Refused(r),
-        Answer::Accepted {
-            version: _,
-            ranges: _,
-        } => list_checked(image, text, out),
+    match before {
+        Judgement::Refused(r) => Counted::Refused(r),
+        Judgement::Accepted => list_accepted(image, text, out),
     }
+}
+
+// The list of a text's hashtags, written whole, under an image that was checked. After a refusal the buffer is as it was.
+pub fn list_checked<'a>(image: &'a [u8], text: &'a [u8], out: &mut [u32]) -> Counted
+    requires { ⌜ refusalOf (now image) ≡ none ⌝ }
+    ensures { λ r. ⌜ r ≡ countedBy (hashtagListOf (now (image .entry)) (now (text .entry)) (length (now (out .entry)))) ⌝ }
+    ensures { λ r. ⌜ now (out .exit) ≡ hashtagListWords (now (image .entry)) (now (text .entry)) (now (out .entry)) ⌝ }
+{
+    let before = grammar::judge_checked(image, text, MAX_TEXT);
+    list_judged(before, image, text, out)
+}
+
+// The list of a text's hashtags, written whole. After a refusal the buffer is as it was.
+pub fn list<'a>(image: &'a [u8], text: &'a [u8], out: &mut [u32]) -> Counted
+    ensures { λ r. ⌜ r ≡ countedBy (hashtagListOf (now (image .entry)) (now (text .entry)) (length (now (out .entry)))) ⌝ }
+    ensures { λ r. ⌜ now (out .exit) ≡ hashtagListWords (now (image .entry)) (now (text .entry)) (now (out .entry)) ⌝ }
+{
+    let before = grammar::judge_text(image, text, MAX_TEXT);
+    list_judged(before, image, text, out)
 }

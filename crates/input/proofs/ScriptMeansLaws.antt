@@ -50,10 +50,10 @@ module _ (input : List ℕ) (words : ℕ) where
       by-whole (no f) = told _ (cut-off f)
 
   -- tokens that were listed have room
-  pub listing-fits : (n : ℕ) → counted.Tokens n ≡ countedBy (listedFrom input words) → n ≤ roomOf words
+  pub listing-fits : (n : ℕ) → counted.Records n ≡ countedBy (listedFrom input words) → n ≤ roomOf words
   listing-fits n e = go (listedFrom input words) refl e
     where
-      go : (o : Outcome ℕ) → listedFrom input words ≡ o → counted.Tokens n ≡ countedBy o → n ≤ roomOf words
+      go : (o : Outcome ℕ) → listedFrom input words ≡ o → counted.Records n ≡ countedBy o → n ≤ roomOf words
       go (refused r) f t = impossible (cc)
       go (given m) f t = by-means (listing-means (given n) (f ∙ ap given (cc)))
         where

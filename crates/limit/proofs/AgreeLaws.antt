@@ -26,6 +26,7 @@ use Rattle.changes.proofs.BoundLaws.{runs-by-limits, entries-by-records}
 use Rattle.input.specs.Front.{imageIn, restIn, WholeWithin}
 use Rattle.input.proofs.FrontLaws.{means-whole, end-whole, sized-whole}
 use Rattle.grammar.specs.Record.{listedWords, recordSize}
+use Rattle.grammar.specs.Before.{beforeWithin}
 use Rattle.grammar.specs.Reading.{outcomeWithin, countWithin, roomed, writtenWithin, listWithin, laidBy, listWordsWithin}
 use Rattle.token.specs.Taken.{takenWithin}
 use Rattle.hashtag.specs.Listed.{spansWords, foundWithin, hashtagsWrittenWithin, hashtagListWithin, hashtagWordsWithin}
@@ -38,7 +39,7 @@ module _ (k l : ℕ) where
   -- the calls on one image, where it is refused with the same, or with nothing
   module _ (s : List ℕ) (e : refusalWithin k s ≡ refusalWithin l s) where
     same-outcome : (text : List ℕ) → outcomeWithin k s text ≡ outcomeWithin l s text
-    unfolding outcomeWithin
+    unfolding outcomeWithin beforeWithin
     same-outcome text = rw e
 
     same-written : (text : List ℕ) (words : ℕ) → writtenWithin k s text words ≡ writtenWithin l s text words
@@ -46,11 +47,11 @@ module _ (k l : ℕ) where
     same-written text words = ap (roomed words) (same-outcome text)
 
     same-found : (text : List ℕ) (words : ℕ) → hashtagsWrittenWithin k s text words ≡ hashtagsWrittenWithin l s text words
-    unfolding foundWithin hashtagsWrittenWithin
+    unfolding foundWithin beforeWithin hashtagsWrittenWithin
     same-found text words = rw e
 
     same-taken : (text : List ℕ) (place : ℕ) → takenWithin k s text place ≡ takenWithin l s text place
-    unfolding takenWithin
+    unfolding takenWithin beforeWithin
     same-taken text place = rw e
 
     agree-by : AgreeOnImage k l s

@@ -24,6 +24,7 @@ use Rattle.changes.proofs.LimitLaws.{answer-by, runs-are, entries-are}
 use Rattle.input.specs.Front.{imageIn, restIn, WholeWithin}
 use Rattle.input.proofs.FrontLaws.{means-whole, not-whole, dec-whole, end-whole, image-total, sized-whole}
 use Rattle.grammar.specs.Record.{recordSize, listedWords}
+use Rattle.grammar.specs.Before.{beforeWithin}
 use Rattle.grammar.specs.Reading.{outcomeWithin, countWithin, roomed, writtenWithin, listWithin, laidBy, listWordsWithin}
 use Rattle.token.specs.Taken.{takenWithin}
 use Rattle.hashtag.specs.Listed.{spansWords, foundWithin, hashtagsWrittenWithin, hashtagListWithin, hashtagWordsWithin}
@@ -55,7 +56,7 @@ module _ (limit : ℕ) (s : List ℕ) where
 -- the calls on an image that is refused
 module _ (limit : ℕ) (s : List ℕ) (r : Refusal) (e : refusalWithin limit s ≡ some r) where
   outcome-refused : (text : List ℕ) → outcomeWithin limit s text ≡ refused r
-  unfolding outcomeWithin
+  unfolding outcomeWithin beforeWithin
   outcome-refused text = rw e
 
   written-refused : (text : List ℕ) (words : ℕ) → writtenWithin limit s text words ≡ refused r
@@ -63,7 +64,7 @@ module _ (limit : ℕ) (s : List ℕ) (r : Refusal) (e : refusalWithin limit s �
   written-refused text words = ap (roomed words) (outcome-refused text)
 
   found-refused : (text : List ℕ) (words : ℕ) → hashtagsWrittenWithin limit s text words ≡ refused r
-  unfolding hashtagsWrittenWithin foundWithin
+  unfolding hashtagsWrittenWithin foundWithin beforeWithin
   found-refused text words = rw e
 
   older-refused : (newer : List ℕ) → RefusesChanges limit s newer (changes.Older r)
@@ -123,7 +124,7 @@ input-refuses limit input c h =
 
 -- so every call
 pub refuses-above : (limit l : ℕ) (s : List ℕ) → AcceptedWithin l s → limit < entryCount s → RefusesImage limit s (refusalAbove limit s)
-unfolding countWithin listWithin listWordsWithin takenWithin hashtagListWithin hashtagWordsWithin
+unfolding countWithin listWithin listWordsWithin takenWithin beforeWithin hashtagListWithin hashtagWordsWithin
 refuses-above limit l s a many =
     let e = above limit s l a many in
     let r = refusalAbove limit s in

@@ -70,6 +70,6 @@ fn main() {
             printing::print_refusal(r);
             printing::print_text(b"\n");
         }
-        Counted::Tokens(count) => print_tokens(&words, count),
+        Counted::Records(count) => print_tokens(&words, count),
     }
 }

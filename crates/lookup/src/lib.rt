@@ -6,7 +6,7 @@ ghost use Rattle.image.specs.Check.{refusalOf};
 ghost use Rattle.image.specs.Records.{recordAt, recordCount};
 ghost use Rattle.lookup.specs.Halving.{more, seekOf};
 ghost use Rattle.lookup.specs.Lookup.{lookupOf};
-use image::Answer;
+use given::Judgement;
 use image::UNASSIGNED;
 use image::records::Section;
 use refusal::Refusal;
@@ -94,11 +94,9 @@ pub fn lookup_checked(image: &[u8], x: u32) -> Found
 pub fn lookup(image: &[u8], x: u32) -> Found
     ensures { λ r. ⌜ r ≡ lookupOf (now (image .entry)) x ⌝ }
 {
-    match image::judge(image) {
-        Answer::Refused(r) => Found::Refused(r),
-        Answer::Accepted {
-            version: _,
-            ranges: _,
-        } => lookup_checked(image, x),
+    let given = given::judge_given(image);
+    match given {
+        Judgement::Refused(r) => Found::Refused(r),
+        Judgement::Accepted => lookup_checked(image, x),
     }
 }

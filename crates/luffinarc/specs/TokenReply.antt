@@ -14,7 +14,7 @@ use Rattle.luffinarc.specs.Reply.{Reply, gives, refuses}
 -- counting and writing the list: the number of tokens
 abbrev pub countedReply : Counted → Reply
 countedReply (counted.Refused r) = refuses r
-countedReply (counted.Tokens n) = gives (n ∷ [])
+countedReply (counted.Records n) = gives (n ∷ [])
 
 -- the result where a place is the text's end; no refusal has it
 abbrev pub done : ℕ

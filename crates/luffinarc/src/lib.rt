@@ -241,7 +241,7 @@ fn tell_counted(counted: Counted, answer: &mut [u64; 4]) -> u32
 {
     match counted {
         Counted::Refused(r) => refuse(r, 0, answer),
-        Counted::Tokens(count) => {
+        Counted::Records(count) => {
             put(answer, count as u64, 0, 0, 0);
             0
         }

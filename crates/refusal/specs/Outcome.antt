@@ -12,6 +12,11 @@ abbrev pub refusedIf : Bool → Refusal → Option Refusal
 refusedIf true r = some r
 refusedIf false r = none
 
+-- the first refusal, if there is one; else the second
+abbrev pub orElse : Option Refusal → Option Refusal → Option Refusal
+orElse (some r) o = some r
+orElse none o = o
+
 module _ {T : Type 0} where
   -- the refusal, if there is one; else the outcome
   abbrev pub unless : Option Refusal → Outcome T → Outcome T

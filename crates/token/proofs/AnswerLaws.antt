@@ -1,14 +1,13 @@
--- The answers of counting and of writing the list, from what the check of the image and the count under it give. Assumes nothing.
+-- The answers of counting and of writing the list, from what is judged before the text and the count under it. Assumes nothing.
 use Prim.Native.Nat.{ℕ, _*_, _≤_, _<_}
 use mathlib.Core.Path.{_≡_, refl, sym, ap, _∙_}
 use mathlib.Core.List.{List, [], _∷_}
 use mathlib.Core.Option.{Option, none, some}
 use native.Mathlib.Omega.{arith}
-use native.Mathlib.Decide.{decLt}
 use mathlib.Core.Bool.{Bool, true, false, not}
 use lib.ListN.{length}
 use lib.Dec.{leb}
-use borrow.Author.Tests.{lt-ltb, le-ltb, leb-true, leb-false}
+use borrow.Author.Tests.{leb-true, leb-false}
 use Rattle.lists.proofs.BoolLaws.{impossible}
 use Rattle.lists.specs.Laid.{laid}
 use Rattle.refusal.specs.declared.Refusal.{Refusal}
@@ -19,19 +18,14 @@ use Rattle.grammar.specs.Scan.{Tok}
 use Rattle.grammar.specs.Grammar.{Kind}
 use Rattle.refusal.specs.Outcome.{Outcome, given, refused, unless, outcomeMap}
 use Rattle.grammar.specs.Record.{recordSize, roomOf, listedWords}
-use Rattle.grammar.specs.Reading.{maxText, readingOf, tokensOf, lengthRefusal, formRefusal, markRefusal, judged, outcomeWithin, outcomeOf, countWithin, countOf, roomed, laidBy, writtenWithin, writtenOf, listWithin, listOf, listWordsWithin, listWords}
-use Rattle.grammar.proofs.AnswerLaws.{counts-given, counts-refused, roomed-in, roomed-out}
+use Rattle.grammar.specs.Before.{maxText, beforeText, allowed}
+use Rattle.grammar.specs.Reading.{readingOf, tokensOf, formRefusal, markRefusal, judged, readThrough, outcomeWithin, outcomeOf, countWithin, countOf, writtenWithin, listWithin, listOf, listWordsWithin, listWords}
+use Rattle.image.proofs.ImageLaws.{accepted as is-accepted}
+use Rattle.grammar.proofs.BeforeLaws.{means-before}
+use Rattle.grammar.proofs.AnswerLaws.{by-refused, by-count, Writes, writes-refused, writes-no-room, writes-given}
 use Rattle.grammar.specs.declared.Counted.{Counted}
-use Rattle.grammar.specs.declared.Counted.the-variants as counted
-use Rattle.grammar.specs.Counted.{countedBy, readThrough, countThrough}
-
-by-refused : (o : Outcome ℕ) (r : Refusal) → counted.Refused r ≡ countedBy o → o ≡ refused r
-by-refused (given n) r e = impossible (cc)
-by-refused (refused q) r e = let f : q ≡ r = cc in ap refused f
-
-by-tokens : (o : Outcome ℕ) (n : ℕ) → counted.Tokens n ≡ countedBy o → o ≡ given n
-by-tokens (given m) n e = let f : m ≡ n = cc in ap given f
-by-tokens (refused r) n e = impossible (cc)
+use Rattle.grammar.specs.declared.Counted.the-variants.{Refused, Records}
+use Rattle.grammar.specs.Counted.{countedBy, countThrough}
 
 -- what the test of room tells
 pub no-room : (n room : ℕ) {b : Bool} → b ≡ leb n room → not b ≡ true → room < n
@@ -56,75 +50,56 @@ given-by s none ts us (c ∷ l) e = cc
 given-by s (some r) ts us l e = cc
 
 module _ (s text : List ℕ) where
-  -- 1 to 4
-  pub count-refused : {r : Refusal} → refusalOf s ≡ some r → counted.Refused r ≡ countedBy (countOf s text)
-  unfolding countWithin outcomeWithin
-  count-refused e = rw e
+  outcome-refused : {r : Refusal} → beforeText maxText s text ≡ some r → outcomeOf s text ≡ refused r
+  unfolding outcomeWithin
+  outcome-refused e = rw e
 
-  module _ (accepted : refusalOf s ≡ none) where
-    -- 5
-    outcome-long : maxText < length text → outcomeOf s text ≡ refused refusal.TextLength
-    unfolding outcomeWithin lengthRefusal
-    outcome-long h = rw (accepted, lt-ltb maxText (length text) h)
+  pub count-refused : {r : Refusal} → beforeText maxText s text ≡ some r → Refused r ≡ countedBy (countOf s text)
+  unfolding countWithin
+  count-refused e = sym (ap (λ o. countedBy (outcomeMap length o)) (outcome-refused e))
 
-    pub count-long : maxText < length text → counted.Refused refusal.TextLength ≡ countedBy (countOf s text)
-    unfolding countWithin
-    count-long h = rw (outcome-long h)
+  -- where nothing is refused before it, what is read
+  outcome-through : beforeText maxText s text ≡ none → outcomeOf s text ≡ readThrough s text
+  unfolding outcomeWithin
+  outcome-through e = rw e
 
-    -- else what is read
-    outcome-through : length text ≤ maxText → outcomeOf s text ≡ readThrough s text
-    unfolding outcomeWithin lengthRefusal readThrough
-    outcome-through h = rw (accepted, le-ltb maxText (length text) h)
+  pub count-through : beforeText maxText s text ≡ none → countThrough s text ≡ countedBy (countOf s text)
+  unfolding countWithin countThrough
+  count-through e = ap (λ o. countedBy (outcomeMap length o)) (sym (outcome-through e))
 
-    pub count-through : length text ≤ maxText → countThrough s text ≡ countedBy (countOf s text)
-    unfolding countWithin countThrough
-    count-through h = ap (λ o. countedBy (outcomeMap length o)) (sym (outcome-through h))
-
-  -- writing the list, from what the count gives
+  -- writing the list
   module _ (out : List ℕ) where
-    -- the answer and the words of an outcome
-    abbrev pub Gives : Counted → List ℕ → Type 0
-    Gives r out′ = (r ≡ countedBy (listOf s text (length out))) × (out′ ≡ listWords s text out)
+    abbrev pub Lists : Counted → List ℕ → Type 0
+    Lists r out′ = (r ≡ countedBy (listOf s text (length out))) × (out′ ≡ listWords s text out)
 
-    gives : (o : Outcome (List (Tok Character Kind))) → writtenOf s text (length out) ≡ o → Gives (countedBy (outcomeMap length o)) (laidBy (listedWords text) out o)
-    unfolding listWithin listWordsWithin
-    gives o e = rw e (refl, refl)
+    lists : {r : Counted} {out′ : List ℕ} → Writes (listedWords text) out (outcomeOf s text) r out′ → Lists r out′
+    unfolding listWithin listWordsWithin writtenWithin
+    lists w = w
 
-    -- what refuses the count: nothing is written
-    pub list-refused : {r : Refusal} → counted.Refused r ≡ countedBy (countOf s text) → Gives (counted.Refused r) out
-    unfolding countWithin writtenWithin
-    list-refused {r} e = gives (refused r) (ap (roomed (length out)) (counts-refused (outcomeOf s text) r (by-refused _ r e)))
+    pub list-refused : {r : Refusal} → beforeText maxText s text ≡ some r → Lists (Refused r) out
+    list-refused e = lists (writes-refused (listedWords text) out (outcome-refused e))
 
-    module _ (accepted : refusalOf s ≡ none) (n : ℕ) (e : counted.Tokens n ≡ countedBy (countOf s text)) where
-      record Given : Type 0 where
-        short : length text ≤ maxText
-        all : outcomeOf s text ≡ given (tokensOf s text)
-        number : n ≡ length (tokensOf s text)
+    -- .. from what the count gives
+    module _ (accepted : refusalOf s ≡ none) (short : length text ≤ maxText) where
+      through : outcomeOf s text ≡ readThrough s text
+      through = outcome-through (means-before maxText s text (allowed (is-accepted s accepted) short))
 
-      is-given : Given
-      unfolding countWithin readThrough
-      is-given = go (decLt maxText (length text))
-        where
-          go : Dec (maxText < length text) → Given
-          go (yes h) = impossible (cc (outcome-long accepted h))
-          go (no h) =
-              let (us, g, l) = counts-given (outcomeOf s text) n (by-tokens _ n e) in
-              let q = given-by s (formRefusal text) (tokensOf s text) us (readingOf s text .left) (sym (outcome-through accepted (omega arith)) ∙ g) in
-              record { short = omega arith; all = g ∙ ap given q; number = sym l ∙ ap length q }
+      -- what refuses the count: nothing is written
+      pub list-stopped : {r : Refusal} → Refused r ≡ countThrough s text → Lists (Refused r) out
+      unfolding countThrough
+      list-stopped e = lists (writes-refused (listedWords text) out (through ∙ by-refused (readThrough s text) e))
 
-      -- 8: nothing is written
-      pub list-no-room : roomOf (length out) < n → Gives (counted.Refused (refusal.Room n)) out
-      unfolding writtenWithin
-      list-no-room h =
-          let g = is-given in
-          let m = g .number in
-          rw m (gives (refused (refusal.Room (length (tokensOf s text)))) (ap (roomed (length out)) (g .all) ∙ roomed-out (length out) (tokensOf s text) (omega arith)))
+      module _ {n : ℕ} (e : Records n ≡ countThrough s text) where
+        all : (outcomeOf s text ≡ given (tokensOf s text)) × (n ≡ length (tokensOf s text))
+        unfolding countThrough readThrough
+        all =
+            let (us, g, l) = by-count (readThrough s text) e in
+            let q = given-by s (formRefusal text) (tokensOf s text) us (readingOf s text .left) g in
+            (through ∙ g ∙ ap given q, l ∙ ap length q)
 
-      module _ (h : n ≤ roomOf (length out)) where
-        -- all is written
-        pub list-given : Gives (counted.Tokens n) (laid out 0 (listedWords text (tokensOf s text)))
-        unfolding writtenWithin
-        list-given =
-            let g = is-given in
-            let m = g .number in
-            rw m (gives (given (tokensOf s text)) (ap (roomed (length out)) (g .all) ∙ roomed-in (length out) (tokensOf s text) (omega arith)))
+        -- 8
+        pub list-no-room : roomOf (length out) < n → Lists (Refused (refusal.Room n)) out
+        list-no-room h = lists (writes-no-room (listedWords text) out (all .0) (all .1) h)
+
+        pub list-given : n ≤ roomOf (length out) → Lists (Records n) (laid out 0 (listedWords text (tokensOf s text)))
+        list-given h = lists (writes-given (listedWords text) out (all .0) (all .1) h)

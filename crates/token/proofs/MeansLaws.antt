@@ -16,12 +16,12 @@ use Rattle.utf8.specs.Text.{Character, Encoded, ends as no-more, takes as reads
 use Rattle.utf8.proofs.TextLaws.{decode-means, means-decode}
 use Rattle.utf8.proofs.SubpartLaws.{means-subpart}
 use Rattle.utf8.proofs.SequenceLaws.{step-means, means-step}
-use Rattle.image.specs.Check.{refusalOf}
-use Rattle.image.proofs.ImageLaws.{refusal-means, means-refusal, accepted, refused-none}
 use Rattle.grammar.specs.Scan.{Tok}
 use Rattle.grammar.specs.Division.{Division, ends, takes}
 use Rattle.grammar.specs.Grammar.{Kind, Token as TokenOf}
-use Rattle.grammar.specs.Reading.{maxText, meaningOf, readingOf, tokensOf}
+use Rattle.grammar.specs.Before.{maxText, beforeText, BeforeMeans, allowed}
+use Rattle.grammar.specs.Reading.{meaningOf, readingOf, tokensOf}
+use Rattle.grammar.proofs.BeforeLaws.{before-means, means-before}
 use Rattle.grammar.proofs.GrammarLaws.{fits, tokens-divide, tokens-unique}
 use Rattle.turns.specs.declared.First.{First}
 use Rattle.turns.specs.declared.First.the-variants as first
@@ -29,8 +29,8 @@ use Rattle.turns.specs.First.{firstIn, firstBy, firstOf}
 use Rattle.token.specs.declared.Taken.{Taken}
 use Rattle.token.specs.declared.Taken.the-variants.{Refused}
 use Rattle.token.specs.Taken.{takenOf}
-use Rattle.token.specs.Means.{Placed, TakenMeans, of-image, too-long, past-end, ill-formed, no-token, done, token}
-use Rattle.token.proofs.TakenLaws.{takenBy, taken-refused, taken-long, taken-past, taken-first}
+use Rattle.token.specs.Means.{Placed, TakenMeans, refused-before, past-end, ill-formed, no-token, done, token}
+use Rattle.token.proofs.TakenLaws.{takenBy, taken-refused, taken-past, taken-first}
 
 -- the tokens of a text whose characters are known are those of their one division
 tokens-are : (s part : List ℕ) {cs : List Character} {rest : List ℕ} {ts : List (Tok Character Kind)} {left : List Character} →
@@ -70,33 +70,28 @@ module _ (s text : List ℕ) (place : ℕ) where
           rw (tokens-are s (drop place text) e d) (by-tokens e d)
 
   own-means : TakenMeans s text place (takenOf s text place)
-  own-means = go (refusalOf s) refl
+  own-means = go (beforeText maxText s text) refl (before-means maxText s text)
     where
-      by-place : refusalOf s ≡ none → length text ≤ maxText → Dec (length text < place) → TakenMeans s text place (takenOf s text place)
-      by-place e l (yes h) = subst (TakenMeans s text place) (taken-past s text place e l h) (past-end (accepted s e) l h)
-      by-place e l (no h) =
-          subst (TakenMeans s text place) (taken-first s text place e l (omega arith) (firstOf s (drop place text)) refl)
-          (placed-means (record { image = accepted s e; short = l; within = omega arith }))
+      by-place : beforeText maxText s text ≡ none → BeforeMeans maxText s text none → Dec (length text < place) → TakenMeans s text place (takenOf s text place)
+      by-place e (allowed a l) (yes h) = subst (TakenMeans s text place) (taken-past s text place e h) (past-end a l h)
+      by-place e (allowed a l) (no h) =
+          subst (TakenMeans s text place) (taken-first s text place e (omega arith) (firstOf s (drop place text)) refl)
+          (placed-means (record { image = a; short = l; within = omega arith }))
 
-      by-length : refusalOf s ≡ none → Dec (maxText < length text) → TakenMeans s text place (takenOf s text place)
-      by-length e (yes h) = subst (TakenMeans s text place) (taken-long s text place e h) (too-long (accepted s e) h)
-      by-length e (no h) = by-place e (omega arith) (decLt (length text) place)
-
-      go : (a : Option Refusal) → refusalOf s ≡ a → TakenMeans s text place (takenOf s text place)
-      go (some r) e = subst (TakenMeans s text place) (taken-refused s text place e) (of-image (refusal-means s (some r) e))
-      go none e = by-length e (decLt maxText (length text))
+      go : (o : Option Refusal) → beforeText maxText s text ≡ o → BeforeMeans maxText s text o → TakenMeans s text place (takenOf s text place)
+      go (some r) e m = subst (TakenMeans s text place) (taken-refused s text place e) (refused-before m)
+      go none e m = by-place e m (decLt (length text) place)
 
   pub taken-means : (t : Taken) → takenOf s text place ≡ t → TakenMeans s text place t
   taken-means t e = subst (TakenMeans s text place) e own-means
 
   placed-taken : Placed s text place → (f : First) → firstOf s (drop place text) ≡ f → takenOf s text place ≡ takenBy text place f
-  placed-taken h f e = sym (taken-first s text place (refused-none s (h .image)) (h .short) (h .within) f e)
+  placed-taken h f e = sym (taken-first s text place (means-before maxText s text (allowed (h .image) (h .short))) (h .within) f e)
 
   pub means-taken : (t : Taken) → TakenMeans s text place t → takenOf s text place ≡ t
   unfolding firstOf
-  means-taken t (of-image {r} m) = sym (taken-refused s text place (means-refusal s (some r) m))
-  means-taken t (too-long a l) = sym (taken-long s text place (refused-none s a) l)
-  means-taken t (past-end a l h) = sym (taken-past s text place (refused-none s a) l h)
+  means-taken t (refused-before m) = sym (taken-refused s text place (means-before maxText s text m))
+  means-taken t (past-end a l h) = sym (taken-past s text place (means-before maxText s text (allowed a l)) h)
   means-taken t (ill-formed {n = k} h l n m) =
       let d = length-drop place text in
       placed-taken h first.IllFormed (ap (firstBy (tokensOf s (drop place text))) (means-step (drop place text) (step.IllFormed k) (no-sequence (omega arith) n m)))

@@ -18,11 +18,11 @@ use Rattle.utf8.specs.Head.{stepOf, IllHead}
 use Rattle.utf8.specs.Text.{Character, decode, widthOf, textOf}
 use Rattle.utf8.proofs.SequenceLaws.{end-empty, ill-at, ill-not-empty}
 use Rattle.utf8.proofs.TextLaws.{step-bounds, decode-scalar, text-ill, text-end, well-rest, ill-rest, decode-covers, decode-before-ill, width-append}
-use Rattle.image.specs.Check.{refusalOf}
 use Rattle.grammar.specs.Scan.{Tok, unitsOf, reading}
 use Rattle.grammar.specs.Grammar.{Kind}
 use Rattle.grammar.specs.Record.{tokenWidth, tokensWidth}
-use Rattle.grammar.specs.Reading.{maxText, rulesOf, readingOf, tokensOf, lengthRefusal}
+use Rattle.grammar.specs.Before.{maxText, beforeText}
+use Rattle.grammar.specs.Reading.{rulesOf, readingOf, tokensOf}
 use Rattle.grammar.proofs.ScanLaws.{reading-covers}
 use Rattle.grammar.proofs.RecordLaws.{tokens-width}
 use Rattle.turns.specs.declared.First.{First}
@@ -127,24 +127,18 @@ first-within s text k e f =
     omega (arith, first-within-by (w .tokens) (stepOf text) k e f, tokens-width (w .tokens), decode-covers text .within)
 
 module _ (s text : List ℕ) (place : ℕ) where
-  -- 1 to 4
-  pub taken-refused : {r : Refusal} → refusalOf s ≡ some r → Refused r ≡ takenOf s text place
+  -- 1 to 5
+  pub taken-refused : {r : Refusal} → beforeText maxText s text ≡ some r → Refused r ≡ takenOf s text place
   unfolding takenWithin
   taken-refused e = rw e
 
-  module _ (accepted : refusalOf s ≡ none) where
-    -- 5
-    pub taken-long : maxText < length text → Refused refusal.TextLength ≡ takenOf s text place
-    unfolding takenWithin lengthRefusal
-    taken-long h = rw (accepted, lt-ltb maxText (length text) h)
+  module _ (read : beforeText maxText s text ≡ none) where
+    -- 13
+    pub taken-past : length text < place → Refused refusal.Shape ≡ takenOf s text place
+    unfolding takenWithin placeRefusal
+    taken-past h = rw (read, lt-ltb (length text) place h)
 
-    module _ (short : length text ≤ maxText) where
-      -- 13
-      pub taken-past : length text < place → Refused refusal.Shape ≡ takenOf s text place
-      unfolding takenWithin lengthRefusal placeRefusal
-      taken-past h = rw (accepted, le-ltb maxText (length text) short, lt-ltb (length text) place h)
-
-      -- else what stands at the place
-      pub taken-first : place ≤ length text → (f : First) → firstOf s (drop place text) ≡ f → takenBy text place f ≡ takenOf s text place
-      unfolding takenWithin lengthRefusal placeRefusal
-      taken-first h f e = rw (accepted, le-ltb maxText (length text) short, le-ltb (length text) place h) (ap (takenBy text place) (sym e) ∙ sym (token-at s text place h))
+    -- else what stands at the place
+    pub taken-first : place ≤ length text → (f : First) → firstOf s (drop place text) ≡ f → takenBy text place f ≡ takenOf s text place
+    unfolding takenWithin placeRefusal
+    taken-first h f e = rw (read, le-ltb (length text) place h) (ap (takenBy text place) (sym e) ∙ sym (token-at s text place h))

@@ -11,11 +11,11 @@ use Rattle.utf8.specs.Subpart.{MaximalSubpart}
 use Rattle.utf8.specs.Head.{NoSequence}
 use Rattle.utf8.specs.Text.{Character, Encoded, widthOf}
 use Rattle.image.specs.Accepted.{Accepted}
-use Rattle.image.specs.Means.{RefusalMeans}
 use Rattle.grammar.specs.Division.{Longest, NoToken}
 use Rattle.grammar.specs.Grammar.{Kind, Token as TokenOf}
 use Rattle.grammar.specs.Kinds.{kindNumber}
-use Rattle.grammar.specs.Reading.{maxText, meaningOf}
+use Rattle.grammar.specs.Before.{maxText, BeforeMeans}
+use Rattle.grammar.specs.Reading.{meaningOf}
 use Rattle.token.specs.declared.Taken.{Taken}
 use Rattle.token.specs.declared.Taken.the-variants.{Refused, Done, Token}
 
@@ -26,10 +26,8 @@ pub record Placed (s text : List ℕ) (place : ℕ) : Type 0 where
   pub within : place ≤ length text
 
 pub data TakenMeans (s text : List ℕ) (place : ℕ) : Taken → Type 0 where
-  -- 1 to 4: those of the image
-  of-image : {r : Refusal} → RefusalMeans s (some r) → TakenMeans s text place (Refused r)
-  -- 5: the text is too long
-  too-long : Accepted s → maxText < length text → TakenMeans s text place (Refused refusal.TextLength)
+  -- 1 to 5
+  refused-before : {r : Refusal} → BeforeMeans maxText s text (some r) → TakenMeans s text place (Refused r)
   -- 13: the place lies past the text's end
   past-end : Accepted s → length text ≤ maxText → length text < place → TakenMeans s text place (Refused refusal.Shape)
   -- 6: no well-formed sequence begins at the place, and it isn't the end; n bytes there are the maximal subpart

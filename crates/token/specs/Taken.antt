@@ -13,13 +13,13 @@ use Rattle.utf8.specs.declared.Text.the-variants.{WellFormed, IllFormed}
 use Rattle.utf8.specs.Subpart.{subpartOf}
 use Rattle.utf8.specs.Text.{Character, textOf}
 use Rattle.image.specs.Limits.{maxEntries}
-use Rattle.image.specs.Check.{refusalWithin}
 use Rattle.grammar.specs.Scan.{Tok}
 use Rattle.grammar.specs.Grammar.{Kind}
 use Rattle.grammar.specs.Kinds.{kindNumber}
 use Rattle.refusal.specs.Outcome.{refusedIf}
 use Rattle.grammar.specs.Record.{tokenWidth}
-use Rattle.grammar.specs.Reading.{lengthRefusal, tokensOf}
+use Rattle.grammar.specs.Before.{maxText, beforeWithin}
+use Rattle.grammar.specs.Reading.{tokensOf}
 use Rattle.token.specs.declared.Taken.{Taken}
 use Rattle.token.specs.declared.Taken.the-variants.{Refused, Done, Token}
 
@@ -52,10 +52,10 @@ tokenAt s text place =
     cond (eqb place q && not (eqb place (length text))) (Refused (refusal.IllFormed place (subpartOf (drop place text))))
     (cond (eqb place (length text)) Done (firstAt place (tokensOf s (take (q - place) (drop place text)))))
 
--- 1 to 4 of the image, then 5, then 13 for the place; else what stands there
+-- what is judged before the text, then 13 for the place; else what stands there
 unfoldable pub takenWithin : ℕ → List ℕ → List ℕ → ℕ → Taken
 takenWithin limit s text place =
-    unlessTaken (refusalWithin limit s) (unlessTaken (lengthRefusal text) (unlessTaken (placeRefusal text place) (tokenAt s text place)))
+    unlessTaken (beforeWithin limit maxText s text) (unlessTaken (placeRefusal text place) (tokenAt s text place))
 
 abbrev pub takenOf : List ℕ → List ℕ → ℕ → Taken
 takenOf s text place = takenWithin maxEntries s text place

@@ -6,17 +6,19 @@ ghost use Prim.Native.Nat.{_≤_};
 ghost use lib.ListN.{length};
 ghost use lib.Dec.{leb};
 ghost use Rattle.image.specs.Check.{refusalOf};
+ghost use Rattle.given.specs.Given.{judgementOf};
 ghost use Rattle.character.specs.Read.{TokenTableOf};
 ghost use Rattle.grammar.specs.Record.{roomOf};
-ghost use Rattle.grammar.specs.Reading.{maxText, countOf, listOf, listWords};
+ghost use Rattle.grammar.specs.Before.{maxText, beforeText};
+ghost use Rattle.grammar.specs.Reading.{countOf, listOf, listWords};
 ghost use Rattle.grammar.specs.Counted.{countedBy};
 ghost use Rattle.token.specs.Taken.{takenOf};
 use blocks::BLOCKS;
 use blocks::CELLS;
+use given::Judgement;
 use grammar::Counted;
 use grammar::MAX_TEXT;
 use grammar::RECORD_WORDS;
-use image::Answer;
 use refusal::Refusal;
 use turns::First;
 
@@ -30,35 +32,38 @@ pub enum Taken {
     Token { kind: u32, start: usize, end: usize },
 }
 
+// The number of a text's tokens, after what is judged before it.
+fn count_judged<'a>(before: Judgement, image: &'a [u8], text: &'a [u8]) -> Counted
+    requires { ⌜ before ≡ judgementOf (beforeText maxText (now image) (now text)) ⌝ }
+    ensures { λ r. ⌜ r ≡ countedBy (countOf (now (image .entry)) (now (text .entry))) ⌝ }
+{
+    match before {
+        Judgement::Refused(r) => Counted::Refused(r),
+        Judgement::Accepted => {
+            let table = character::fill_token_table(image);
+            if text.len() < LONG {
+                return count::count_tokens(image, &table, text);
+            }
+            let mut index = [0u8; BLOCKS];
+            let mut cells = [0u8; CELLS];
+            count_long::count_long(image, &table, &mut index, &mut cells, text)
+        }
+    }
+}
+
 // The number of a text's tokens, under an image that was checked.
 pub fn count_checked<'a>(image: &'a [u8], text: &'a [u8]) -> Counted
     requires { ⌜ refusalOf (now image) ≡ none ⌝ }
     ensures { λ r. ⌜ r ≡ countedBy (countOf (now (image .entry)) (now (text .entry))) ⌝ }
 {
-    if MAX_TEXT < text.len() {
-        return Counted::Refused(Refusal::TextLength);
-    }
-    let table = character::fill_token_table(image);
-    if text.len() < LONG {
-        return count::count_tokens(image, &table, text);
-    }
-    let mut index = [0u8; BLOCKS];
-    let mut cells = [0u8; CELLS];
-    count_long::count_long(image, &table, &mut index, &mut cells, text)
+    count_judged(grammar::judge_checked(image, text, MAX_TEXT), image, text)
 }
 
 // The number of a text's tokens.
 pub fn count<'a>(image: &'a [u8], text: &'a [u8]) -> Counted
     ensures { λ r. ⌜ r ≡ countedBy (countOf (now (image .entry)) (now (text .entry))) ⌝ }
 {
-    let answer = image::judge(image);
-    match answer {
-        Answer::Refused(r) => Counted::Refused(r),
-        Answer::Accepted {
-            version: _,
-            ranges: _,
-        } => count_checked(image, text),
-    }
+    count_judged(grammar::judge_text(image, text, MAX_TEXT), image, text)
 }
 
 // Whether so many words have room for the records of `count` tokens.
@@ -79,12 +84,12 @@ fn list_short<'a>(image: &'a [u8], table: &'a [u8; 128], text: &'a [u8], out: &m
     let counted = count::count_tokens(image, table, text);
     match counted {
         Counted::Refused(r) => Counted::Refused(r),
-        Counted::Tokens(count) => {
+        Counted::Records(count) => {
             if !is_room(out.len(), count) {
                 return Counted::Refused(Refusal::Room(count));
             }
             write::write_tokens(image, table, text, out, count);
-            Counted::Tokens(count)
+            Counted::Records(count)
         }
     }
 }
@@ -102,12 +107,30 @@ fn list_long<'a>(image: &'a [u8], table: &'a [u8; 128], text: &'a [u8], out: &mu
     let counted = count_long::count_long(image, table, &mut index, &mut cells, text);
     match counted {
         Counted::Refused(r) => Counted::Refused(r),
-        Counted::Tokens(count) => {
+        Counted::Records(count) => {
             if !is_room(out.len(), count) {
                 return Counted::Refused(Refusal::Room(count));
             }
             write_long::write_long(image, table, &index, &cells, text, out, count);
-            Counted::Tokens(count)
+            Counted::Records(count)
+        }
+    }
+}
+
+// The list of a text's tokens, after what is judged before it.
+fn list_judged<'a>(before: Judgement, image: &'a [u8], text: &'a [u8], out: &mut [u32]) -> Counted
+    requires { ⌜ before ≡ judgementOf (beforeText maxText (now image) (now text)) ⌝ }
+    ensures { λ r. ⌜ r ≡ countedBy (listOf (now (image .entry)) (now (text .entry)) (length (now (out .entry)))) ⌝ }
+    ensures { λ r. ⌜ now (out .exit) ≡ listWords (now (image .entry)) (now (text .entry)) (now (out .entry)) ⌝ }
+{
+    match before {
+        Judgement::Refused(r) => Counted::Refused(r),
+        Judgement::Accepted => {
+            let table = character::fill_token_table(image);
+            if text.len() < LONG {
+                return list_short(image, &table, text, out);
+            }
+            list_long(image, &table, text, out)
         }
     }
 }
@@ -118,14 +141,8 @@ pub fn list_checked<'a>(image: &'a [u8], text: &'a [u8], out: &mut [u32]) -> Cou
     ensures { λ r. ⌜ r ≡ countedBy (listOf (now (image .entry)) (now (text .entry)) (length (now (out .entry)))) ⌝ }
     ensures { λ r. ⌜ now (out .exit) ≡ listWords (now (image .entry)) (now (text .entry)) (now (out .entry)) ⌝ }
 {
-    if MAX_TEXT < text.len() {
-        return Counted::Refused(Refusal::TextLength);
-    }
-    let table = character::fill_token_table(image);
-    if text.len() < LONG {
-        return list_short(image, &table, text, out);
-    }
-    list_long(image, &table, text, out)
+    let before = grammar::judge_checked(image, text, MAX_TEXT);
+    list_judged(before, image, text, out)
 }
 
 // The list of a text's tokens, written whole. After a refusal the buffer is as it was.
@@ -133,24 +150,15 @@ pub fn list<'a>(image: &'a [u8], text: &'a [u8], out: &mut [u32]) -> Counted
     ensures { λ r. ⌜ r ≡ countedBy (listOf (now (image .entry)) (now (text .entry)) (length (now (out .entry)))) ⌝ }
     ensures { λ r. ⌜ now (out .exit) ≡ listWords (now (image .entry)) (now (text .entry)) (now (out .entry)) ⌝ }
 {
-    let answer = image::judge(image);
-    match answer {
-        Answer::Refused(r) => Counted::Refused(r),
-        Answer::Accepted {
-            version: _,
-            ranges: _,
-        } => list_checked(image, text, out),
-    }
+    let before = grammar::judge_text(image, text, MAX_TEXT);
+    list_judged(before, image, text, out)
 }
 
-// The token at a place, under an image that was checked.
-pub fn take_checked<'a>(image: &'a [u8], text: &'a [u8], place: usize) -> Taken
-    requires { ⌜ refusalOf (now image) ≡ none ⌝ }
+// The token at a place of a text that may be read.
+fn take_accepted<'a>(image: &'a [u8], text: &'a [u8], place: usize) -> Taken
+    requires { ⌜ beforeText maxText (now image) (now text) ≡ none ⌝ }
     ensures { λ r. ⌜ r ≡ takenOf (now (image .entry)) (now (text .entry)) place ⌝ }
 {
-    if MAX_TEXT < text.len() {
-        return Taken::Refused(Refusal::TextLength);
-    }
     if text.len() < place {
         return Taken::Refused(Refusal::Shape);
     }
@@ -168,16 +176,38 @@ pub fn take_checked<'a>(image: &'a [u8], text: &'a [u8], place: usize) -> Taken
     }
 }
 
+// The token at a place, after what is judged before the text.
+fn take_judged<'a>(before: Judgement, image: &'a [u8], text: &'a [u8], place: usize) -> Taken
+    requires { ⌜ before ≡ judgementOf (beforeText maxText (now image) (now text)) ⌝ }
+    ensures { λ r. ⌜ r ≡ takenOf (now (image .entry)) (now (text .entry)) place ⌝ }
+{
+    match before {
+        Judgement::Refused(r) => Taken::Refused(r),
+        Judgement::Accepted => take_accepted(image, text, place),
+    }
+}
+
+// The token at a place, under an image that was checked.
+pub fn take_checked<'a>(image: &'a [u8], text: &'a [u8], place: usize) -> Taken
+    requires { ⌜ refusalOf (now image) ≡ none ⌝ }
+    ensures { λ r. ⌜ r ≡ takenOf (now (image .entry)) (now (text .entry)) place ⌝ }
+{
+    take_judged(
+        grammar::judge_checked(image, text, MAX_TEXT),
+        image,
+        text,
+        place,
+    )
+}
+
 // The token at a place.
 pub fn take_token<'a>(image: &'a [u8], text: &'a [u8], place: usize) -> Taken
     ensures { λ r. ⌜ r ≡ takenOf (now (image .entry)) (now (text .entry)) place ⌝ }
 {
-    let answer = image::judge(image);
-    match answer {
-        Answer::Refused(r) => Taken::Refused(r),
-        Answer::Accepted {
-            version: _,
-            ranges: _,
-        } => take_checked(image, text, place),
-    }
+    take_judged(
+        grammar::judge_text(image, text, MAX_TEXT),
+        image,
+        text,
+        place,
+    )
 }

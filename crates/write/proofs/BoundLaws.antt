@@ -36,9 +36,10 @@ use Rattle.grammar.proofs.DivisionLaws.{division-covers}
 use Rattle.grammar.proofs.GrammarLaws.{tokens-divide}
 use Rattle.grammar.proofs.RecordLaws.{tokens-width, length-listed, tokens-append, listed-append}
 use Rattle.grammar.proofs.StepLaws.{readFrom, first-comes, Settles}
-use Rattle.grammar.specs.declared.Counted.the-variants.{Tokens as Counted}
+use Rattle.grammar.specs.declared.Counted.the-variants.{Records as Counted}
 use Rattle.turns.specs.Turns.{numberBy, Phase, nothing, within, waits, waiting, states, traitMeaning, phaseNamed, begunBy, turnBy, waitingOf, turnOf, afterOf}
-use Rattle.grammar.specs.Counted.{countedBy, readThrough, countThrough}
+use Rattle.grammar.specs.Reading.{readThrough}
+use Rattle.grammar.specs.Counted.{countedBy, countThrough}
 use Rattle.turns.proofs.TurnLaws.{Tokens, Under, L, Stands, kind-less, stands-less, Going, left}
 use Rattle.turns.proofs.ReachLaws.{Place, Here, here, Look, NoCharacter, at-end, Reached, reached-begins, After, tokens-come, after-settling, left-settled, settles-none, read-end, after-turn, after-waiting, left-here}
 use Rattle.write.specs.Bounds.{Accepted, wordAt, ToldTo, Marked, Bounded, Kept}

@@ -10,7 +10,8 @@ use Rattle.utf8.specs.Text.{textOf}
 use Rattle.line.specs.Line.{lineOf, LineAt}
 use Rattle.grammar.specs.Step.{underWay}
 use Rattle.grammar.specs.Record.{recordSize, listedWords}
-use Rattle.grammar.specs.Reading.{maxText, readingOf, tokensOf}
+use Rattle.grammar.specs.Before.{maxText}
+use Rattle.grammar.specs.Reading.{readingOf, tokensOf}
 use Rattle.turns.specs.Turns.{waiting}
 use Rattle.turns.proofs.TurnLaws.{Tokens, Under}
 use Rattle.turns.proofs.ReachLaws.{Reached}

@@ -9,8 +9,9 @@ ghost use Rattle.lists.specs.Laid.{laid};
 ghost use Rattle.image.specs.Check.{refusalOf};
 ghost use Rattle.character.specs.Read.{TokenTableOf};
 ghost use Rattle.grammar.specs.Record.{recordSize, listedWords};
-ghost use Rattle.grammar.specs.Reading.{maxText, readingOf, tokensOf};
-ghost use Rattle.grammar.specs.declared.Counted.the-variants.{Tokens};
+ghost use Rattle.grammar.specs.Before.{maxText};
+ghost use Rattle.grammar.specs.Reading.{readingOf, tokensOf};
+ghost use Rattle.grammar.specs.declared.Counted.the-variants.{Records};
 ghost use Rattle.turns.specs.Turns.{turnTable, afterTable, waitingTable};
 ghost use Rattle.grammar.specs.Counted.{countThrough};
 ghost use Rattle.write.specs.Bounds.{Accepted, HasRoom, Bounded, Kept, Wrote};
@@ -136,7 +137,7 @@ pub fn write_tokens<'a>(
     requires { ⌜ refusalOf (now image) ≡ none ⌝ }
     requires { ⌜ TokenTableOf (now image) (now table) ⌝ }
     requires { ⌜ length (now text) ≤ maxText ⌝ }
-    requires { ⌜ countThrough (now image) (now text) ≡ Tokens count ⌝ }
+    requires { ⌜ countThrough (now image) (now text) ≡ Records count ⌝ }
     requires { ⌜ recordSize * count ≤ length (now out) ⌝ }
     ensures { λ _. ⌜ now (out .exit) ≡ laid (now (out .entry)) 0 (listedWords (now (text .entry)) (readingOf (now (image .entry)) (now (text .entry)) .tokens)) ⌝ }
 {

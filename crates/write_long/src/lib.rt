@@ -10,8 +10,9 @@ ghost use Rattle.image.specs.Check.{refusalOf};
 ghost use Rattle.character.specs.Read.{TokenTableOf};
 ghost use Rattle.blocks.specs.Blocks.{Cached};
 ghost use Rattle.grammar.specs.Record.{recordSize, listedWords};
-ghost use Rattle.grammar.specs.Reading.{maxText, readingOf};
-ghost use Rattle.grammar.specs.declared.Counted.the-variants.{Tokens};
+ghost use Rattle.grammar.specs.Before.{maxText};
+ghost use Rattle.grammar.specs.Reading.{readingOf};
+ghost use Rattle.grammar.specs.declared.Counted.the-variants.{Records};
 ghost use Rattle.turns.specs.Turns.{afterTable};
 ghost use Rattle.grammar.specs.Counted.{countThrough};
 ghost use Rattle.write.specs.Bounds.{HasRoom, Bounded, Wrote};
@@ -391,7 +392,7 @@ pub fn write_long<'a>(
     requires { ⌜ TokenTableOf (now image) (now table) ⌝ }
     requires { ⌜ Cached (now image) (now index) (now cells) ⌝ }
     requires { ⌜ length (now text) ≤ maxText ⌝ }
-    requires { ⌜ countThrough (now image) (now text) ≡ Tokens count ⌝ }
+    requires { ⌜ countThrough (now image) (now text) ≡ Records count ⌝ }
     requires { ⌜ recordSize * count ≤ length (now out) ⌝ }
     ensures { λ _. ⌜ now (out .exit) ≡ laid (now (out .entry)) 0 (listedWords (now (text .entry)) (readingOf (now (image .entry)) (now (text .entry)) .tokens)) ⌝ }
 {

@@ -4,7 +4,7 @@ use mathlib.Core.Path.{ap}
 use native.Mathlib.Omega.{arith}
 use borrow.Author.Needs.{needs}
 use borrow.Author.Tests.{eq-eqb, ne-eqb, lt-ltb, le-ltb}
-use Rattle.grammar.specs.declared.Counted.the-variants.{Refused, Tokens}
+use Rattle.grammar.specs.declared.Counted.the-variants.{Refused, Records}
 use Rattle.count.specs.Turns.{countWaiting}
 use Rattle.count.proofs.CountLaws.{pending-two}
 use Rattle.count.proofs.finish.Statement.{statement}
@@ -25,7 +25,7 @@ returns-3 : tie.Need-returns-3
 returns-3 c =
     let k = c .before .before .before .before .before .before .before in
     rw (ne-eqb _ countWaiting (c .before .before .before .before .if1 .left), le-ltb _ _ (c .before .before .if2 .left))
-    (ap (λ (n : ℕ). Tokens (k .args .run .count + n)) (c .before .count-pending .ensures))
+    (ap (λ (n : ℕ). Records (k .args .run .count + n)) (c .before .count-pending .ensures))
 
 pub finish-spec : {M : Type 1} → statement M
 finish-spec =

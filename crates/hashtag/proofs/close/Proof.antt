@@ -3,7 +3,7 @@ use mathlib.Core.Path.{ap, _∙_}
 use borrow.Author.Needs.{needs}
 use lib.ListN.{drop, drop-of-length-le}
 use Rattle.utf8.proofs.TextLaws.{text-ill, text-end}
-use Rattle.hashtag.specs.declared.Listed.the-variants.{Refused}
+use Rattle.grammar.specs.declared.Counted.the-variants.{Refused}
 use Rattle.hashtag.proofs.close.Statement.{statement}
 use Rattle.hashtag.proofs.close.Tie as tie
 

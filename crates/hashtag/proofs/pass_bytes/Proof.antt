@@ -4,13 +4,13 @@ use mathlib.Core.Bool.{true}
 use mathlib.Core.Path.{sym, _∙_}
 use native.Mathlib.Omega.{arith}
 use lib.ListN.{length}
-use Rattle.hashtag.specs.Seek.{Counted}
+use Rattle.hashtag.specs.Seek.{LinesCounted}
 use Rattle.hashtag.proofs.CountedLaws.{sum-one, counted-begins, counted-more}
 use Rattle.hashtag.proofs.pass_bytes.Statement.{statement}
 use Rattle.hashtag.proofs.pass_bytes.Tie as tie
 
 abbrev Inv-loop : tie.InvT-loop
-Inv-loop stops text from first at₀ line₀ at line = Counted text from first (record { at = at; line = line })
+Inv-loop stops text from first at₀ line₀ at line = LinesCounted text from first (record { at = at; line = line })
 
 abbrev μ-loop : tie.MeasureT-loop
 μ-loop stops text from first at₀ line₀ at line = length text - at

@@ -1,30 +1,17 @@
 -- `lookup::lookup` meets its contract. Assumes nothing.
 use mathlib.Core.Path.{sym}
-use Rattle.image.proofs.ImageLaws.{refused-by, accepted-by}
+use Rattle.given.proofs.JudgementLaws.{is-refused, is-accepted}
 use Rattle.lookup.proofs.LookupLaws.{refused}
 use borrow.Author.Needs.{needs}
 use Rattle.lookup.proofs.lookup.Statement.{statement}
 use Rattle.lookup.proofs.lookup.Tie as tie
 
-judge-requires : tie.Need-judge-requires
-judge-requires c κs = search needs
-
-enum-known-r : tie.Need-enum-known-r
-enum-known-r c = search needs
-
-enum-told : tie.Need-enum-told
-enum-told c = search needs
-
 lookup-checked-requires : tie.Need-lookup-checked-requires
-lookup-checked-requires c κs = accepted-by _ _ (c .before .before .judge .ensures) _ _ (c .enum-told .given .1) .0
+lookup-checked-requires c κs = is-accepted _ (c .before .before .judge-given .ensures) (c .enum-told .given .1)
 
 returns : tie.Need-returns
-returns c = sym (refused _ _ _ (refused-by _ _ (c .before .before .before .judge .ensures) _ (c .before .r .given .1)))
-
-returns-2 : tie.Need-returns-2
-returns-2 c = search needs
+returns c = sym (refused _ _ _ (is-refused _ (c .before .before .before .judge-given .ensures) (c .before .given .given .1)))
 
 pub lookup-spec : {M : Type 1} → statement M
 lookup-spec =
-    tie.close
-    (tie.spec judge-requires enum-known-r enum-told lookup-checked-requires returns returns-2)
+    tie.close (tie.spec (λ c κs. search needs) (λ c. search needs) (λ c. search needs) lookup-checked-requires returns (λ c. search needs))
