@@ -1,6 +1,6 @@
 /* Calls each function from C, with null pointers for empty slices among them, and compares what comes back: calls M M2
  *
- * The arguments are the files of the small images of docs/RULES.md. Prints a line for each check that fails, and last
+ * The arguments are the files of the small images of docs/CASES.md. Prints a line for each check that fails, and last
  * the counts.
  */
 #include <stdio.h>

@@ -1,4 +1,4 @@
--- The small images, and the marked cases of docs/RULES.md, "Small image M and its readings".
+-- The small images, and the marked cases of docs/CASES.md.
 use Prim.Native.Nat.{ℕ, _+_, _*_, _/_, _%_}
 use mathlib.Core.List.{List, [], _∷_, _++_}
 use lib.ListN.{length}

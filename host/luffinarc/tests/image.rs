@@ -8,7 +8,7 @@ fn data(name: &str) -> Vec<u8> {
     std::fs::read(format!("{folder}{name}")).unwrap()
 }
 
-/// The image M of docs/RULES.md, part by part.
+/// The image M of docs/CASES.md, part by part.
 fn m_parts() -> (Version, [Range; 5], Profile) {
     let range = |first: char, last: char, class| {
         let (first, last) = (first.into(), last.into());

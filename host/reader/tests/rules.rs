@@ -1,4 +1,4 @@
-//! The readings that docs/RULES.md gives of the small images M and M2.
+//! The readings that docs/CASES.md gives of the small images M and M2.
 
 use luffinarc_reader::changes::changes_of;
 use luffinarc_reader::class::{NONSTART, OTHER, START, SYNTAX, WHITE};

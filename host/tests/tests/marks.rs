@@ -20,7 +20,7 @@ fn made(ranges: &[(u32, u32, u32)], entries: &[(u32, u32)]) -> Vec<u8> {
     image_of(&Made { version: 1, ranges: ranges.collect(), profile: Profile::of(entries) })
 }
 
-/// K of docs/RULES.md with 2B as Syntax, marks of this class, and these entries beside 2E as a medial.
+/// K of docs/CASES.md with 2B as Syntax, marks of this class, and these entries beside 2E as a medial.
 fn with_marks(of_marks: u32, entries: &[(u32, u32)]) -> Vec<u8> {
     let ranges = [
         (0x0A, 0x0D, class::WHITE),
