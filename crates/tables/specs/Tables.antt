@@ -100,30 +100,27 @@ use Rattle.luffinarc.specs.ImageReply.{checkedBy, checkReply, foundReply, writt
 use Rattle.luffinarc.specs.TokenReply.{countedReply, takenReply, listedReply, partReply}
 use Rattle.demands.specs.Cases.{M, P}
 
--- the numbers below n, and those of a list of which a test holds
-abbrev from : ℕ → ℕ → List ℕ
-from zero x = []
-from (suc k) x = x ∷ from k (suc x)
+-- n numbers from x on, and from 0 on; those of a list of which a test holds
+abbrev countFrom : ℕ → ℕ → List ℕ
+countFrom x zero = []
+countFrom x (suc n) = x ∷ countFrom (suc x) n
 
-abbrev below : ℕ → List ℕ
-below n = from n 0
+abbrev upTo : ℕ → List ℕ
+upTo n = countFrom 0 n
 
 abbrev chosen : (ℕ → Bool) → List ℕ → List ℕ
 chosen test [] = []
 chosen test (x ∷ xs) = cond (test x) (x ∷ chosen test xs) (chosen test xs)
 
--- the classes; the roles, with 0 for none and 6, which is none; the edges of the scalar values, and those edges that are some
-abbrev classes : List ℕ
-classes = below 6
+-- the classes; the roles, with 0 for no entry, and 6, which no entry may have; numbers at the edges of the scalar values
+abbrev classNumbers : List ℕ
+classNumbers = upTo 6
 
-abbrev roles : List ℕ
-roles = below 7
+abbrev roleNumbers : List ℕ
+roleNumbers = upTo 7
 
-abbrev edges : List ℕ
-edges = 0 ∷ 0xD7FF ∷ 0xD800 ∷ 0xDFFF ∷ 0xE000 ∷ 0x10FFFF ∷ 0x110000 ∷ []
-
-abbrev scalars : List ℕ
-scalars = 0 ∷ 0xD7FF ∷ 0xE000 ∷ 0x10FFFF ∷ []
+abbrev scalarEdges : List ℕ
+scalarEdges = 0 ∷ 0xD7FF ∷ 0xD800 ∷ 0xDFFF ∷ 0xE000 ∷ 0x10FFFF ∷ 0x110000 ∷ []
 
 -- ranges and profile entries of an image, and its bytes; bytes of a text; those of the token lister's text; words of the change
 -- lister's runs and entries; code points
@@ -175,24 +172,24 @@ HeaderPlaces s =
     × (zeroWord s ≡ wordAt s 28)
 
 -- a header with n ranges and m entries, the same with another word at index i, and so many bytes of which the header says so
-abbrev header : ℕ → ℕ → List ℕ
-header n m = bytesOfAll (headerWords 7 n m)
+abbrev headerWith : ℕ → ℕ → List ℕ
+headerWith n m = bytesOfAll (headerWords 7 n m)
 
-abbrev otherAt : ℕ → List ℕ
-otherAt i = bytesOfAll (set (headerWords 7 1 1) i 9)
+abbrev headerChanged : ℕ → List ℕ
+headerChanged i = bytesOfAll (set (headerWords 7 1 1) i 9)
 
-abbrev sized : ℕ → List ℕ
-sized n = take n (replicate 8 0 ++ (bytesOf n ++ replicate n 0))
+abbrev imageOfLength : ℕ → List ℕ
+imageOfLength n = take n (replicate 8 0 ++ (bytesOf n ++ replicate n 0))
 
 -- the header's words in order, and what is right: every word but the version counts; n and m up to their limits; the length up to its own
 abbrev pub HeaderWords : ℕ → ℕ → ℕ → Type 0
 HeaderWords version n m =
     (headerWords version n m ≡ 1 ∷ version ∷ (32 + 12 * n + 8 * m) ∷ n ∷ 32 ∷ m ∷ (32 + 12 * n) ∷ 0 ∷ [])
-    × (chosen (λ (i : ℕ). headerRight (otherAt i)) (below 8) ≡ 1 ∷ [])
-    × (chosen (λ (i : ℕ). headerRight (header i 0)) (0 ∷ 4096 ∷ 4097 ∷ []) ≡ 0 ∷ 4096 ∷ [])
-    × (chosen (λ (i : ℕ). headerRight (header 0 i)) (0 ∷ 512 ∷ 513 ∷ []) ≡ 0 ∷ 512 ∷ [])
-    × (chosen (λ (i : ℕ). lengthRight (sized i)) (31 ∷ 32 ∷ 53280 ∷ 53281 ∷ []) ≡ 32 ∷ 53280 ∷ [])
-    × (lengthRight (sized 32 ++ 0 ∷ []) ≡ false)
+    × (chosen (λ (i : ℕ). headerRight (headerChanged i)) (upTo 8) ≡ 1 ∷ [])
+    × (chosen (λ (i : ℕ). headerRight (headerWith i 0)) (0 ∷ 4096 ∷ 4097 ∷ []) ≡ 0 ∷ 4096 ∷ [])
+    × (chosen (λ (i : ℕ). headerRight (headerWith 0 i)) (0 ∷ 512 ∷ 513 ∷ []) ≡ 0 ∷ 512 ∷ [])
+    × (chosen (λ (i : ℕ). lengthRight (imageOfLength i)) (31 ∷ 32 ∷ 53280 ∷ 53281 ∷ []) ≡ 32 ∷ 53280 ∷ [])
+    × (lengthRight (imageOfLength 32 ++ 0 ∷ []) ≡ false)
 
 abbrev pub ClassNumbers : Type 0
 ClassNumbers =
@@ -200,52 +197,52 @@ ClassNumbers =
     × (map classNamed (0 ∷ 1 ∷ 2 ∷ 3 ∷ 4 ∷ 5 ∷ []) ≡ Unassigned ∷ Start ∷ Nonstart ∷ Syntax ∷ White ∷ Other ∷ [])
 
 -- the refusal of an image with these ranges, three words each, and with these entries, a code point and a role each
-abbrev ranges : List ℕ → Option Refusal
-ranges words = refusalOf (imageOf 7 (rangeIn words) (length words / 3) noProfile)
+abbrev rangesRefusal : List ℕ → Option Refusal
+rangesRefusal words = refusalOf (imageOf 7 (rangeIn words) (length words / 3) noProfile)
 
-abbrev entries : List ℕ → List ℕ → Option Refusal
-entries points roles = refusalOf (imageOf 7 (rangeIn []) 0 (profileBy points roles (length points)))
+abbrev entriesRefusal : List ℕ → List ℕ → Option Refusal
+entriesRefusal points rs = refusalOf (imageOf 7 (rangeIn []) 0 (profileBy points rs (length points)))
 
-abbrev good : Option Refusal → Bool
-good none = true
-good (some r) = false
+abbrev isNone : Option Refusal → Bool
+isNone none = true
+isNone (some r) = false
 
 -- the code points and the classes that a range may have; of two ranges that touch, the later is bad if it touches its like
 abbrev pub RangesJudged : Type 0
 RangesJudged =
-    (chosen (λ (x : ℕ). good (ranges (x ∷ x ∷ 1 ∷ []))) edges ≡ scalars)
-    × (chosen (λ (class : ℕ). good (ranges (0x41 ∷ 0x41 ∷ class ∷ []))) (below 7) ≡ 1 ∷ 2 ∷ 3 ∷ 4 ∷ 5 ∷ [])
-    × (ranges (0x41 ∷ 0x42 ∷ 1 ∷ []) ≡ none)
-    × (ranges (0x42 ∷ 0x41 ∷ 1 ∷ []) ≡ some (refusal.Range 0))
-    × (ranges (0xD7FF ∷ 0xE000 ∷ 1 ∷ []) ≡ some (refusal.Range 0))
-    × (ranges (0x10FFFF ∷ 0x110000 ∷ 1 ∷ []) ≡ some (refusal.Range 0))
-    × (ranges (0x41 ∷ 0x42 ∷ 1 ∷ 0x43 ∷ 0x44 ∷ 1 ∷ []) ≡ some (refusal.Range 1))
-    × (ranges (0x41 ∷ 0x42 ∷ 1 ∷ 0x43 ∷ 0x44 ∷ 2 ∷ []) ≡ none)
-    × (ranges (0x41 ∷ 0x42 ∷ 1 ∷ 0x44 ∷ 0x44 ∷ 1 ∷ []) ≡ none)
-    × (ranges (0x41 ∷ 0x42 ∷ 1 ∷ 0x42 ∷ 0x44 ∷ 2 ∷ []) ≡ some (refusal.Range 1))
-    × (ranges (0xD7FF ∷ 0xD7FF ∷ 5 ∷ 0xE000 ∷ 0xE000 ∷ 5 ∷ []) ≡ none)
+    (chosen (λ (x : ℕ). isNone (rangesRefusal (x ∷ x ∷ 1 ∷ []))) scalarEdges ≡ 0 ∷ 0xD7FF ∷ 0xE000 ∷ 0x10FFFF ∷ [])
+    × (chosen (λ (class : ℕ). isNone (rangesRefusal (0x41 ∷ 0x41 ∷ class ∷ []))) (upTo 7) ≡ 1 ∷ 2 ∷ 3 ∷ 4 ∷ 5 ∷ [])
+    × (rangesRefusal (0x41 ∷ 0x42 ∷ 1 ∷ []) ≡ none)
+    × (rangesRefusal (0x42 ∷ 0x41 ∷ 1 ∷ []) ≡ some (refusal.Range 0))
+    × (rangesRefusal (0xD7FF ∷ 0xE000 ∷ 1 ∷ []) ≡ some (refusal.Range 0))
+    × (rangesRefusal (0x10FFFF ∷ 0x110000 ∷ 1 ∷ []) ≡ some (refusal.Range 0))
+    × (rangesRefusal (0x41 ∷ 0x42 ∷ 1 ∷ 0x43 ∷ 0x44 ∷ 1 ∷ []) ≡ some (refusal.Range 1))
+    × (rangesRefusal (0x41 ∷ 0x42 ∷ 1 ∷ 0x43 ∷ 0x44 ∷ 2 ∷ []) ≡ none)
+    × (rangesRefusal (0x41 ∷ 0x42 ∷ 1 ∷ 0x44 ∷ 0x44 ∷ 1 ∷ []) ≡ none)
+    × (rangesRefusal (0x41 ∷ 0x42 ∷ 1 ∷ 0x42 ∷ 0x44 ∷ 2 ∷ []) ≡ some (refusal.Range 1))
+    × (rangesRefusal (0xD7FF ∷ 0xD7FF ∷ 5 ∷ 0xE000 ∷ 0xE000 ∷ 5 ∷ []) ≡ none)
 
 -- the code points and the roles that an entry may have; code points rise
 abbrev pub EntriesJudged : Type 0
 EntriesJudged =
-    (chosen (λ (x : ℕ). good (entries (x ∷ []) (1 ∷ []))) edges ≡ scalars)
-    × (chosen (λ (role : ℕ). good (entries (0x41 ∷ []) (role ∷ []))) roles ≡ 1 ∷ 2 ∷ 3 ∷ 4 ∷ 5 ∷ [])
-    × (entries (0x41 ∷ 0x42 ∷ []) (1 ∷ 1 ∷ []) ≡ none)
-    × (entries (0x41 ∷ 0x41 ∷ []) (1 ∷ 2 ∷ []) ≡ some (refusal.Entry 1))
-    × (entries (0x42 ∷ 0x41 ∷ []) (1 ∷ 1 ∷ []) ≡ some (refusal.Entry 1))
+    (chosen (λ (x : ℕ). isNone (entriesRefusal (x ∷ []) (1 ∷ []))) scalarEdges ≡ 0 ∷ 0xD7FF ∷ 0xE000 ∷ 0x10FFFF ∷ [])
+    × (chosen (λ (role : ℕ). isNone (entriesRefusal (0x41 ∷ []) (role ∷ []))) roleNumbers ≡ 1 ∷ 2 ∷ 3 ∷ 4 ∷ 5 ∷ [])
+    × (entriesRefusal (0x41 ∷ 0x42 ∷ []) (1 ∷ 1 ∷ []) ≡ none)
+    × (entriesRefusal (0x41 ∷ 0x41 ∷ []) (1 ∷ 2 ∷ []) ≡ some (refusal.Entry 1))
+    × (entriesRefusal (0x42 ∷ 0x41 ∷ []) (1 ∷ 1 ∷ []) ≡ some (refusal.Entry 1))
 
 -- the roles by name; what each does to the classes 0 to 5, first none; which is that of a medial, and which that of hashtags
 abbrev pub RoleEffects : Type 0
 RoleEffects =
     (startRole ∷ nonstartRole ∷ medialRole ∷ otherRole ∷ hashtagRole ∷ [] ≡ 1 ∷ 2 ∷ 3 ∷ 4 ∷ 5 ∷ [])
-    × (map (afterRole 0) classes ≡ 0 ∷ 1 ∷ 2 ∷ 3 ∷ 4 ∷ 5 ∷ [])
-    × (map (afterRole 1) classes ≡ 1 ∷ 1 ∷ 1 ∷ 1 ∷ 1 ∷ 1 ∷ [])
-    × (map (afterRole 2) classes ≡ 2 ∷ 2 ∷ 2 ∷ 2 ∷ 2 ∷ 2 ∷ [])
-    × (map (afterRole 3) classes ≡ 0 ∷ 1 ∷ 2 ∷ 3 ∷ 4 ∷ 5 ∷ [])
-    × (map (afterRole 4) classes ≡ 5 ∷ 5 ∷ 5 ∷ 5 ∷ 5 ∷ 5 ∷ [])
-    × (map (afterRole 5) classes ≡ 0 ∷ 1 ∷ 2 ∷ 3 ∷ 4 ∷ 5 ∷ [])
-    × (chosen isMedial roles ≡ 3 ∷ [])
-    × (chosen isHashtag roles ≡ 5 ∷ [])
+    × (map (afterRole 0) classNumbers ≡ 0 ∷ 1 ∷ 2 ∷ 3 ∷ 4 ∷ 5 ∷ [])
+    × (map (afterRole 1) classNumbers ≡ 1 ∷ 1 ∷ 1 ∷ 1 ∷ 1 ∷ 1 ∷ [])
+    × (map (afterRole 2) classNumbers ≡ 2 ∷ 2 ∷ 2 ∷ 2 ∷ 2 ∷ 2 ∷ [])
+    × (map (afterRole 3) classNumbers ≡ 0 ∷ 1 ∷ 2 ∷ 3 ∷ 4 ∷ 5 ∷ [])
+    × (map (afterRole 4) classNumbers ≡ 5 ∷ 5 ∷ 5 ∷ 5 ∷ 5 ∷ 5 ∷ [])
+    × (map (afterRole 5) classNumbers ≡ 0 ∷ 1 ∷ 2 ∷ 3 ∷ 4 ∷ 5 ∷ [])
+    × (chosen isMedial roleNumbers ≡ 3 ∷ [])
+    × (chosen isHashtag roleNumbers ≡ 5 ∷ [])
 
 -- M's ranges; class and count of a lookup in M; the most steps, of the first of 4,096 ranges
 abbrev pub Lookups : Type 0
@@ -260,46 +257,46 @@ Lookups =
     × (seekOf (λ (i : ℕ). record { first = i; last = i; class = 1 }) 0 4096 0 .count ≡ 13)
 
 -- the number of the kind of token that a unit of a class begins, 0 for none; w is its kind of White
-abbrev numberBy : Option Kind → ℕ
-numberBy none = 0
-numberBy (some k) = kindNumber k
+abbrev numberOrZero : Option Kind → ℕ
+numberOrZero none = 0
+numberOrZero (some k) = kindNumber k
 
-abbrev begun : WhiteKind → ℕ → ℕ
-begun w class = numberBy (kindBy w (classNamed class))
+abbrev kindBegun : WhiteKind → ℕ → ℕ
+kindBegun w class = numberOrZero (kindBy w (classNamed class))
 
 -- the kinds by number; those that the classes 0 to 5 begin; the classes that are Continue, and White
 abbrev pub KindNumbers : Type 0
 KindNumbers =
     (map kindNumber (identifier ∷ syntax ∷ whitespace blank ∷ whitespace lineEnd ∷ whitespace mark ∷ []) ≡ 1 ∷ 2 ∷ 3 ∷ 4 ∷ 5 ∷ [])
     × (hashtagKind ≡ 6)
-    × (map (begun blank) classes ≡ 0 ∷ 1 ∷ 0 ∷ 2 ∷ 3 ∷ 0 ∷ [])
-    × (map (begun lineEnd) classes ≡ 0 ∷ 1 ∷ 0 ∷ 2 ∷ 4 ∷ 0 ∷ [])
-    × (map (begun mark) classes ≡ 0 ∷ 1 ∷ 0 ∷ 2 ∷ 5 ∷ 0 ∷ [])
-    × (chosen (λ (class : ℕ). isContinue (classNamed class)) classes ≡ 1 ∷ 2 ∷ [])
-    × (chosen (λ (class : ℕ). isWhite (classNamed class)) classes ≡ 4 ∷ [])
+    × (map (kindBegun blank) classNumbers ≡ 0 ∷ 1 ∷ 0 ∷ 2 ∷ 3 ∷ 0 ∷ [])
+    × (map (kindBegun lineEnd) classNumbers ≡ 0 ∷ 1 ∷ 0 ∷ 2 ∷ 4 ∷ 0 ∷ [])
+    × (map (kindBegun mark) classNumbers ≡ 0 ∷ 1 ∷ 0 ∷ 2 ∷ 5 ∷ 0 ∷ [])
+    × (chosen (λ (class : ℕ). isContinue (classNamed class)) classNumbers ≡ 1 ∷ 2 ∷ [])
+    × (chosen (λ (class : ℕ). isWhite (classNamed class)) classNumbers ≡ 4 ∷ [])
 
 -- units that are class numbers, of a kind of White, medials or not
-abbrev units : WhiteKind → Bool → Meaning ℕ
-units w b = record { class = classNamed; white = λ (x : ℕ). w; medial = λ (x : ℕ). b }
+abbrev meaningFor : WhiteKind → Bool → Meaning ℕ
+meaningFor w b = record { class = classNamed; white = λ (x : ℕ). w; medial = λ (x : ℕ). b }
 
-abbrev goes : Kind → WhiteKind → List ℕ
-goes k w = chosen (goesWith (units w false) k) classes
+abbrev goingOn : Kind → WhiteKind → List ℕ
+goingOn k w = chosen (goesWith (meaningFor w false) k) classNumbers
 
-abbrev links : Kind → Bool → List ℕ
-links k b = chosen (linksWith (units blank b) k) classes
+abbrev linkedBy : Kind → Bool → List ℕ
+linkedBy k b = chosen (linksWith (meaningFor blank b) k) classNumbers
 
 -- the classes that a token goes on with, by its kind and the unit's kind of White; and those of medials that may link it
 abbrev pub TokensGoOn : WhiteKind → Type 0
 TokensGoOn w =
-    (goes identifier w ≡ 1 ∷ 2 ∷ [])
-    × (goes syntax w ≡ [])
-    × (map (goes (whitespace blank)) (blank ∷ lineEnd ∷ mark ∷ []) ≡ (4 ∷ []) ∷ [] ∷ [] ∷ [])
-    × (map (goes (whitespace lineEnd)) (blank ∷ lineEnd ∷ mark ∷ []) ≡ [] ∷ (4 ∷ []) ∷ [] ∷ [])
-    × (map (goes (whitespace mark)) (blank ∷ lineEnd ∷ mark ∷ []) ≡ [] ∷ [] ∷ (4 ∷ []) ∷ [])
-    × (links identifier true ≡ 0 ∷ 1 ∷ 2 ∷ 3 ∷ 4 ∷ 5 ∷ [])
-    × (links identifier false ≡ [])
-    × (links syntax true ≡ [])
-    × (links (whitespace w) true ≡ [])
+    (goingOn identifier w ≡ 1 ∷ 2 ∷ [])
+    × (goingOn syntax w ≡ [])
+    × (map (goingOn (whitespace blank)) (blank ∷ lineEnd ∷ mark ∷ []) ≡ (4 ∷ []) ∷ [] ∷ [] ∷ [])
+    × (map (goingOn (whitespace lineEnd)) (blank ∷ lineEnd ∷ mark ∷ []) ≡ [] ∷ (4 ∷ []) ∷ [] ∷ [])
+    × (map (goingOn (whitespace mark)) (blank ∷ lineEnd ∷ mark ∷ []) ≡ [] ∷ [] ∷ (4 ∷ []) ∷ [])
+    × (linkedBy identifier true ≡ 0 ∷ 1 ∷ 2 ∷ 3 ∷ 4 ∷ 5 ∷ [])
+    × (linkedBy identifier false ≡ [])
+    × (linkedBy syntax true ≡ [])
+    × (linkedBy (whitespace w) true ≡ [])
 
 -- the words of a token, of a hashtag, of a range, of a profile entry, of a run and of a changed entry, in order
 abbrev pub RecordWords : List ℕ → ℕ → ℕ → ℕ → ℕ → Type 0
@@ -317,95 +314,98 @@ Rooms =
     (map roomOf (0 ∷ 3 ∷ 4 ∷ 7 ∷ 8 ∷ []) ≡ 0 ∷ 0 ∷ 1 ∷ 1 ∷ 2 ∷ [])
     × (roomRefusal {T = ℕ} 7 (0 ∷ 0 ∷ []) ≡ some (refusal.Room 2))
     × (roomRefusal {T = ℕ} 8 (0 ∷ 0 ∷ []) ≡ none)
-    × (map (λ (words : ℕ). readRefusal (header 1 0) words none) (2 ∷ 3 ∷ []) ≡ some (refusal.Room 1) ∷ none ∷ [])
-    × (map (λ (words : ℕ). readRefusal (header 2 0) words none) (5 ∷ 6 ∷ []) ≡ some (refusal.Room 2) ∷ none ∷ [])
+    × (map (λ (words : ℕ). readRefusal (headerWith 1 0) words none) (2 ∷ 3 ∷ []) ≡ some (refusal.Room 1) ∷ none ∷ [])
+    × (map (λ (words : ℕ). readRefusal (headerWith 2 0) words none) (5 ∷ 6 ∷ []) ≡ some (refusal.Room 2) ∷ none ∷ [])
     × (writeOf (0x7A ∷ 0x7A ∷ 5 ∷ 0 ∷ []) noProfile 0 ≡ written.Refused refusal.Shape)
     × (writeOf (0x7A ∷ 0x7A ∷ 5 ∷ []) noProfile 43 ≡ written.Refused (refusal.Buffer 44))
     × (writeOf (0x7A ∷ 0x7A ∷ 5 ∷ []) noProfile 44 ≡ written.Image 44)
 
--- the code points below 10000 hex that are line ends, direction marks and signs; White of the first is of kind 4, of the second of kind 5,
--- other White of kind 3
+-- of the code points 0 to 2FFF and FE00 to FFFF hex, the line ends, the direction marks and the signs; White of the first is of kind 4,
+-- of the second of kind 5, other White of kind 3
+abbrev watched : List ℕ
+watched = upTo 0x3000 ++ countFrom 0xFE00 0x200
+
 abbrev whiteKind : ℕ → ℕ
-whiteKind x = begun (whiteOf x) 4
+whiteKind x = kindBegun (whiteOf x) 4
 
 abbrev pub CodePoints : Type 0
 CodePoints =
-    (chosen isLineEnd (below 0x10000) ≡ 0x0A ∷ 0x0B ∷ 0x0C ∷ 0x0D ∷ 0x85 ∷ 0x2028 ∷ 0x2029 ∷ [])
-    × (chosen isMark (below 0x10000) ≡ 0x200E ∷ 0x200F ∷ [])
-    × (chosen isSign (below 0x10000) ≡ 0x23 ∷ 0xFE5F ∷ 0xFF03 ∷ [])
+    (chosen isLineEnd watched ≡ 0x0A ∷ 0x0B ∷ 0x0C ∷ 0x0D ∷ 0x85 ∷ 0x2028 ∷ 0x2029 ∷ [])
+    × (chosen isMark watched ≡ 0x200E ∷ 0x200F ∷ [])
+    × (chosen isSign watched ≡ 0x23 ∷ 0xFE5F ∷ 0xFF03 ∷ [])
     × (map whiteKind (0x09 ∷ 0x0A ∷ 0x0D ∷ 0x0E ∷ 0x20 ∷ 0x84 ∷ 0x85 ∷ 0x86 ∷ []) ≡ 3 ∷ 4 ∷ 4 ∷ 3 ∷ 3 ∷ 3 ∷ 4 ∷ 3 ∷ [])
     × (map whiteKind (0x200D ∷ 0x200E ∷ 0x200F ∷ 0x2010 ∷ 0x2027 ∷ 0x2028 ∷ 0x2029 ∷ 0x202A ∷ []) ≡ 3 ∷ 5 ∷ 5 ∷ 3 ∷ 3 ∷ 4 ∷ 4 ∷ 3 ∷ [])
 
 -- the line of each byte: lines count from 1, and CR LF is one line end
 abbrev pub Lines : Type 0
 Lines =
-    (map (lineOf (0x0D ∷ 0x0A ∷ 0x61 ∷ [])) (below 3) ≡ 1 ∷ 1 ∷ 2 ∷ [])
-    × (map (lineOf (0x0D ∷ 0x0D ∷ 0x0A ∷ 0x61 ∷ [])) (below 4) ≡ 1 ∷ 2 ∷ 2 ∷ 3 ∷ [])
-    × (map (lineOf (0x0A ∷ 0x0D ∷ 0x61 ∷ [])) (below 3) ≡ 1 ∷ 2 ∷ 3 ∷ [])
+    (map (lineOf (0x0D ∷ 0x0A ∷ 0x61 ∷ [])) (upTo 3) ≡ 1 ∷ 1 ∷ 2 ∷ [])
+    × (map (lineOf (0x0D ∷ 0x0D ∷ 0x0A ∷ 0x61 ∷ [])) (upTo 4) ≡ 1 ∷ 2 ∷ 2 ∷ 3 ∷ [])
+    × (map (lineOf (0x0A ∷ 0x0D ∷ 0x61 ∷ [])) (upTo 3) ≡ 1 ∷ 2 ∷ 3 ∷ [])
 
 -- hashtag Continue under P: Nonstart, Start and role 5; neither White nor a sign nor a medial
 abbrev pub HashtagContinues : Type 0
 HashtagContinues = chosen (isHashtagContinue P) (0x20 ∷ 0x23 ∷ 0x2E ∷ 0x31 ∷ 0x41 ∷ 0x5F ∷ 0x61 ∷ []) ≡ 0x31 ∷ 0x41 ∷ 0x5F ∷ 0x61 ∷ []
 
 -- a refusal's number, and what it carries
-abbrev told : Refusal → List ℕ
-told r = numberOf r ∷ carriedBy r
+abbrev refusalRow : Refusal → List ℕ
+refusalRow r = numberOf r ∷ carriedBy r
 
 abbrev pub RefusalNumbers : ℕ → ℕ → Type 0
 RefusalNumbers a b =
-    (told refusal.Length ≡ 1 ∷ [])
-    × (told refusal.Header ≡ 2 ∷ [])
-    × (told (refusal.Range a) ≡ 3 ∷ a ∷ [])
-    × (told (refusal.Entry a) ≡ 4 ∷ a ∷ [])
-    × (told refusal.TextLength ≡ 5 ∷ [])
-    × (told (refusal.IllFormed a b) ≡ 6 ∷ a ∷ b ∷ [])
-    × (told (refusal.Characters a) ≡ 7 ∷ a ∷ [])
-    × (told (refusal.Room a) ≡ 8 ∷ a ∷ [])
-    × (told (refusal.NotScalar a) ≡ 9 ∷ a ∷ [])
-    × (told (refusal.Change a) ≡ 10 ∷ a ∷ [])
-    × (told refusal.Profiles ≡ 11 ∷ [])
-    × (told (refusal.Buffer a) ≡ 12 ∷ a ∷ [])
-    × (told refusal.Shape ≡ 13 ∷ [])
-    × (told (refusal.Mark a) ≡ 14 ∷ a ∷ [])
+    (refusalRow refusal.Length ≡ 1 ∷ [])
+    × (refusalRow refusal.Header ≡ 2 ∷ [])
+    × (refusalRow (refusal.Range a) ≡ 3 ∷ a ∷ [])
+    × (refusalRow (refusal.Entry a) ≡ 4 ∷ a ∷ [])
+    × (refusalRow refusal.TextLength ≡ 5 ∷ [])
+    × (refusalRow (refusal.IllFormed a b) ≡ 6 ∷ a ∷ b ∷ [])
+    × (refusalRow (refusal.Characters a) ≡ 7 ∷ a ∷ [])
+    × (refusalRow (refusal.Room a) ≡ 8 ∷ a ∷ [])
+    × (refusalRow (refusal.NotScalar a) ≡ 9 ∷ a ∷ [])
+    × (refusalRow (refusal.Change a) ≡ 10 ∷ a ∷ [])
+    × (refusalRow refusal.Profiles ≡ 11 ∷ [])
+    × (refusalRow (refusal.Buffer a) ≡ 12 ∷ a ∷ [])
+    × (refusalRow refusal.Shape ≡ 13 ∷ [])
+    × (refusalRow (refusal.Mark a) ≡ 14 ∷ a ∷ [])
 
 -- from C: the result, and the four numbers of the answer; the third of a refusal is 1 for the older image, 2 for the newer, else 0
-abbrev shown : Reply → List ℕ
-shown r = r .number ∷ r .values
+abbrev replyRow : Reply → List ℕ
+replyRow r = r .number ∷ r .values
 
 abbrev pub ImageReplies : ℕ → ℕ → ℕ → Type 0
 ImageReplies a b c =
-    (shown (checkedBy (answer.Accepted a b) c) ≡ 0 ∷ a ∷ b ∷ c ∷ 0 ∷ [])
-    × (shown (checkedBy (answer.Refused (refusal.Range a)) c) ≡ 3 ∷ a ∷ 0 ∷ 0 ∷ 0 ∷ [])
-    × (shown (checkReply (checkOf M)) ≡ 0 ∷ 1048576 ∷ 5 ∷ 1 ∷ 0 ∷ [])
-    × (shown (foundReply (found.Class a b)) ≡ 0 ∷ a ∷ b ∷ 0 ∷ 0 ∷ [])
-    × (shown (foundReply (found.Refused (refusal.NotScalar a))) ≡ 9 ∷ a ∷ 0 ∷ 0 ∷ 0 ∷ [])
-    × (shown (writtenReply (written.Image a)) ≡ 0 ∷ a ∷ 0 ∷ 0 ∷ 0 ∷ [])
-    × (shown (writtenReply (written.Refused (refusal.Buffer a))) ≡ 12 ∷ a ∷ 0 ∷ 0 ∷ 0 ∷ [])
-    × (shown (pairReply pair.Permitted) ≡ 0 ∷ 0 ∷ 0 ∷ 0 ∷ 0 ∷ [])
-    × (shown (pairReply (pair.Older (refusal.Entry a))) ≡ 4 ∷ a ∷ 0 ∷ 1 ∷ 0 ∷ [])
-    × (shown (pairReply (pair.Newer (refusal.Entry a))) ≡ 4 ∷ a ∷ 0 ∷ 2 ∷ 0 ∷ [])
-    × (shown (pairReply (pair.Refused (refusal.Change a))) ≡ 10 ∷ a ∷ 0 ∷ 0 ∷ 0 ∷ [])
-    × (shown (changesReply (changes.Listed a b)) ≡ 0 ∷ a ∷ b ∷ 0 ∷ 0 ∷ [])
-    × (shown (changesReply (changes.Older (refusal.Entry a))) ≡ 4 ∷ a ∷ 0 ∷ 1 ∷ 0 ∷ [])
-    × (shown (changesReply (changes.Newer (refusal.Entry a))) ≡ 4 ∷ a ∷ 0 ∷ 2 ∷ 0 ∷ [])
-    × (shown (changesReply (changes.Refused (refusal.Room a))) ≡ 8 ∷ a ∷ 0 ∷ 0 ∷ 0 ∷ [])
+    (replyRow (checkedBy (answer.Accepted a b) c) ≡ 0 ∷ a ∷ b ∷ c ∷ 0 ∷ [])
+    × (replyRow (checkedBy (answer.Refused (refusal.Range a)) c) ≡ 3 ∷ a ∷ 0 ∷ 0 ∷ 0 ∷ [])
+    × (replyRow (checkReply (checkOf M)) ≡ 0 ∷ 1048576 ∷ 5 ∷ 1 ∷ 0 ∷ [])
+    × (replyRow (foundReply (found.Class a b)) ≡ 0 ∷ a ∷ b ∷ 0 ∷ 0 ∷ [])
+    × (replyRow (foundReply (found.Refused (refusal.NotScalar a))) ≡ 9 ∷ a ∷ 0 ∷ 0 ∷ 0 ∷ [])
+    × (replyRow (writtenReply (written.Image a)) ≡ 0 ∷ a ∷ 0 ∷ 0 ∷ 0 ∷ [])
+    × (replyRow (writtenReply (written.Refused (refusal.Buffer a))) ≡ 12 ∷ a ∷ 0 ∷ 0 ∷ 0 ∷ [])
+    × (replyRow (pairReply pair.Permitted) ≡ 0 ∷ 0 ∷ 0 ∷ 0 ∷ 0 ∷ [])
+    × (replyRow (pairReply (pair.Older (refusal.Entry a))) ≡ 4 ∷ a ∷ 0 ∷ 1 ∷ 0 ∷ [])
+    × (replyRow (pairReply (pair.Newer (refusal.Entry a))) ≡ 4 ∷ a ∷ 0 ∷ 2 ∷ 0 ∷ [])
+    × (replyRow (pairReply (pair.Refused (refusal.Change a))) ≡ 10 ∷ a ∷ 0 ∷ 0 ∷ 0 ∷ [])
+    × (replyRow (changesReply (changes.Listed a b)) ≡ 0 ∷ a ∷ b ∷ 0 ∷ 0 ∷ [])
+    × (replyRow (changesReply (changes.Older (refusal.Entry a))) ≡ 4 ∷ a ∷ 0 ∷ 1 ∷ 0 ∷ [])
+    × (replyRow (changesReply (changes.Newer (refusal.Entry a))) ≡ 4 ∷ a ∷ 0 ∷ 2 ∷ 0 ∷ [])
+    × (replyRow (changesReply (changes.Refused (refusal.Room a))) ≡ 8 ∷ a ∷ 0 ∷ 0 ∷ 0 ∷ [])
 
 abbrev pub TokenReplies : ℕ → ℕ → ℕ → Type 0
 TokenReplies a b c =
-    (shown (countedReply (counted.Tokens a)) ≡ 0 ∷ a ∷ 0 ∷ 0 ∷ 0 ∷ [])
-    × (shown (countedReply (counted.Refused (refusal.IllFormed a b))) ≡ 6 ∷ a ∷ b ∷ 0 ∷ 0 ∷ [])
-    × (shown (takenReply (taken.Token a b c)) ≡ 0 ∷ a ∷ b ∷ c ∷ 0 ∷ [])
-    × (shown (takenReply taken.Done) ≡ 255 ∷ 0 ∷ 0 ∷ 0 ∷ 0 ∷ [])
-    × (shown (takenReply (taken.Refused (refusal.IllFormed a b))) ≡ 6 ∷ a ∷ b ∷ 0 ∷ 0 ∷ [])
-    × (shown (listedReply (listed.Hashtags a)) ≡ 0 ∷ a ∷ 0 ∷ 0 ∷ 0 ∷ [])
-    × (shown (listedReply (listed.Refused (refusal.IllFormed a b))) ≡ 6 ∷ a ∷ b ∷ 0 ∷ 0 ∷ [])
-    × (shown (partReply (given (b ∷ c ∷ [])) a) ≡ 0 ∷ a ∷ 2 ∷ 0 ∷ 0 ∷ [])
-    × (shown (partReply (refused refusal.Shape) a) ≡ 13 ∷ 0 ∷ 0 ∷ 0 ∷ 0 ∷ [])
+    (replyRow (countedReply (counted.Tokens a)) ≡ 0 ∷ a ∷ 0 ∷ 0 ∷ 0 ∷ [])
+    × (replyRow (countedReply (counted.Refused (refusal.IllFormed a b))) ≡ 6 ∷ a ∷ b ∷ 0 ∷ 0 ∷ [])
+    × (replyRow (takenReply (taken.Token a b c)) ≡ 0 ∷ a ∷ b ∷ c ∷ 0 ∷ [])
+    × (replyRow (takenReply taken.Done) ≡ 255 ∷ 0 ∷ 0 ∷ 0 ∷ 0 ∷ [])
+    × (replyRow (takenReply (taken.Refused (refusal.IllFormed a b))) ≡ 6 ∷ a ∷ b ∷ 0 ∷ 0 ∷ [])
+    × (replyRow (listedReply (listed.Hashtags a)) ≡ 0 ∷ a ∷ 0 ∷ 0 ∷ 0 ∷ [])
+    × (replyRow (listedReply (listed.Refused (refusal.IllFormed a b))) ≡ 6 ∷ a ∷ b ∷ 0 ∷ 0 ∷ [])
+    × (replyRow (partReply (given (b ∷ c ∷ [])) a) ≡ 0 ∷ a ∷ 2 ∷ 0 ∷ 0 ∷ [])
+    × (replyRow (partReply (refused refusal.Shape) a) ≡ 13 ∷ 0 ∷ 0 ∷ 0 ∷ 0 ∷ [])
 
 -- 1 for each of the newer classes 0 to 5 that a class may become or stay, else 0. `pair/proofs/ChangeLaws.antt` joins `permitted` to the
 -- data type `Permitted`
 abbrev becomes : ℕ → List ℕ
-becomes older = map (λ (newer : ℕ). one (permitted older newer)) classes
+becomes older = map (λ (newer : ℕ). one (permitted older newer)) classNumbers
 
 abbrev pub PermittedChanges : Type 0
 PermittedChanges =
@@ -417,7 +417,7 @@ PermittedChanges =
     × (becomes 5 ≡ 0 ∷ 1 ∷ 1 ∷ 0 ∷ 0 ∷ 1 ∷ [])
 
 abbrev pub ScalarValues : Type 0
-ScalarValues = chosen isScalar edges ≡ scalars
+ScalarValues = chosen isScalar scalarEdges ≡ 0 ∷ 0xD7FF ∷ 0xE000 ∷ 0x10FFFF ∷ []
 
 -- the length of the maximal subpart at the front of bytes
 abbrev pub Subparts : Type 0
