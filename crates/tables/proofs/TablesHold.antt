@@ -35,7 +35,7 @@ use Rattle.grammar.specs.White.{WhiteKind, isMark, whiteOf}
 use Rattle.grammar.specs.Reading.{lengthRefusal, outcomeWithin, writtenWithin}
 use Rattle.hashtag.specs.Sign.{isSign, isHashtagContinue}
 use Rattle.listing.specs.Input.{scriptWithin}
-use Rattle.demands.specs.Cases.{M, P}
+use Rattle.demands.specs.Cases.{M, P, N}
 use Rattle.tables.specs.Tables.{
   Limits,
   TextLimits,
@@ -68,7 +68,7 @@ unfolding firstFrom firstWhere eachFrom each isScalar subpartOf stepOf decodeIn 
     bytesOf lengthWithin headerWithin rangeAt rangeIn goodAlone follows goodRange firstBadRange classIn pointAt roleAt goodEntryAlone
     goodEntry firstBadEntry profileWithin noProfileWithin roleBy afterRole isMedial isHashtag imageWords bytesOfAll imageOf
     recordsRefusal refusalWithin checkWithin rangeClass entryRole classOf hashtagOf seekOf lookupWithin writeRefusalWithin writeWithin
-    isContinueClass permitted isMark whiteOf lengthRefusal outcomeWithin writtenWithin isSign isHashtagContinue scriptWithin M P
+    isContinueClass permitted isMark whiteOf lengthRefusal outcomeWithin writtenWithin isSign isHashtagContinue scriptWithin M P N
 computed = record {}
 
 pub limits : Limits
@@ -131,7 +131,7 @@ lines = (refl, refl, refl)
 
 pub hashtag-continues : HashtagContinues
 unfolding computed
-hashtag-continues = refl
+hashtag-continues = (refl, refl)
 
 pub refusal-numbers : (a b : ℕ) → RefusalNumbers a b
 refusal-numbers a b = (refl, refl, refl, refl, refl, refl, refl, refl, refl, refl, refl, refl, refl, refl)

@@ -98,7 +98,7 @@ use Rattle.change_listing.specs.Input.{maxRunWords, maxEntryWords}
 use Rattle.luffinarc.specs.Reply.{Reply}
 use Rattle.luffinarc.specs.ImageReply.{checkedBy, checkReply, foundReply, writtenReply, pairReply, changesReply}
 use Rattle.luffinarc.specs.TokenReply.{countedReply, takenReply, listedReply, partReply}
-use Rattle.demands.specs.Cases.{M, P}
+use Rattle.demands.specs.Cases.{M, P, N}
 
 -- n numbers from x on, and from 0 on; those of a list of which a test holds
 abbrev countFrom : ℕ → ℕ → List ℕ
@@ -343,9 +343,12 @@ Lines =
     × (map (lineOf (0x0D ∷ 0x0D ∷ 0x0A ∷ 0x61 ∷ [])) (upTo 4) ≡ 1 ∷ 2 ∷ 2 ∷ 3 ∷ [])
     × (map (lineOf (0x0A ∷ 0x0D ∷ 0x61 ∷ [])) (upTo 3) ≡ 1 ∷ 2 ∷ 3 ∷ [])
 
--- hashtag Continue under P: Nonstart, Start and role 5; neither White nor a sign nor a medial
+-- hashtag Continue: Start, Nonstart and role 5, under P; neither White nor Syntax that is a medial, nor a sign, though role 2 makes it
+-- Nonstart under N
 abbrev pub HashtagContinues : Type 0
-HashtagContinues = chosen (isHashtagContinue P) (0x20 ∷ 0x23 ∷ 0x2E ∷ 0x31 ∷ 0x41 ∷ 0x5F ∷ 0x61 ∷ []) ≡ 0x31 ∷ 0x41 ∷ 0x5F ∷ 0x61 ∷ []
+HashtagContinues =
+    (chosen (isHashtagContinue P) (0x20 ∷ 0x2E ∷ 0x31 ∷ 0x41 ∷ 0x5F ∷ []) ≡ 0x31 ∷ 0x41 ∷ 0x5F ∷ [])
+    × (chosen (isHashtagContinue N) (0x23 ∷ 0x31 ∷ []) ≡ 0x31 ∷ [])
 
 -- a refusal's number, and what it carries
 abbrev refusalRow : Refusal → List ℕ
