@@ -46,9 +46,8 @@ fn put(answer: &mut [u64; 4], a: u64, b: u64, c: u64, d: u64)
 fn refuse(r: Refusal, which: u64, answer: &mut [u64; 4]) -> u32
     ensures { λ n. ⌜ Tells (refusesOf which r) n (now (answer .exit)) ⌝ }
 {
-    let first = refusal::carried(r);
-    let second = refusal::carried_second(r);
-    put(answer, first as u64, second as u64, which, 0);
+    let c = refusal::carry(r);
+    put(answer, c.first as u64, c.second as u64, which, 0);
     refusal::number(r)
 }
 
