@@ -34,9 +34,9 @@ extern "C" {
 
 /* The version of the library: three numbers, and the text "MAJOR.MINOR.PATCH". */
 #define LUFFINARC_VERSION_MAJOR 0
-#define LUFFINARC_VERSION_MINOR 1
-#define LUFFINARC_VERSION_PATCH 0
-#define LUFFINARC_VERSION "0.1.0"
+#define LUFFINARC_VERSION_MINOR 8
+#define LUFFINARC_VERSION_PATCH 1
+#define LUFFINARC_VERSION "0.8.1"
 
 /* The version word of an image built from Unicode a.b.c, and the three numbers of a word. b and c are at most 255, a at
  * most 65535; all are of type uint32_t. */
@@ -310,7 +310,7 @@ uint32_t luffinarc_part(const uint8_t *text, size_t text_len,
  * any other they may read outside the image, and their answer means nothing. The safe Rust type `Image` sees to this.
  *
  * Answers and refusals are those of the function without `_checked`, 1 to 4 apart. What they require is exactly what a
- * result of 0 from luffinarc_check tells (law `zero-checked`, crates/luffinarc/proofs/CheckedLaws.antt).
+ * result of 0 from luffinarc_check tells (law `zero-checked`, crates/reply/proofs/CheckedLaws.antt).
  */
 uint32_t luffinarc_lookup_checked(const uint8_t *image, size_t image_len,
                                   uint32_t number, uint64_t *answer);

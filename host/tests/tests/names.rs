@@ -37,9 +37,10 @@ fn in_rattle(function: &str, line: &str) {
     assert!(body.contains(line), "no {line} in {function} of Rattle");
 }
 
-/// The number of a public constant of a Rattle crate.
+/// The number of a public constant of a Rattle crate, or of a module of one, as `image::records`.
 fn constant(of: &str, name: &str) -> u32 {
-    let file = format!("{}/../../crates/{of}/src/lib.rt", env!("CARGO_MANIFEST_DIR"));
+    let (of_crate, module) = of.split_once("::").unwrap_or((of, "lib"));
+    let file = format!("{}/../../crates/{of_crate}/src/{module}.rt", env!("CARGO_MANIFEST_DIR"));
     let source = std::fs::read_to_string(&file).unwrap_or_else(|error| panic!("{file}: {error}"));
     let number = |line: &str| {
         let rest = line.strip_prefix(&format!("pub const {name}: "))?;
@@ -208,11 +209,11 @@ fn kinds() {
 /// The role and the kind of hashtags, in Rattle too. The kind is that of no token.
 #[test]
 fn hashtags() {
-    assert_eq!(constant("lookup", "HASHTAG_ROLE"), Role::Hashtag.number());
+    assert_eq!(constant("image::records", "HASHTAG_ROLE"), Role::Hashtag.number());
     assert_eq!(constant("hashtag", "HASHTAG"), HASHTAG_KIND);
     assert_eq!((in_c("LUFFINARC_KIND_HASHTAG"), kind::HASHTAG), (HASHTAG_KIND, HASHTAG_KIND));
     assert_eq!(Kind::from_number(HASHTAG_KIND), None);
-    assert_eq!(constant("scan", "RECORD_WORDS") as usize, luffinarc::RECORD_WORDS);
+    assert_eq!(constant("grammar", "RECORD_WORDS") as usize, luffinarc::RECORD_WORDS);
 }
 
 #[test]
