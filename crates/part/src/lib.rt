@@ -1,6 +1,7 @@
 // A token's bytes, handed back as that part of the caller's own text.
 ghost use mathlib.Core.Path.{_≡_};
 ghost use Rattle.part.specs.Part.{partNumber, partBytes};
+use refusal::Refusal;
 
 // A part of a text, or the number of the refusal beside an empty part; 0: not refused.
 pub struct Part<'a> {
@@ -8,15 +9,15 @@ pub struct Part<'a> {
     pub bytes: &'a [u8],
 }
 
-// 13 where the start is after the end or the end past the text's end, else 0.
+// The number of `Shape` where the start is after the end or the end past the text's end, else 0.
 pub fn check(text: &[u8], start: usize, end: usize) -> u32
     ensures { λ r. ⌜ r ≡ partNumber (now (text .entry)) start end ⌝ }
 {
     if end < start {
-        return 13;
+        return refusal::number(Refusal::Shape);
     }
     if text.len() < end {
-        return 13;
+        return refusal::number(Refusal::Shape);
     }
     0
 }

@@ -31,12 +31,12 @@ pub fn print_refusal_of(of: &[u8], r: Refusal) {
     print_text(b"refused");
     print_text(of);
     print_next(refusal::number(r) as usize);
-    let n = refusal::carried_count(r);
-    if 1 <= n {
-        print_next(refusal::carried(r));
+    let c = refusal::carry(r);
+    if 1 <= c.count {
+        print_next(c.first);
     }
-    if 2 <= n {
-        print_next(refusal::carried_second(r));
+    if 2 <= c.count {
+        print_next(c.second);
     }
 }
 

@@ -1,6 +1,9 @@
 -- docs/RULES.md, "Named refusals": the number of each refusal and what it carries.
 use Prim.Native.Nat.{ℕ}
+use mathlib.Core.Path.{_≡_}
 use mathlib.Core.List.{List, [], _∷_}
+use lib.ListN.{length, getD}
+use Rattle.refusal.specs.declared.Carried.{Carried}
 use Rattle.refusal.specs.declared.Refusal.{Refusal}
 use Rattle.refusal.specs.declared.Refusal.the-variants.{
   Length,
@@ -51,3 +54,9 @@ carriedBy Profiles = []
 carriedBy (Buffer n) = n ∷ []
 carriedBy Shape = []
 carriedBy (Mark p) = p ∷ []
+
+-- how many numbers these are, the first and the second, 0 where there is none
+pub record Carries (xs : List ℕ) (c : Carried) : Type 0 where
+  pub count : c .count ≡ length xs
+  pub first : c .first ≡ getD xs 0 0
+  pub second : c .second ≡ getD xs 1 0

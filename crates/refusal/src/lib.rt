@@ -1,7 +1,7 @@
 // The named refusals of all calls, with their numbers and what each carries.
 ghost use mathlib.Core.Path.{_≡_};
-ghost use lib.ListN.{length, getD};
-ghost use Rattle.refusal.specs.Refusal.{numberOf, carriedBy};
+ghost use mathlib.Core.List.{[], _∷_};
+ghost use Rattle.refusal.specs.Refusal.{numberOf, carriedBy, Carries};
 
 pub enum Refusal {
     // 1: the image is too short or too long, or not of the header's total length.
@@ -44,7 +44,7 @@ pub fn number(r: Refusal) -> u32
         Refusal::Range(_) => 3,
         Refusal::Entry(_) => 4,
         Refusal::TextLength => 5,
-        Refusal::IllFormed { place: _, len: _ } => 6,
+        Refusal::IllFormed { .. } => 6,
         Refusal::Characters(_) => 7,
         Refusal::Room(_) => 8,
         Refusal::NotScalar(_) => 9,
@@ -56,68 +56,61 @@ pub fn number(r: Refusal) -> u32
     }
 }
 
-// How many numbers the refusal carries.
-pub fn carried_count(r: Refusal) -> usize
-    ensures { λ n. ⌜ n ≡ length (carriedBy r) ⌝ }
+// What a refusal carries: how many numbers, the first and the second, 0 where there is none.
+pub struct Carried {
+    pub count: usize,
+    pub first: usize,
+    pub second: usize,
+}
+
+fn none() -> Carried
+    ensures { λ c. ⌜ Carries [] c ⌝ }
 {
-    match r {
-        Refusal::Length => 0,
-        Refusal::Header => 0,
-        Refusal::Range(_) => 1,
-        Refusal::Entry(_) => 1,
-        Refusal::TextLength => 0,
-        Refusal::IllFormed { place: _, len: _ } => 2,
-        Refusal::Characters(_) => 1,
-        Refusal::Room(_) => 1,
-        Refusal::NotScalar(_) => 1,
-        Refusal::Change(_) => 1,
-        Refusal::Profiles => 0,
-        Refusal::Buffer(_) => 1,
-        Refusal::Shape => 0,
-        Refusal::Mark(_) => 1,
+    Carried {
+        count: 0,
+        first: 0,
+        second: 0,
     }
 }
 
-// The first number that the refusal carries, or 0.
-pub fn carried(r: Refusal) -> usize
-    ensures { λ n. ⌜ n ≡ getD (carriedBy r) 0 0 ⌝ }
+fn one(first: usize) -> Carried
+    ensures { λ c. ⌜ Carries (first ∷ []) c ⌝ }
 {
-    match r {
-        Refusal::Length => 0,
-        Refusal::Header => 0,
-        Refusal::Range(i) => i,
-        Refusal::Entry(i) => i,
-        Refusal::TextLength => 0,
-        Refusal::IllFormed { place, len: _ } => place,
-        Refusal::Characters(p) => p,
-        Refusal::Room(n) => n,
-        Refusal::NotScalar(x) => x,
-        Refusal::Change(x) => x,
-        Refusal::Profiles => 0,
-        Refusal::Buffer(n) => n,
-        Refusal::Shape => 0,
-        Refusal::Mark(p) => p,
+    Carried {
+        count: 1,
+        first,
+        second: 0,
     }
 }
 
-// The second number that the refusal carries, or 0.
-pub fn carried_second(r: Refusal) -> usize
-    ensures { λ n. ⌜ n ≡ getD (carriedBy r) 1 0 ⌝ }
+fn two(first: usize, second: usize) -> Carried
+    ensures { λ c. ⌜ Carries (first ∷ second ∷ []) c ⌝ }
+{
+    Carried {
+        count: 2,
+        first,
+        second,
+    }
+}
+
+// What this refusal carries.
+pub fn carry(r: Refusal) -> Carried
+    ensures { λ c. ⌜ Carries (carriedBy r) c ⌝ }
 {
     match r {
-        Refusal::Length => 0,
-        Refusal::Header => 0,
-        Refusal::Range(_) => 0,
-        Refusal::Entry(_) => 0,
-        Refusal::TextLength => 0,
-        Refusal::IllFormed { place: _, len } => len,
-        Refusal::Characters(_) => 0,
-        Refusal::Room(_) => 0,
-        Refusal::NotScalar(_) => 0,
-        Refusal::Change(_) => 0,
-        Refusal::Profiles => 0,
-        Refusal::Buffer(_) => 0,
-        Refusal::Shape => 0,
-        Refusal::Mark(_) => 0,
+        Refusal::Length => none(),
+        Refusal::Header => none(),
+        Refusal::Range(n) => one(n),
+        Refusal::Entry(n) => one(n),
+        Refusal::TextLength => none(),
+        Refusal::IllFormed { place, len } => two(place, len),
+        Refusal::Characters(n) => one(n),
+        Refusal::Room(n) => one(n),
+        Refusal::NotScalar(n) => one(n),
+        Refusal::Change(n) => one(n),
+        Refusal::Profiles => none(),
+        Refusal::Buffer(n) => one(n),
+        Refusal::Shape => none(),
+        Refusal::Mark(n) => one(n),
     }
 }

@@ -32,7 +32,8 @@ use Rattle.lookup.specs.Lookup.{lookupWithin}
 use Rattle.writer.specs.Write.{writeRefusalWithin, writeWithin}
 use Rattle.pair.specs.Change.{isContinueClass, permitted}
 use Rattle.grammar.specs.White.{WhiteKind, isMark, whiteOf}
-use Rattle.grammar.specs.Reading.{lengthRefusal, outcomeWithin, writtenWithin}
+use Rattle.grammar.specs.Before.{lengthRefusal, beforeWithin}
+use Rattle.grammar.specs.Reading.{readThrough, outcomeWithin, writtenWithin}
 use Rattle.hashtag.specs.Sign.{isSign, isHashtagContinue}
 use Rattle.input.specs.Script.{scriptWithin}
 use Rattle.demands.specs.Cases.{M, P, N}
@@ -68,7 +69,7 @@ unfolding firstFrom firstWhere eachFrom each isScalar subpartOf stepOf decodeIn 
     bytesOf lengthWithin headerWithin rangeAt rangeIn goodAlone follows goodRange firstBadRange classIn pointAt roleAt goodEntryAlone
     goodEntry firstBadEntry profileWithin noProfileWithin roleBy afterRole isMedial isHashtag imageWords bytesOfAll imageOf
     recordsRefusal refusalWithin checkWithin rangeClass entryRole classOf hashtagOf seekOf lookupWithin writeRefusalWithin writeWithin
-    isContinueClass permitted isMark whiteOf lengthRefusal outcomeWithin writtenWithin isSign isHashtagContinue scriptWithin M P N
+    isContinueClass permitted isMark whiteOf lengthRefusal beforeWithin readThrough outcomeWithin writtenWithin isSign isHashtagContinue scriptWithin M P N
 computed = record {}
 
 pub limits : Limits
@@ -141,7 +142,7 @@ unfolding computed
 image-replies a b c = (refl, refl, refl, refl, refl, refl, refl, refl, refl, refl, refl, refl, refl, refl, refl)
 
 pub token-replies : (a b c : ℕ) → TokenReplies a b c
-token-replies a b c = (refl, refl, refl, refl, refl, refl, refl, refl, refl)
+token-replies a b c = (refl, refl, refl, refl, refl, refl, refl)
 
 pub permitted-changes : PermittedChanges
 unfolding computed

@@ -95,9 +95,9 @@ use Rattle.hashtag.specs.Sign.{isSign, isHashtagContinue}
 use Rattle.hashtag.specs.Listed.{hashtagKind, spanWords}
 use Rattle.input.specs.Script.{maxScript, scriptWritten}
 use Rattle.input.specs.Images.{maxRunWords, maxEntryWords}
-use Rattle.luffinarc.specs.Reply.{Reply}
-use Rattle.luffinarc.specs.ImageReply.{checkedBy, checkReply, foundReply, writtenReply, pairReply, changesReply}
-use Rattle.luffinarc.specs.TokenReply.{countedReply, takenReply, partReply}
+use Rattle.reply.specs.Reply.{Reply}
+use Rattle.reply.specs.ImageReply.{checkedBy, checkReply, foundReply, writtenReply, pairReply, changesReply}
+use Rattle.reply.specs.TokenReply.{countedReply, takenReply, partReply}
 use Rattle.demands.specs.Cases.{M, P, N}
 
 -- n numbers from x on, and from 0 on; those of a list of which a test holds

@@ -88,13 +88,12 @@ fn refusals() {
         assert!(refusal.carried().eq(of_reader.carried()));
         assert_eq!(in_c(&format!("LUFFINARC_{}", c_name(refusal))), number);
         let count = refusal.carried().count();
-        let held = ["", "(_)", " { place: _, len: _ }"][count];
+        let held = ["", "(_)", " { .. }"][count];
         in_rattle("number", &format!("Refusal::{}{held} => {number},", name(refusal)));
-        in_rattle("carried_count", &format!("Refusal::{}{held} => {count},", name(refusal)));
+        let held = [" => none()", "(n) => one(n)", " { place, len } => two(place, len)"][count];
+        in_rattle("carry", &format!("Refusal::{}{held},", name(refusal)));
     }
     assert_eq!(luffinarc_reader::Refusal::named(15, [7, 2]), None);
-    in_rattle("carried", "Refusal::IllFormed { place, len: _ } => place,");
-    in_rattle("carried_second", "Refusal::IllFormed { place: _, len } => len,");
 }
 
 /// The names and the texts of results in C are those of Rust's refusals, and three more.
