@@ -1,4 +1,4 @@
-// Class images made by hand: M and M2 of docs/RULES.md, M with another byte, and images of many ranges.
+// Class images made by hand: M and M2 of docs/CASES.md, M with another byte, and images of many ranges.
 ghost use Prim.Native.Nat.{_<_};
 
 pub const VERSION: u32 = 1048576;

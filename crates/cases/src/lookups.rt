@@ -1,4 +1,4 @@
-// Looks code points up in image M of docs/RULES.md, and in images that are refused.
+// Looks code points up in image M of docs/CASES.md, and in images that are refused.
 use crate::build::changed;
 use crate::build::m;
 use lookup::Found;

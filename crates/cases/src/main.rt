@@ -1,4 +1,4 @@
-// Runs the calls on the cases of docs/RULES.md and at the edges of its rules.
+// Runs the calls on the cases of docs/CASES.md and at the edges of the rules.
 ghost use Prim.Native.Nat.{_≤_};
 
 mod build;

@@ -1,4 +1,4 @@
-// Runs the pair check on images M and M2 of docs/RULES.md, and on images made of them by changing a byte.
+// Runs the pair check on images M and M2 of docs/CASES.md, and on images made of them by changing a byte.
 use crate::build::changed;
 use crate::build::changed2;
 use crate::build::m;

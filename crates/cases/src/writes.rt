@@ -1,4 +1,4 @@
-// Writes image M of docs/RULES.md, reads it back, and gives the writer what it refuses.
+// Writes image M of docs/CASES.md, reads it back, and gives the writer what it refuses.
 ghost use Prim.Native.Nat.{_<_};
 use crate::build::VERSION;
 use crate::build::m;

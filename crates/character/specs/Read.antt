@@ -1,4 +1,5 @@
--- The traits of characters without a search for each: a memo, a table for ASCII, and what reading a character gives.
+-- The traits of characters (docs/RULES.md, "The class image" and "Tokens") without a search for each: a memo, a table for ASCII, and what
+-- reading a character gives.
 use Prim.Native.Nat.{ℕ, _/_, _%_, _≤_, _<_}
 use mathlib.Core.Path.{_≡_}
 use mathlib.Core.List.{List}

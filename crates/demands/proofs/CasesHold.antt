@@ -1,4 +1,4 @@
--- The marked cases of docs/RULES.md hold of the definitions, from the images' bytes on. Assumes nothing.
+-- The marked cases of docs/CASES.md hold of the definitions, from the images' bytes on. Assumes nothing.
 use mathlib.Core.Path.{_≡_, refl}
 use mathlib.Core.List.{map}
 use Rattle.lists.specs.First.{firstFrom, firstWhere}

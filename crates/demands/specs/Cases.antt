@@ -1,4 +1,12 @@
 -- The small images, and the marked cases of docs/CASES.md.
+--
+--   Numbers                             an answer in the rules' numbers
+--   numbersOf, hashtagNumbersOf         the numbers of an outcome: of the token list, of the list of hashtags
+--   M, M2, P, N                         the small image, and three with a range or an entry more
+--   K, K1, K2, K3, K4, K5, K6, K7, K8   images for lines, white space and direction marks
+--   Case                                an image, a text, and the answer
+--   cases, lineCases, markCases         the marked cases: of tokens; of lines; of white space and direction marks
+--   hashtagCases                        the marked cases of hashtags
 use Prim.Native.Nat.{ℕ, _+_, _*_, _/_, _%_}
 use mathlib.Core.List.{List, [], _∷_, _++_}
 use lib.ListN.{length}
@@ -11,7 +19,7 @@ use Rattle.grammar.specs.Record.{listedWords}
 use Rattle.hashtag.specs.Find.{Span}
 use Rattle.hashtag.specs.Listed.{spansWords}
 
--- an answer in docs/RULES.md's numbers: the words of the list, or a refusal's number and what it carries
+-- the words of the list, or a refusal's number and what it carries
 pub data Numbers : Type 0 where
   words : List ℕ → Numbers
   refusal : ℕ → List ℕ → Numbers
@@ -153,7 +161,6 @@ cases =
     ∷ on P (0x5F ∷ []) (refusal 7 (0 ∷ []))
     ∷ []
 
--- of lines
 unfoldable pub lineCases : List Case
 lineCases =
     on K (0x61 ∷ 0x0D ∷ 0x0A ∷ 0x62 ∷ []) (words (1 ∷ 0 ∷ 1 ∷ 1 ∷ 4 ∷ 1 ∷ 3 ∷ 1 ∷ 1 ∷ 3 ∷ 4 ∷ 2 ∷ []))
@@ -178,7 +185,6 @@ left text = 0xE2 ∷ 0x80 ∷ 0x8E ∷ text
 abbrev right : List ℕ → List ℕ
 right text = 0xE2 ∷ 0x80 ∷ 0x8F ∷ text
 
--- of the kinds of White, and of direction marks
 unfoldable pub markCases : List Case
 markCases =
     on K (0x61 ∷ left (0x62 ∷ [])) (refusal 14 (1 ∷ []))
@@ -217,7 +223,6 @@ markCases =
     (words (3 ∷ 0 ∷ 36 ∷ 1 ∷ []))
     ∷ []
 
--- of hashtags
 unfoldable pub hashtagCases : List Case
 hashtagCases =
     on P [] (words [])

@@ -1,5 +1,5 @@
--- The tokens of a text by demand 2: longest tokens of the annex's kinds under an image, one after the other from byte 0; and the direction
--- marks among them that are refused.
+-- The tokens of a text by demand 2 (docs/RULES.md, "The three demands"): longest tokens of the annex's kinds under an image, one after the
+-- other from byte 0; and the direction marks among them that are refused.
 use Prim.Native.Nat.{ℕ, _≤_}
 use mathlib.Core.Path.{_≡_}
 use mathlib.Core.List.{List, [], _∷_, _++_}

@@ -1,5 +1,15 @@
 -- Demand 3 in the words of docs/RULES.md, "The words of demand 3". Images and texts are lists of bytes.
 -- It speaks of counting and listing tokens; hashtags are not covered (docs/RULES.md, "Hashtags").
+--
+--   Later          the two images that demand 3 speaks of
+--   SaysYes        the pair check of the two images says yes
+--   StandsAt       a code point begins at a byte of the text and has so many bytes
+--   AnotherClass   a code point has another class after the profile in the newer
+--   NextChanged    a code point is a medial, and the next one has another class in the newer
+--   Excepted       the place of a refusal 7 that the newer need not give
+--   Promise        what demand 3 says of the answers of a call under the older and under the newer image
+--   listIn         the words of n records in a buffer's front
+--   Demand3        demand 3 for a text, and for counting its tokens and writing their list
 use Prim.Native.Nat.{ℕ, _+_, _*_}
 use mathlib.Core.Path.{_≡_}
 use mathlib.Core.Bool.{true}
@@ -32,20 +42,17 @@ pub record Later (older newer : List ℕ) : Type 0 where
   pub profiles : SameProfile older newer
   pub permitted : OnlyPermitted older newer
 
--- the pair check of the two images says yes (docs/RULES.md, "Permitted changes")
 abbrev pub SaysYes : List ℕ → List ℕ → Type 0
 SaysYes older newer = pairOf older newer ≡ pair.Permitted
 
--- the code point x begins at byte p of the text and has n bytes
 abbrev pub StandsAt : List ℕ → ℕ → ℕ → ℕ → Type 0
 StandsAt text p x n = StepMeans (drop p text) (Scalar x n)
 
--- x has another class after the profile in the newer
 abbrev pub AnotherClass : List ℕ → List ℕ → ℕ → Type 0
 AnotherClass older newer x = classOf newer x ≡ classOf older x → ⊥
 
 module _ (older newer text : List ℕ) where
-  -- x is a medial, and the code point right after it, at byte p, has another class
+  -- the next one stands at byte p
   pub record NextChanged (x p : ℕ) : Type 0 where
     pub medial : medialOf older x ≡ true
     pub next : ℕ
@@ -60,7 +67,6 @@ module _ (older newer text : List ℕ) where
     pub stands : StandsAt text p character width
     pub changed : AnotherClass older newer character ⊎ NextChanged character (p + width)
 
-  -- what demand 3 says of the answers of a call under the older and under the newer image
   pub record Promise (a b : Outcome ℕ) : Type 0 where
     -- "a text that is accepted under the older image is accepted under the newer, with the same count"
     pub accepted : (n : ℕ) → a ≡ given n → b ≡ given n
@@ -70,11 +76,10 @@ module _ (older newer text : List ℕ) where
     -- of 14 the place
     pub others : (r : Refusal) → a ≡ refused r → ((p : ℕ) → r ≡ refusal.Characters p → ⊥) → b ≡ refused r
 
--- the words of n records in a buffer's front
 abbrev pub listIn : ℕ → List ℕ → List ℕ
 listIn n out = take (recordSize * n) out
 
--- demand 3 for a text, and for counting its tokens and writing their list into the buffers `out` and `newOut`
+-- the list is written into the buffers `out` and `newOut`
 pub record Demand3 (older newer text out newOut : List ℕ) : Type 0 where
   -- of demand 2's division itself
   pub division : (ts : List (Tok Character Kind)) → Divided older text ts [] → Divided newer text ts []

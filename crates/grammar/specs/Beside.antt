@@ -1,5 +1,15 @@
 -- The local test of refusal 14 (docs/RULES.md, "Direction marks"): what a reader keeps of the tokens before a place, to know at the next
 -- token whether a mark is refused. `proofs/BesideLaws.antt` shows that it is the second reading's answer.
+--
+--   View                     what the last tokens are to a mark
+--   medialView, markedView   the view after a medial Syntax; after a mark
+--   whiteView, nextView      the view after White; after a token of a kind
+--   partedBy, refusedBy      the mark that is refused if an identifier comes next; if a token of a kind does
+--   either                   the first of two places, if there is one; else the second
+--   medialFirst              whether the first of units is a medial
+--   viewNext, viewAfter      the view after a token; after tokens
+--   refusedFrom              the first mark among tokens that is refused
+--   Parts                    the three cases in which a mark is refused, by the tokens before it and after it
 use Prim.Native.Nat.{ℕ, _+_}
 use mathlib.Core.Path.{_≡_}
 use mathlib.Core.Bool.{Bool, true, false, cond}
@@ -13,13 +23,12 @@ use Rattle.grammar.specs.Meaning.{Meaning}
 use Rattle.grammar.specs.Grammar.{Kind, identifier, syntax, whitespace}
 use Rattle.grammar.specs.Record.{tokenWidth}
 
--- What the last tokens are to a mark: nothing that it could part; an identifier; a medial Syntax right after an identifier; a mark at a
--- byte after an identifier; one after such a medial; a medial Syntax after a mark after an identifier
+-- nothing that a mark could part; an identifier; a medial Syntax right after an identifier; a mark at a byte after an identifier; one
+-- after such a medial; a medial Syntax after a mark after an identifier
 pub data View : Type 0 where
   other afterIdentifier afterMedial : View
   markAfterIdentifier markAfterMedial medialAfterMark : ℕ → View
 
--- after a medial Syntax
 abbrev pub medialView : View → View
 medialView other = other
 medialView afterIdentifier = afterMedial
@@ -28,7 +37,7 @@ medialView (markAfterIdentifier q) = medialAfterMark q
 medialView (markAfterMedial q) = other
 medialView (medialAfterMark q) = other
 
--- after a mark at byte p
+-- the mark stands at byte p
 abbrev pub markedView : View → ℕ → View
 markedView other p = other
 markedView afterIdentifier p = markAfterIdentifier p
@@ -42,13 +51,12 @@ whiteView v p blank = other
 whiteView v p lineEnd = other
 whiteView v p mark = markedView v p
 
--- after a token of a kind at byte p; b: whether its first unit is a medial
+-- the token stands at byte p; b: whether its first unit is a medial
 abbrev pub nextView : View → ℕ → Kind → Bool → View
 nextView v p identifier b = afterIdentifier
 nextView v p syntax b = cond b (medialView v) other
 nextView v p (whitespace w) b = whiteView v p w
 
--- the mark that is refused if an identifier comes next
 abbrev pub partedBy : View → Option ℕ
 partedBy other = none
 partedBy afterIdentifier = none
@@ -57,7 +65,6 @@ partedBy (markAfterIdentifier q) = some q
 partedBy (markAfterMedial q) = some q
 partedBy (medialAfterMark q) = some q
 
--- .. if a token of a kind comes next
 abbrev pub refusedBy : View → Kind → Option ℕ
 refusedBy v identifier = partedBy v
 refusedBy v syntax = none
@@ -75,17 +82,15 @@ module _ (m : Meaning Character) where
   abbrev pub viewNext : View → ℕ → Tok Character Kind → View
   viewNext v p t = nextView v p (t .kind) (medialFirst m (t .units))
 
-  -- the view after tokens that begin at byte p
+  -- the tokens begin at byte p
   abbrev pub viewAfter : View → ℕ → List (Tok Character Kind) → View
   viewAfter v p [] = v
   viewAfter v p (t ∷ ts) = viewAfter (viewNext v p t) (p + tokenWidth t) ts
 
-  -- the first mark that is refused
   abbrev pub refusedFrom : View → ℕ → List (Tok Character Kind) → Option ℕ
   refusedFrom v p [] = none
   refusedFrom v p (t ∷ ts) = either (refusedBy v (t .kind)) (refusedFrom (viewNext v p t) (p + tokenWidth t) ts)
 
--- the three cases of docs/RULES.md in which a mark is refused, by the tokens before it and after it
 pub data Parts (m : Meaning Character) (before after : List (Tok Character Kind)) : Type 0 where
   -- both neighbours are identifiers
   identifiers :

@@ -1,5 +1,14 @@
 -- What a token is (docs/RULES.md, "Tokens"), over any units that have a class and may be medials.
 -- Identifiers are those of UAX #31 of Unicode 16.0, UAX31-R1-2: definition UAX31-D1 with the image's Start, Continue and Medial.
+--
+--   Kind                            the kinds of tokens: identifier, syntax, and whitespace of three kinds
+--   Continue                        a class that is Start or Nonstart
+--   IsContinue, IsMedial, IsWhite   a unit that is Continue; a medial; White of a kind
+--   Groups                          any number of groups, each of one medial and one or more Continue
+--   Identifier                      one Start, any number of Continue, then groups
+--   SyntaxToken                     one unit of class Syntax
+--   Whitespace                      one or more units of class White, of one kind
+--   Token                           the units are a token of a kind, whatever stands around them
 use mathlib.Core.Path.{_≡_}
 use mathlib.Core.Bool.{true}
 use mathlib.Core.List.{List, [], _∷_, _++_}
@@ -9,12 +18,10 @@ use Rattle.grammar.specs.All.{All}
 use Rattle.grammar.specs.White.{WhiteKind}
 use Rattle.grammar.specs.Meaning.{Meaning}
 
--- the kinds of tokens: those of White are three
 pub data Kind : Type 0 where
   identifier syntax : Kind
   whitespace : WhiteKind → Kind
 
--- Continue means Start or Nonstart
 abbrev pub Continue : Class → Type 0
 Continue a = (a ≡ Start) ⊎ (a ≡ Nonstart)
 
@@ -43,20 +50,17 @@ module _ {A : Type 0} (m : Meaning A) where
     pub continued : All IsContinue plain
     pub grouped : Groups groups
 
-  -- one unit of class Syntax
   pub record SyntaxToken (u : List A) : Type 0 where
     pub only : A
     pub whole : u ≡ only ∷ []
     pub class : m .class only ≡ Syntax
 
-  -- one or more units of class White, of one kind
   pub record Whitespace (w : WhiteKind) (u : List A) : Type 0 where
     pub first : A
     pub others : List A
     pub whole : u ≡ first ∷ others
     pub white : All (IsWhite w) (first ∷ others)
 
-  -- the units u are a token of a kind, whatever stands around them
   abbrev pub Token : Kind → List A → Type 0
   Token identifier u = Identifier u
   Token syntax u = SyntaxToken u

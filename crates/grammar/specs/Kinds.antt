@@ -1,5 +1,12 @@
 -- The kinds of tokens by their numbers, and the rules of the one-pass reader for them (docs/RULES.md, "Tokens").
 -- `proofs/GrammarLaws.antt` joins the rules to the tokens of `Grammar.antt`.
+--
+--   kindNumber            the number of a kind in the token list
+--   isContinue, isWhite   whether a class is Start or Nonstart; whether it is White
+--   kindBy, kindOf        the kind of token that a class begins, if any; that a unit begins
+--   continues             whether a unit is Continue
+--   goesWith, linksWith   whether a token of a kind goes on with a unit; whether a unit may link it to the next one
+--   localRules, rules     these rules, of one unit at a time; the same for the one-pass reader
 use Prim.Native.Nat.{ℕ}
 use mathlib.Core.Bool.{Bool, true, false, _&&_}
 use mathlib.Core.Option.{Option, none, some}
@@ -10,7 +17,6 @@ use Rattle.grammar.specs.Step.{Local, rulesBy}
 use Rattle.grammar.specs.Meaning.{Meaning}
 use Rattle.grammar.specs.Grammar.{Kind, identifier, syntax, whitespace}
 
--- the number of a kind in the token list
 abbrev pub kindNumber : Kind → ℕ
 kindNumber identifier = 1
 kindNumber syntax = 2
@@ -18,7 +24,6 @@ kindNumber (whitespace blank) = 3
 kindNumber (whitespace lineEnd) = 4
 kindNumber (whitespace mark) = 5
 
--- Start or Nonstart
 abbrev pub isContinue : Class → Bool
 isContinue Unassigned = false
 isContinue Start = true
@@ -35,7 +40,7 @@ isWhite Syntax = false
 isWhite White = true
 isWhite Other = false
 
--- the kind of token that a unit of a class begins; w is its kind of White
+-- w is the unit's kind of White
 abbrev pub kindBy : WhiteKind → Class → Option Kind
 kindBy w Unassigned = none
 kindBy w Start = some identifier
@@ -44,8 +49,8 @@ kindBy w Syntax = some syntax
 kindBy w White = some (whitespace w)
 kindBy w Other = none
 
--- how tokens go on, by the kind of the token and what is known of the next unit. An identifier goes on with a Continue, and through
--- a medial that a Continue follows; white space with White of its kind; a syntax token doesn't go on
+-- an identifier goes on with a Continue, and through a medial that a Continue follows; white space with White of its kind; a syntax
+-- token doesn't go on
 module _ {A : Type 0} (m : Meaning A) where
   abbrev pub kindOf : A → Option Kind
   kindOf c = kindBy (m .white c) (m .class c)

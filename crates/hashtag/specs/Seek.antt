@@ -1,4 +1,16 @@
 -- Looking for the next hashtag of a text, from a byte place on (docs/RULES.md, "Hashtags" and "Lines").
+--
+--   hashtagsAt                     the hashtags of the characters from a place on
+--   continuesFirst                 whether the first of characters is hashtag Continue
+--   freeAt                         no hashtag Continue stands right before a place
+--   stopOf, StopsOf                what a search for signs does at a byte; the table of all bytes
+--   Passed                         it stops nowhere from one place to before another
+--   Skipped                        the first place from a place on where it stops, or the text's end
+--   sumOf                          the line ends that it passes over
+--   LinesCounted, LinesCountedTo   as Passed and Skipped, with the line ends counted on the way
+--   Backed                         the last place before another whose byte is none of 80 to BF
+--   signOf                         whether a sequence is that of a sign
+--   Sought                         the next hashtag from a place on
 use Prim.Native.Nat.{ℕ, zero, suc, _+_, _-_, _*_, _≤_, _<_}
 use mathlib.Core.Path.{_≡_}
 use mathlib.Core.Bool.{Bool, true, false, not, cond}
@@ -18,71 +30,63 @@ use Rattle.hashtag.specs.Find.{Span, runOf, hashtagsFrom}
 use Rattle.hashtag.specs.declared.Sign.{Sign}
 use Rattle.hashtag.specs.declared.Reach.{Reach}
 
--- the hashtags of the characters from a place on
 abbrev pub hashtagsAt : List ℕ → List ℕ → Bool → ℕ → List Span
 hashtagsAt s text free at = hashtagsFrom s free at (charactersAt text at)
 
--- whether the first of characters is hashtag Continue
 abbrev pub continuesFirst : List ℕ → List Character → Bool
 continuesFirst s [] = false
 continuesFirst s (c ∷ r) = continues s c
 
--- no hashtag Continue stands right before a place; the character there begins at `before`, or there is none and the two are the same
+-- the character right before the place begins at `before`, or there is none and the two are the same
 abbrev pub freeAt : List ℕ → List ℕ → ℕ → ℕ → Bool
 freeAt s text before at = cond (ltb before at) (not (continuesFirst s (charactersAt text before))) true
 
--- what a search for signs does, by the byte at a place: `look` where it stops, else how many line ends it passes over there. It stops at the
--- first bytes of the signs; in a text that is known to be well-formed where a line end is to be looked at, in another at every byte that isn't a
--- character by itself, and line ends aren't counted
+-- `look` where it stops, else how many line ends it passes over there. It stops at the first bytes of the signs; in a text that is known to be
+-- well-formed where a line end is to be looked at, in another at every byte that isn't a character by itself, and line ends aren't counted
 abbrev pub stopOf : Bool → ℕ → ℕ
 stopOf known b = cond (eqb b 0x23) look (cond (eqb b 0xEF) look (cond known (endOf b) (cond (ltb b 0x80) 0 look)))
 
--- the table of all bytes
 abbrev pub StopsOf : Bool → List ℕ → Type 0
 StopsOf known t = Filled 256 (stopOf known) t 256
 
--- it stops nowhere from one place to before another
 pub record Passed (known : Bool) (text : List ℕ) (from to : ℕ) : Type 0 where
   pub above : from ≤ to
   pub within : to ≤ length text
   pub each : (i : ℕ) → from ≤ i → i < to → stopOf known (getD text i 0) < look
 
--- the first place from a place on where it stops, or the text's end
 pub record Skipped (known : Bool) (text : List ℕ) (from to : ℕ) : Type 0 where
   pub passed : Passed known text from to
   pub stop : to < length text → stopOf known (getD text to 0) < look → ⊥
 
--- the line ends that it passes over in n bytes from a place on, in a text that is known to be well-formed
+-- in n bytes from a place on, in a text that is known to be well-formed
 unfoldable pub sumOf : List ℕ → ℕ → ℕ → ℕ
 sumOf text from zero = 0
 sumOf text from (suc n) = sumOf text from n + stopOf true (getD text (from + n) 0)
 
--- it stops nowhere from one place, on this line, to before another, and has counted line ends on its way
+-- `from` is on this line
 pub record LinesCounted (text : List ℕ) (from line : ℕ) (r : Reach) : Type 0 where
   pub passed : Passed true text from (r .at)
   pub sum : r .line ≡ line + sumOf text from (r .at - from)
   pub few : r .line ≤ line + look * (r .at - from)
 
--- .. up to where it stops, or to the text's end
 pub record LinesCountedTo (text : List ℕ) (from line : ℕ) (r : Reach) : Type 0 where
   pub counted : LinesCounted text from line r
   pub stop : r .at < length text → stopOf true (getD text (r .at) 0) < look → ⊥
 
--- the last place before another, and no sooner than a third, where no byte stands that only follows others; the third where there is none
+-- no sooner than `from`; `from` where there is none
 pub record Backed (text : List ℕ) (from to r : ℕ) : Type 0 where
   pub above : from ≤ r
   pub below : r ≤ to
   pub others : (i : ℕ) → r < i → i < to → isTrail (getD text i 0) ≡ true
   pub first : ((r < to) × (isTrail (getD text r 0) ≡ false)) ⊎ ((r ≡ from) × (r < to → isTrail (getD text r 0) ≡ true))
 
--- whether a sequence is that of a sign
 abbrev pub signOf : Step → Bool
 signOf (Scalar x n) = isSign x
 signOf (IllFormed n) = false
 signOf End = false
 
--- the next hashtag from a place on, where no hashtag Continue stands right before that place: its sign, and one past the sign. There is
--- none if the two are the same; the characters end there
+-- where no hashtag Continue stands right before that place: its sign, and one past the sign. There is none if the two are the same; the
+-- characters end there
 pub record Sought (s text : List ℕ) (from : ℕ) (r : Sign) : Type 0 where
   pub above : from ≤ r .at
   pub rises : r .at ≤ r .next

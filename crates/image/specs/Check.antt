@@ -1,5 +1,18 @@
--- What checking and reading an image give (docs/RULES.md, "Named refusals" 1 to 4 and 8). What depends on the number of profile
--- entries that an image may have has it as a parameter, `limit`; the names without `Within` have the limit in force, `maxEntries`.
+-- What checking and reading an image give (docs/RULES.md, "Named refusals" 1 to 4 and 8), and what an image says of a code point.
+-- `limit` is how many profile entries an image may have; the names without `Within` have the limit in force.
+--
+--   refuseAt                           the refusal of an index, where it is below a count
+--   recordsRefusal                     3 where one of n ranges is bad, else 4 where one of m entries is, else the rest
+--   refusalWithin, refusalOf           the first in number order of 1 to 4 that applies; none: the image is accepted
+--   acceptedWithin, acceptedOf         what an accepted image gives: version, number of ranges, and the profile
+--   refusedWithin, refusedBy           what a refused one gives: the refusal, and the empty profile
+--   checkBy, checkWithin, checkOf      the answer of the check
+--   readRefusal                        1 to 4, then 8, of a read into a buffer of so many words
+--   readWithin, readOf                 the answer of reading
+--   rangesOf                           the ranges of an image, three words each
+--   wordsBy, wordsWithin, wordsAfter   what the buffer holds after reading
+--   rangeClass, entryRole              the class of a code point in the ranges; its role in the profile, or 0
+--   classOf, medialOf, hashtagOf       its class after the profile; whether it is a medial; whether its role is 5
 use Prim.Native.Nat.{ℕ, _/_}
 use mathlib.Core.List.{List}
 use mathlib.Core.Bool.{Bool, cond}
@@ -18,16 +31,14 @@ use Rattle.image.specs.declared.Range.{Range}
 use Rattle.image.specs.declared.Answer.the-variants as answer
 use Rattle.image.specs.declared.Checked.{Checked}
 
--- the refusal of an index, where it is below the count
 abbrev pub refuseAt : (ℕ → Refusal) → ℕ → ℕ → Option Refusal → Option Refusal
 refuseAt f i n other = cond (ltb i n) (some (f i)) other
 
--- that of the first bad one of n ranges, else that of the first bad one of m entries, else the rest
+-- each carries the index of the first bad one
 unfoldable pub recordsRefusal : (ℕ → Range) → ℕ → (ℕ → ℕ) → (ℕ → ℕ) → ℕ → Option Refusal → Option Refusal
 recordsRefusal at n point role m rest =
     refuseAt refusal.Range (firstBadRange at n) n (refuseAt refusal.Entry (firstBadEntry point role m) m rest)
 
--- the first in number order of 1 to 4 that applies; none: the image is accepted
 unfoldable pub refusalWithin : ℕ → List ℕ → Option Refusal
 refusalWithin limit s =
     cond (lengthWithin limit s)
@@ -37,7 +48,6 @@ refusalWithin limit s =
 abbrev pub refusalOf : List ℕ → Option Refusal
 refusalOf s = refusalWithin maxEntries s
 
--- what an accepted image gives: version, number of ranges, and the profile
 abbrev pub acceptedWithin : ℕ → List ℕ → Checked
 acceptedWithin limit s = record { answer = answer.Accepted (versionOf s) (rangeCount s); profile = profileWithin limit s }
 
@@ -54,30 +64,27 @@ abbrev pub checkBy : ℕ → List ℕ → Option Refusal → Checked
 checkBy limit s none = acceptedWithin limit s
 checkBy limit s (some r) = refusedWithin limit r
 
--- the answer of the check
 unfoldable pub checkWithin : ℕ → List ℕ → Checked
 checkWithin limit s = checkBy limit s (refusalWithin limit s)
 
 abbrev pub checkOf : List ℕ → Checked
 checkOf s = checkWithin maxEntries s
 
--- refusals 1 to 4, then 8 with the records needed, for a buffer of `words` words
+-- 8 carries the records needed
 abbrev pub readRefusal : List ℕ → ℕ → Option Refusal → Option Refusal
 readRefusal s words none = cond (ltb (words / wordsPerRange) (rangeCount s)) (some (refusal.Room (rangeCount s))) none
 readRefusal s words (some r) = some r
 
--- the answer of reading
 unfoldable pub readWithin : ℕ → List ℕ → ℕ → Checked
 readWithin limit s words = checkBy limit s (readRefusal s words (refusalWithin limit s))
 
 abbrev pub readOf : List ℕ → ℕ → Checked
 readOf s words = readWithin maxEntries s words
 
--- the ranges of an image, three words each
 abbrev pub rangesOf : List ℕ → List ℕ
 rangesOf s = each (λ (i : ℕ). rangeWords (rangeAt s i)) (rangeCount s)
 
--- what the buffer then holds: the ranges, and past them what was there; a refusal leaves all as it was
+-- the ranges, and past them what was there; a refusal leaves all as it was
 abbrev pub wordsBy : List ℕ → List ℕ → Option Refusal → List ℕ
 wordsBy s out none = laid out 0 (rangesOf s)
 wordsBy s out (some r) = out
@@ -88,14 +95,12 @@ wordsWithin limit s out = wordsBy s out (readRefusal s (length out) (refusalWith
 abbrev pub wordsAfter : List ℕ → List ℕ → List ℕ
 wordsAfter s out = wordsWithin maxEntries s out
 
--- the class of x in the ranges of an image, and its role in the profile
 unfoldable pub rangeClass : List ℕ → ℕ → ℕ
 rangeClass s x = classIn (rangeAt s) (rangeCount s) x
 
 unfoldable pub entryRole : List ℕ → ℕ → ℕ
 entryRole s x = roleBy (pointAt s) (roleAt s) (entryCount s) x
 
--- its class after the profile, whether it is a medial, and whether its role is that of hashtags
 unfoldable pub classOf : List ℕ → ℕ → ℕ
 classOf s x = afterRole (entryRole s x) (rangeClass s x)
 

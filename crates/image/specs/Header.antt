@@ -1,5 +1,14 @@
 -- The header of a class image: eight numbers in 32 bytes (docs/RULES.md, "The class image"; refusals 1 and 2).
--- The number of profile entries that an image may have is a parameter, `limit`, of the two tests.
+-- `limit` is how many profile entries an image may have; the names without `Within` have the limit in force.
+--
+--   formatOf, versionOf, totalOf   format, version and total length
+--   rangeCount, rangeOffset        the number of ranges, n, and where they begin
+--   entryCount, entryOffset        the number of profile entries, m, and where they begin
+--   zeroWord                       the last word, 0 in a right header
+--   format                         the one format
+--   entriesAt, imageEnd            where the profile entries begin after n ranges; where the image ends after m of them
+--   lengthWithin, lengthRight      refusal 1 doesn't apply
+--   headerWithin, headerRight      refusal 2 doesn't apply
 use Prim.Native.Nat.{ℕ, _+_, _*_}
 use mathlib.Core.List.{List}
 use mathlib.Core.Bool.{Bool, _&&_}
@@ -8,7 +17,6 @@ use lib.Dec.{leb, eqb}
 use Rattle.image.specs.Word.{wordAt}
 use Rattle.image.specs.Limits.{maxRanges, maxEntries, headerBytes, rangeBytes, entryBytes, largestWithin}
 
--- the eight numbers, each at its byte
 abbrev pub formatOf : List ℕ → ℕ
 formatOf s = wordAt s 0
 
@@ -33,25 +41,21 @@ entryOffset s = wordAt s 24
 abbrev pub zeroWord : List ℕ → ℕ
 zeroWord s = wordAt s 28
 
--- the one format
 abbrev pub format : ℕ
 format = 1
 
--- where the profile entries begin after n ranges, and where an image of n ranges and m entries ends
 abbrev pub entriesAt : ℕ → ℕ
 entriesAt n = headerBytes + rangeBytes * n
 
 abbrev pub imageEnd : ℕ → ℕ → ℕ
 imageEnd n m = entriesAt n + entryBytes * m
 
--- not refusal 1
 unfoldable pub lengthWithin : ℕ → List ℕ → Bool
 lengthWithin limit s = leb headerBytes (length s) && (leb (length s) (largestWithin limit) && eqb (totalOf s) (length s))
 
 abbrev pub lengthRight : List ℕ → Bool
 lengthRight s = lengthWithin maxEntries s
 
--- not refusal 2
 unfoldable pub headerWithin : ℕ → List ℕ → Bool
 headerWithin limit s =
     eqb (formatOf s) format

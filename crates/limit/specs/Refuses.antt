@@ -1,5 +1,11 @@
 -- A reader that allows so many profile entries refuses an image in every call, and leaves all that is lent as it was: no part of the image
 -- is read (docs/RULES.md, "Readers with a lower limit").
+--
+--   RefusesWriting   the writer refuses with 2, and the buffer stays
+--   RefusesChanges   the list of changes refuses, and both buffers stay
+--   RefusesScript    the token lister's call and program refuse
+--   RefusesInput     the change lister's call and program refuse
+--   RefusesImage     every call refuses the image
 use Prim.Native.Nat.{ℕ}
 use mathlib.Core.Path.{_≡_}
 use mathlib.Core.List.{List}
@@ -28,31 +34,26 @@ use Rattle.input.specs.Script.{listedWithin, wordsWithin as scriptWords, wholeA
 use Rattle.input.specs.Images.{answerFromWithin, runsFromWithin, entriesFromWithin, wholeAnswerWithin as wholeChanges}
 
 module _ (limit : ℕ) where
-  -- the writer, with 2, and the buffer stays
   pub record RefusesWriting (words : List ℕ) (p : Profile) : Type 0 where
     pub answer : (room : ℕ) → writeWithin limit words p room ≡ written.Refused refusal.Header
     pub bytes : (version : ℕ) (out : List ℕ) → bytesWithin limit version words p out ≡ out
 
-  -- the list of changes refuses, and both buffers stay
   pub record RefusesChanges (older newer : List ℕ) (c : Changes) : Type 0 where
     pub answer : (runWords entryWords : ℕ) → answerWithin limit older newer runWords entryWords ≡ c
     pub runs : (out more : List ℕ) → runsAfterWithin limit older newer out more ≡ out
     pub entries : (out more : List ℕ) → entriesAfterWithin limit older newer out more ≡ more
 
-  -- the token lister's call and program
   pub record RefusesScript (input : List ℕ) (r : Refusal) : Type 0 where
     pub listed : (words : ℕ) → listedWithin limit input words ≡ refused r
     pub listWords : (out : List ℕ) → scriptWords limit input out ≡ out
     pub whole : wholeList limit input ≡ counted.Refused r
 
-  -- the change lister's call and program
   pub record RefusesInput (input : List ℕ) (c : Changes) : Type 0 where
     pub answer : (runWords entryWords : ℕ) → answerFromWithin limit input runWords entryWords ≡ c
     pub runs : (out more : List ℕ) → runsFromWithin limit input out more ≡ out
     pub entries : (out more : List ℕ) → entriesFromWithin limit input out more ≡ more
     pub whole : wholeChanges limit input ≡ c
 
-  -- every call
   pub record RefusesImage (s : List ℕ) (r : Refusal) : Type 0 where
     pub checked : checkWithin limit s ≡ refusedWithin limit r
     pub read : (words : ℕ) → readWithin limit s words ≡ refusedWithin limit r

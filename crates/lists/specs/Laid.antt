@@ -1,4 +1,4 @@
--- What a lent buffer holds after a call that wrote to it.
+-- What a lent buffer holds after a call that wrote to it (docs/RULES.md, "The calls").
 use Prim.Native.Nat.{ℕ, _+_}
 use mathlib.Core.List.{List, _++_}
 use lib.ListN.{length, take, drop}

@@ -1,4 +1,8 @@
--- docs/RULES.md, "Named refusals": the number of each refusal and what it carries.
+-- The refusals by name (docs/RULES.md, "Named refusals").
+--
+--   numberOf    the number of a refusal
+--   carriedBy   what a refusal carries, in the table's order
+--   Carries     how many numbers these are, the first and the second, 0 where there is none
 use Prim.Native.Nat.{ℕ}
 use mathlib.Core.Path.{_≡_}
 use mathlib.Core.List.{List, [], _∷_}
@@ -38,7 +42,6 @@ numberOf (Buffer n) = 12
 numberOf Shape = 13
 numberOf (Mark p) = 14
 
--- what a refusal carries, in the table's order
 abbrev pub carriedBy : Refusal → List ℕ
 carriedBy Length = []
 carriedBy Header = []
@@ -55,7 +58,6 @@ carriedBy (Buffer n) = n ∷ []
 carriedBy Shape = []
 carriedBy (Mark p) = p ∷ []
 
--- how many numbers these are, the first and the second, 0 where there is none
 pub record Carries (xs : List ℕ) (c : Carried) : Type 0 where
   pub count : c .count ≡ length xs
   pub first : c .first ≡ getD xs 0 0

@@ -1,4 +1,4 @@
--- The replies of the calls on images, and what the arrays lent for a profile then hold.
+-- The replies of the calls on images, and what the arrays lent for a profile then hold (docs/RULES.md, "The calls").
 use Prim.Native.Nat.{ℕ}
 use mathlib.Core.Path.{_≡_}
 use mathlib.Core.List.{List, [], _∷_}

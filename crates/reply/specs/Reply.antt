@@ -1,4 +1,4 @@
--- What an exported call hands over: its result, and the numbers of the lent answer array (docs/RULES.md, "Named refusals").
+-- What an exported call hands over: its result, and the numbers of the lent answer array (docs/RULES.md, "The calls").
 use Prim.Native.Nat.{ℕ}
 use mathlib.Core.Path.{_≡_}
 use mathlib.Core.List.{List, [], _∷_}

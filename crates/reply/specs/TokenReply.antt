@@ -1,4 +1,4 @@
--- The replies of the calls on tokens and hashtags (docs/RULES.md, "Tokens" and "Hashtags").
+-- The replies of the calls on tokens and hashtags (docs/RULES.md, "The calls").
 use Prim.Native.Nat.{ℕ}
 use mathlib.Core.List.{List, [], _∷_}
 use lib.ListN.{length, getD, take, drop}

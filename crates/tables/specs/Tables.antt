@@ -11,7 +11,7 @@
 --   CodePoints, Lines              line ends, direction marks and signs; the kinds of White; CR LF
 --   HashtagContinues               "Hashtags"
 --   RefusalNumbers                 "Named refusals": numbers, and what each carries
---   ImageReplies, TokenReplies     "From C"
+--   ImageReplies, TokenReplies     "The calls", from C
 --   PermittedChanges               "Permitted changes"
 --   ScalarValues, Subparts         "UTF-8 by its first byte"
 use Prim.Native.Nat.{ℕ, zero, suc, _+_, _*_, _/_}

@@ -1,5 +1,12 @@
 -- One token at a place (docs/RULES.md, "Tokens" and "Named refusals").
 -- `limit` is how many profile entries an image may have; the names without `Within` have the limit in force.
+--
+--   unlessTaken            a refusal, if there is one, else the answer
+--   placeRefusal           13: the place lies past the text's end
+--   stopBy, stopOf         q: the first ill-formed place at or after a place, or the text's end
+--   firstAt                the first of the tokens from a place on; 7 where none begins
+--   tokenAt                what stands at a place: 6, "done", the first token, or 7
+--   takenWithin, takenOf   the answer: what is judged before the text, then 13, else what stands at the place
 use Prim.Native.Nat.{ℕ, _+_, _-_}
 use mathlib.Core.Bool.{not, _&&_, cond}
 use mathlib.Core.List.{List, [], _∷_}
@@ -27,11 +34,10 @@ abbrev pub unlessTaken : Option Refusal → Taken → Taken
 unlessTaken none t = t
 unlessTaken (some r) t = Refused r
 
--- 13: the place lies past the text's end
 unfoldable pub placeRefusal : List ℕ → ℕ → Option Refusal
 placeRefusal text place = refusedIf (ltb (length text) place) refusal.Shape
 
--- q: the first ill-formed place at or after a place, counted from that place, or the text's end
+-- sequences are counted from the place on
 abbrev pub stopBy : ℕ → ℕ → Text → ℕ
 stopBy place end WellFormed = end
 stopBy place end (IllFormed p n) = place + p
@@ -39,7 +45,7 @@ stopBy place end (IllFormed p n) = place + p
 unfoldable pub stopOf : List ℕ → ℕ → ℕ
 stopOf text place = stopBy place (length text) (textOf (drop place text))
 
--- the first of the tokens from a place on, at its places in the whole text; 7 where none begins
+-- at its places in the whole text
 abbrev pub firstAt : ℕ → List (Tok Character Kind) → Taken
 firstAt place [] = Refused (refusal.Characters place)
 firstAt place (t ∷ ts) = Token (kindNumber (t .kind)) place (place + tokenWidth t)
@@ -52,7 +58,6 @@ tokenAt s text place =
     cond (eqb place q && not (eqb place (length text))) (Refused (refusal.IllFormed place (subpartOf (drop place text))))
     (cond (eqb place (length text)) Done (firstAt place (tokensOf s (take (q - place) (drop place text)))))
 
--- what is judged before the text, then 13 for the place; else what stands there
 unfoldable pub takenWithin : ℕ → List ℕ → List ℕ → ℕ → Taken
 takenWithin limit s text place =
     unlessTaken (beforeWithin limit maxText s text) (unlessTaken (placeRefusal text place) (tokenAt s text place))

@@ -1,4 +1,17 @@
 -- The reader's state and turns on numbers (docs/RULES.md, "Tokens"). `proofs/TurnLaws.antt` joins them to the steps of `grammar`.
+--
+--   numberBy                   the number of a kind; 0 is none
+--   traitMeaning               what a character's traits tell of it: its class, its kind of White, a medial or not
+--   Phase                      the state: what is under way
+--   waiting, states            the first number of a state in which a medial waits; how many numbers there are
+--   phaseNamed                 the state with a number
+--   begunBy                    a turn, if a token begins; else 4
+--   turnBy, turnOf             the turn of a character in a state; on numbers
+--   afterOf                    the state after a character with which a token goes on or begins
+--   waitingOf                  the state after a medial that waits
+--   startBy                    where the token under way after a turn began
+--   turnTable                  the code's table of turnOf
+--   afterTable, waitingTable   the code's tables of afterOf and waitingOf
 use Prim.Native.Nat.{ℕ, zero, suc, _+_, _%_}
 use mathlib.Core.Bool.{cond}
 use mathlib.Core.List.{List, [], _∷_}
@@ -10,16 +23,14 @@ use Rattle.grammar.specs.Meaning.{Meaning}
 use Rattle.grammar.specs.Grammar.{Kind, identifier, syntax, whitespace}
 use Rattle.grammar.specs.Kinds.{kindNumber, kindOf, goesWith, linksWith}
 
--- the number of a kind; 0 is none
 abbrev pub numberBy : Option Kind → ℕ
 numberBy none = 0
 numberBy (some k) = kindNumber k
 
--- what a character's traits tell of it: its class, its kind of White, and whether it is a medial
 abbrev pub traitMeaning : Meaning ℕ
 traitMeaning = record { class = λ (t : ℕ). partClass (t % 8); white = λ (t : ℕ). partWhite (t % 8); medial = λ (t : ℕ). leb 8 t }
 
--- The state: nothing is under way yet; a token of a kind; an identifier, and a medial after it that waits
+-- nothing yet; a token of a kind; an identifier, and a medial after it that waits
 pub data Phase : Type 0 where
   nothing : Phase
   within : Kind → Phase
@@ -41,12 +52,11 @@ phaseNamed (suc (suc (suc (suc zero)))) = within (whitespace lineEnd)
 phaseNamed (suc (suc (suc (suc (suc zero))))) = within (whitespace mark)
 phaseNamed (suc (suc (suc (suc (suc (suc n)))))) = waits
 
--- a token begins, or none does, 4
 abbrev pub begunBy : ℕ → Option Kind → ℕ
 begunBy r none = 4
 begunBy r (some k) = r
 
--- the turn of a character: no token is complete, 0; the one under way is, and another begins, 1; a medial waits, 2;
+-- no token is complete, 0; the one under way is, and another begins, 1; a medial waits, 2;
 -- the one that waits is settled, and the character has another turn after that, 3; no token begins, 4
 abbrev pub turnBy : {A : Type 0} → Meaning A → Phase → A → ℕ
 turnBy m nothing c = begunBy 0 (kindOf m c)
@@ -56,20 +66,18 @@ turnBy m waits c = cond (goesWith m identifier c) 0 3
 unfoldable pub turnOf : ℕ → ℕ → ℕ
 turnOf n t = turnBy traitMeaning (phaseNamed n) t
 
--- the state after a character with which a token goes on or begins
 unfoldable pub afterOf : ℕ → ℕ
 afterOf t = cond (goesWith traitMeaning identifier t) (kindNumber identifier) (numberBy (kindOf traitMeaning t))
 
--- the state after a medial that waits
 unfoldable pub waitingOf : ℕ → ℕ
 waitingOf t = waiting + numberBy (kindOf traitMeaning t)
 
--- where the token under way after a turn began: where it began before, or at this place
+-- where it began before, or at this place
 abbrev pub startBy : ℕ → ℕ → ℕ → ℕ
 startBy zero start at = start
 startBy (suc r) start at = at
 
--- the code's tables of these: `proofs/TableLaws.antt` shows what they hold
+-- `proofs/TableLaws.antt` shows what the tables hold
 abbrev pub turnTable : List ℕ
 turnTable =
     4 ∷ 0 ∷ 4 ∷ 0 ∷ 0 ∷ 4 ∷ 0 ∷ 0 ∷ 4 ∷ 0 ∷ 4 ∷ 0 ∷ 0 ∷ 4 ∷ 0 ∷ 0 ∷

@@ -1,4 +1,4 @@
--- What stands at the head of a text, by the rows of Table 3-7.
+-- What stands at the head of a text, by the rows of Table 3-7 (docs/RULES.md, "UTF-8 by its first byte").
 use Prim.Native.Nat.{ℕ, _<_}
 use mathlib.Core.Path.{_≡_}
 use mathlib.Core.Bool.{cond}

@@ -1,4 +1,4 @@
--- Unicode scalar values (the Unicode Standard, D76).
+-- Unicode scalar values (docs/RULES.md, "Rules"; the Unicode Standard, D76).
 use Prim.Native.Nat.{ℕ, _≤_, _<_}
 use mathlib.Core.Bool.{Bool, true, false, cond}
 use lib.Dec.{leb, ltb}

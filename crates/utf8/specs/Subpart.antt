@@ -1,4 +1,5 @@
--- Maximal subparts (the Unicode Standard, section 3.9, D93b): how many bytes are bad at a place where no well-formed sequence begins.
+-- Maximal subparts (docs/RULES.md, "UTF-8 by its first byte"; the Unicode Standard, section 3.9, D93b): how many bytes are bad at a place
+-- where no well-formed sequence begins.
 use Prim.Native.Nat.{ℕ, suc, _≤_}
 use mathlib.Core.Path.{_≡_}
 use mathlib.Core.Bool.{cond}

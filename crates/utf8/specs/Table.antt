@@ -1,11 +1,20 @@
--- Well-formed UTF-8 byte sequences: the Unicode Standard, section 3.9, Table 3-7.
+-- Well-formed UTF-8 byte sequences (docs/RULES.md, "UTF-8 by its first byte"): the Unicode Standard, section 3.9, Table 3-7.
+--
+--   Range, _to_        a range of code points or of bytes, both ends in it
+--   Row                the bytes of a row: a range for each
+--   TableRow, row      a row as printed: code points, then the bytes of their sequences
+--   table              Table 3-7, row by row
+--   bytesOf, rows      the bytes of each row of a table; of Table 3-7
+--   inside             a number is in a range
+--   fits               a text begins with bytes that are as a row says
+--   Fills, FillsSome   bytes are as a row says, and no more of them; as one of these rows says
+--   Sequence           a well-formed sequence: it fills a row of the table
 use Prim.Native.Nat.{ℕ, _≤_}
 use mathlib.Core.Bool.{Bool, true, false, _&&_}
 use mathlib.Core.List.{List, [], _∷_}
 use mathlib.Core.Logic.{_⊎_}
 use lib.Dec.{leb}
 
--- a range of code points or of bytes, both ends in it
 pub record Range : Type 0 where
   pub low : ℕ
   pub high : ℕ
@@ -14,11 +23,9 @@ infix 70 _to_
 abbrev pub _to_ : ℕ → ℕ → Range
 a to b = record { low = a; high = b }
 
--- the bytes of a row: a range for each
 abbrev pub Row : Type 0
 Row = List Range
 
--- a row as printed: code points, then the first, second, third and fourth byte of their sequences
 pub record TableRow : Type 0 where
   pub codes : Range
   pub bytes : Row
@@ -26,7 +33,6 @@ pub record TableRow : Type 0 where
 abbrev pub row : Range → Row → TableRow
 row c r = record { codes = c; bytes = r }
 
--- Table 3-7, row by row
 abbrev pub table : List TableRow
 table =
     row (0x0000 to 0x007F) (0x00 to 0x7F ∷ [])
@@ -40,7 +46,6 @@ table =
     ∷ row (0x100000 to 0x10FFFF) (0xF4 to 0xF4 ∷ 0x80 to 0x8F ∷ 0x80 to 0xBF ∷ 0x80 to 0xBF ∷ [])
     ∷ []
 
--- the bytes of each row
 abbrev pub bytesOf : List TableRow → List Row
 bytesOf [] = []
 bytesOf (r ∷ rs) = r .bytes ∷ bytesOf rs
@@ -48,28 +53,24 @@ bytesOf (r ∷ rs) = r .bytes ∷ bytesOf rs
 abbrev pub rows : List Row
 rows = bytesOf table
 
--- a number is in a range
 abbrev pub inside : Range → ℕ → Bool
 inside g b = leb (g .low) b && leb b (g .high)
 
--- the text begins with bytes that are as the row says, one for each range
+-- one byte for each range
 abbrev pub fits : Row → List ℕ → Bool
 fits [] s = true
 fits (g ∷ gs) [] = false
 fits (g ∷ gs) (b ∷ s) = inside g b && fits gs s
 
--- the bytes q are as the row says, and there are no more of them
 abbrev pub Fills : Row → List ℕ → Type 0
 Fills [] [] = Unit {0}
 Fills [] (b ∷ q) = ⊥
 Fills (g ∷ gs) [] = ⊥
 Fills (g ∷ gs) (b ∷ q) = (g .low ≤ b) × (b ≤ g .high) × Fills gs q
 
--- they fill some row, one at least
 abbrev pub FillsSome : List Row → List ℕ → Type 0
 FillsSome [] q = ⊥
 FillsSome (r ∷ rs) q = Fills r q ⊎ FillsSome rs q
 
--- a well-formed sequence: it fills a row of the table
 unfoldable pub Sequence : List ℕ → Type 0
 Sequence q = FillsSome rows q

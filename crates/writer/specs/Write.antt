@@ -1,5 +1,11 @@
--- What writing an image gives (docs/RULES.md, "Named refusals": the writer checks 13, then 2 for counts, 3, 4, 12).
+-- What writing an image gives (docs/RULES.md, "Named refusals").
 -- `limit` is how many profile entries an image may have; the names without `Within` have the limit in force.
+--
+--   rangesIn, bytesNeeded              the number of ranges of a list of words; the bytes of the image with these
+--   valueAt                            the value at each index of an array
+--   writeRefusalWithin, writeRefusal   13, then 2 for the counts, 3, 4, 12
+--   writtenBy, writeWithin, writeOf    the answer of the writer: a refusal, or the length of the image
+--   bytesBy, bytesWithin, bytesAfter   what the buffer holds after writing
 use mathlib.Core.Bool.{cond}
 use Prim.Native.Nat.{ℕ, _/_, _%_}
 use mathlib.Core.List.{List}
@@ -19,15 +25,12 @@ use Rattle.image.specs.Check.{recordsRefusal}
 use Rattle.writer.specs.declared.Written.{Written}
 use Rattle.writer.specs.declared.Written.the-variants as written
 
--- a range is three words
 abbrev pub rangesIn : List ℕ → ℕ
 rangesIn words = length words / wordsPerRange
 
--- the bytes of the image with these ranges and this profile
 abbrev pub bytesNeeded : List ℕ → Profile → ℕ
 bytesNeeded words p = imageEnd (rangesIn words) (p .used)
 
--- the value at each index of an array
 abbrev pub valueAt : List ℕ → ℕ → ℕ
 valueAt l i = getD l i 0
 
@@ -51,7 +54,6 @@ abbrev pub writtenBy : List ℕ → Profile → Option Refusal → Written
 writtenBy words p none = written.Image (bytesNeeded words p)
 writtenBy words p (some r) = written.Refused r
 
--- the answer of the writer: a refusal, or the length of the image
 unfoldable pub writeWithin : ℕ → List ℕ → Profile → ℕ → Written
 writeWithin limit words p room = writtenBy words p (writeRefusalWithin limit words p room)
 
@@ -62,7 +64,7 @@ abbrev pub bytesBy : ℕ → List ℕ → Profile → List ℕ → Option Refusa
 bytesBy version words p out none = laid out 0 (imageOf version (rangeIn words) (rangesIn words) p)
 bytesBy version words p out (some r) = out
 
--- what the buffer then holds: the image, and past it what was there; a refusal leaves all as it was
+-- the image, and past it what was there; a refusal leaves all as it was
 unfoldable pub bytesWithin : ℕ → ℕ → List ℕ → Profile → List ℕ → List ℕ
 bytesWithin limit version words p out = bytesBy version words p out (writeRefusalWithin limit words p (length out))
 
