@@ -30,10 +30,7 @@ fn list_script<'a>(image: &'a [u8], text: &'a [u8], out: &mut [u32]) -> Counted
     let answer = image::judge(image);
     match answer {
         Answer::Refused(r) => Counted::Refused(r),
-        Answer::Accepted {
-            version: _,
-            ranges: _,
-        } => {
+        Answer::Accepted { .. } => {
             if MAX_SCRIPT < text.len() {
                 return Counted::Refused(Refusal::TextLength);
             }
@@ -43,14 +40,12 @@ fn list_script<'a>(image: &'a [u8], text: &'a [u8], out: &mut [u32]) -> Counted
 }
 
 // The list of the tokens of the text that follows the image in the input.
+// An image that doesn't come whole is taken as empty, which refuses it with 1.
 pub fn list_input(input: &[u8], out: &mut [u32]) -> Counted
     ensures { λ r. ⌜ r ≡ countedBy (listedFrom (now (input .entry)) (length (now (out .entry)))) ⌝ }
     ensures { λ r. ⌜ now (out .exit) ≡ wordsAfter (now (input .entry)) (now (out .entry)) ⌝ }
 {
     let end = crate::find_end(input);
-    if end == 0 {
-        return Counted::Refused(Refusal::Length);
-    }
     list_script(&input[..end], &input[end..], out)
 }
 

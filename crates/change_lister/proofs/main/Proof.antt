@@ -1,6 +1,7 @@
 -- `change_lister::main` is safe: the changes that were listed have their words in the buffers. Assumes nothing.
+use mathlib.Core.Path.{sym, _∙_}
 use native.Mathlib.Omega.{arith}
-use Rattle.input.proofs.ImagesMeansLaws.{listed-fits}
+use Rattle.input.proofs.ImagesLaws.{change-listing-means, listed-fits}
 use borrow.Author.Needs.{needs}
 use Rattle.change_lister.proofs.main.Statement.{statement}
 use Rattle.change_lister.proofs.main.Tie as tie
@@ -9,7 +10,7 @@ print-changes-requires : tie.Need-print-changes-requires
 print-changes-requires c κs =
     let b = c .before .before .before in
     let e = b .before .before .before .before .list-read .ensures in
-    let f = listed-fits _ _ _ _ (e .0, e .1 .1) (b .answer4 .given .1) in
+    let f = listed-fits (change-listing-means _ _ _ (sym (e .0) ∙ b .answer4 .given .1) (sym (e .1 .1 .0)) (sym (e .1 .1 .1))) in
     (omega arith, omega arith)
 
 pub main-spec : {M : Type 1} → statement M

@@ -1,7 +1,7 @@
 -- `lister::main` is safe: the tokens that were listed have their words in the buffer. Assumes nothing.
 use mathlib.Core.Path.{sym, _∙_}
 use native.Mathlib.Omega.{arith}
-use Rattle.input.proofs.ScriptMeansLaws.{listing-fits}
+use Rattle.input.proofs.ScriptLaws.{listing-fits}
 use borrow.Author.Needs.{needs}
 use Rattle.lister.proofs.main.Statement.{statement}
 use Rattle.lister.proofs.main.Tie as tie
