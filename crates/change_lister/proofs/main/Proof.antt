@@ -6,11 +6,10 @@ use borrow.Author.Needs.{needs}
 use Rattle.change_lister.proofs.main.Statement.{statement}
 use Rattle.change_lister.proofs.main.Tie as tie
 
-print-changes-requires : tie.Need-print-changes-requires
-print-changes-requires c κs =
-    let b = c .before .before .before in
-    let e = b .before .before .before .before .list-read .ensures in
-    let f = listed-fits (change-listing-means _ _ _ (sym (e .0) ∙ b .answer4 .given .1) (sym (e .1 .1 .0)) (sym (e .1 .1 .1))) in
+print-change-listing-requires : tie.Need-print-change-listing-requires
+print-change-listing-requires c κs = λ n m e.
+    let l = c .before .before .before .before .list-read .ensures in
+    let f = listed-fits (change-listing-means _ _ _ (sym (l .0) ∙ e) (sym (l .1 .1 .0)) (sym (l .1 .1 .1))) in
     (omega arith, omega arith)
 
 pub main-spec : {M : Type 1} → statement M
@@ -25,18 +24,5 @@ main-spec =
     (λ c κs. search needs)
     (λ c. search needs)
     (λ c. search needs)
-    (λ c κs. search needs)
-    (λ c. search needs)
-    (λ c. search needs)
-    (λ c κs. search needs)
-    (λ c. search needs)
-    (λ c. search needs)
-    (λ c κs. search needs)
-    (λ c. search needs)
-    (λ c. search needs)
-    (λ c. search needs)
-    print-changes-requires
-    (λ c. search needs)
-    (λ c. search needs)
-    (λ c. search needs)
+    print-change-listing-requires
     (λ c. search needs))
