@@ -1,7 +1,3 @@
 pub mod FrontLaws
 pub mod ScriptLaws
-pub mod ScriptMeansLaws
-pub mod ScriptReachLaws
 pub mod ImagesLaws
-pub mod ImagesMeansLaws
-pub mod ImagesReachLaws

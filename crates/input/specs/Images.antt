@@ -2,7 +2,6 @@
 -- `limit` is how many profile entries an image may have; the names without `Within` have the limit in force.
 use Prim.Native.Nat.{ℕ, _+_, _-_, _*_}
 use mathlib.Core.List.{List}
-use lib.ListN.{take, drop}
 use Rattle.refusal.specs.declared.Refusal.the-variants as refusal
 use Rattle.image.specs.Limits.{maxRanges, maxEntries}
 use Rattle.image.specs.declared.records.Section.the-variants.{Ranges, Entries}
@@ -10,20 +9,7 @@ use Rattle.changes.specs.Answer.{changeSize, answerWithin, runsAfterWithin, ent
 use Rattle.changes.specs.Means.{ChangesMeans}
 use Rattle.changes.specs.declared.Changes.{Changes}
 use Rattle.changes.specs.declared.Changes.the-variants as changes
-use Rattle.input.specs.Front.{imageIn, restIn, endWithin, ComesWhole}
-
--- the older image ends where its total length says, and is empty where it doesn't come whole; the newer is all that follows
-abbrev pub olderWithin : ℕ → List ℕ → List ℕ
-olderWithin limit input = take (endWithin limit input) input
-
-abbrev pub newerWithin : ℕ → List ℕ → List ℕ
-newerWithin limit input = drop (endWithin limit input) input
-
-abbrev pub olderIn : List ℕ → List ℕ
-olderIn input = olderWithin maxEntries input
-
-abbrev pub newerIn : List ℕ → List ℕ
-newerIn input = newerWithin maxEntries input
+use Rattle.input.specs.Front.{imageIn, restIn, frontWithin as olderWithin, afterWithin as newerWithin, ComesWhole}
 
 -- the most words that the runs and the entries can need
 abbrev pub maxRunWords : ℕ

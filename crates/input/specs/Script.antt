@@ -1,25 +1,24 @@
--- An image and right after it a text, as the token lister reads them (docs/RULES.md, "Small image M and its readings").
+-- An image and right after it a text, as the token lister reads them (docs/RULES.md, "The programs").
 -- `limit` is how many profile entries an image may have; the names without `Within` have the limit in force.
-use Prim.Native.Nat.{ℕ, _*_, _≤_, _<_}
+use Prim.Native.Nat.{ℕ, _*_}
 use mathlib.Core.Path.{_≡_}
-use mathlib.Core.Bool.{Bool, true, false}
 use mathlib.Core.List.{List}
 use mathlib.Core.Option.{none, some}
 use lib.ListN.{length}
-use lib.Dec.{ltb}
+use Rattle.lists.specs.Laid.{laid}
 use Rattle.refusal.specs.declared.Refusal.{Refusal}
 use Rattle.refusal.specs.declared.Refusal.the-variants as refusal
+use Rattle.refusal.specs.Outcome.{Outcome, given, refused, unless, outcomeMap}
 use Rattle.utf8.specs.Text.{Character}
 use Rattle.image.specs.Limits.{maxEntries}
-use Rattle.image.specs.Check.{refusalWithin, refusalOf}
-use Rattle.input.specs.Front.{imageIn, restIn as textIn, comesWithin, ComesWhole}
 use Rattle.grammar.specs.Scan.{Tok}
 use Rattle.grammar.specs.Grammar.{Kind}
-use Rattle.refusal.specs.Outcome.{Outcome, refused, unless, refusedIf, outcomeMap}
 use Rattle.grammar.specs.Record.{recordSize, listedWords}
-use Rattle.grammar.specs.Reading.{writtenWithin, laidBy, listOf}
+use Rattle.grammar.specs.Before.{beforeWithin, BeforeMeans}
+use Rattle.grammar.specs.Reading.{writtenWithin, writtenOf, laidBy}
 use Rattle.grammar.specs.declared.Counted.{Counted}
 use Rattle.grammar.specs.Counted.{countedBy}
+use Rattle.input.specs.Front.{imageIn, restIn as textIn, frontWithin, afterWithin, ComesWhole}
 
 -- the most bytes of the lister's text
 abbrev pub maxScript : ℕ
@@ -28,18 +27,14 @@ maxScript = 8192
 -- 1 to 4 of the image, then 5 above 8,192 bytes of text, then what writing the list gives
 unfoldable pub scriptWithin : ℕ → List ℕ → List ℕ → ℕ → Outcome (List (Tok Character Kind))
 scriptWithin limit image text words =
-    unless (refusalWithin limit image) (unless (refusedIf (ltb maxScript (length text)) refusal.TextLength) (writtenWithin limit image text words))
+    unless (beforeWithin limit maxScript image text) (writtenWithin limit image text words)
 
 abbrev pub scriptWritten : List ℕ → List ℕ → ℕ → Outcome (List (Tok Character Kind))
 scriptWritten image text words = scriptWithin maxEntries image text words
 
--- 1 where the image doesn't come whole; else what the image gives with the text after it
-abbrev pub writtenBy : ℕ → Bool → List ℕ → ℕ → Outcome (List (Tok Character Kind))
-writtenBy limit true input words = scriptWithin limit (imageIn input) (textIn input) words
-writtenBy limit false input words = refused refusal.Length
-
-unfoldable pub writtenFromWithin : ℕ → List ℕ → ℕ → Outcome (List (Tok Character Kind))
-writtenFromWithin limit input words = writtenBy limit (comesWithin limit input) input words
+-- of the image at the front of an input and the text after it
+abbrev pub writtenFromWithin : ℕ → List ℕ → ℕ → Outcome (List (Tok Character Kind))
+writtenFromWithin limit input words = scriptWithin limit (frontWithin limit input) (afterWithin limit input) words
 
 abbrev pub writtenFrom : List ℕ → ℕ → Outcome (List (Tok Character Kind))
 writtenFrom input words = writtenFromWithin maxEntries input words
@@ -52,7 +47,7 @@ abbrev pub listedFrom : List ℕ → ℕ → Outcome ℕ
 listedFrom input words = listedWithin maxEntries input words
 
 unfoldable pub wordsWithin : ℕ → List ℕ → List ℕ → List ℕ
-wordsWithin limit input out = laidBy (listedWords (textIn input)) out (writtenFromWithin limit input (length out))
+wordsWithin limit input out = laidBy (listedWords (afterWithin limit input)) out (writtenFromWithin limit input (length out))
 
 abbrev pub wordsAfter : List ℕ → List ℕ → List ℕ
 wordsAfter input out = wordsWithin maxEntries input out
@@ -64,9 +59,20 @@ wholeAnswerWithin limit input = countedBy (listedWithin limit input (recordSize 
 abbrev pub wholeAnswer : List ℕ → Counted
 wholeAnswer input = wholeAnswerWithin maxEntries input
 
--- what each answer means
-pub data ListingMeans (input : List ℕ) (words : ℕ) : Outcome ℕ → Type 0 where
-  cut-off : (ComesWhole input → ⊥) → ListingMeans input words (refused refusal.Length)
-  bad-image : (r : Refusal) → ComesWhole input → refusalOf (imageIn input) ≡ some r → ListingMeans input words (refused r)
-  long-text : ComesWhole input → refusalOf (imageIn input) ≡ none → maxScript < length (textIn input) → ListingMeans input words (refused refusal.TextLength)
-  listed : (o : Outcome ℕ) → ComesWhole input → length (textIn input) ≤ maxScript → refusalOf (imageIn input) ≡ none → listOf (imageIn input) (textIn input) words ≡ o → ListingMeans input words o
+-- what the outcome with a buffer of so many words means: 1 to 4 of the image, 5, or what writing the list gives
+pub data ScriptMeans (image text : List ℕ) (words : ℕ) : Outcome (List (Tok Character Kind)) → Type 0 where
+  refused-before : {r : Refusal} → BeforeMeans maxScript image text (some r) → ScriptMeans image text words (refused r)
+  short-text :
+      {o : Outcome (List (Tok Character Kind))} → BeforeMeans maxScript image text none → writtenOf image text words ≡ o
+      → ScriptMeans image text words o
+
+-- what each answer means, and what the lent words then hold, which were `out`: 1 of an image that doesn't come whole, or a refusal of the
+-- image at the front with the text after it, and the words as they were; or the number of tokens, and their words in the front
+pub data ListingMeans (input out : List ℕ) : Outcome ℕ → List ℕ → Type 0 where
+  cut-off : (ComesWhole input → ⊥) → ListingMeans input out (refused refusal.Length) out
+  not-listed :
+      {r : Refusal} → ComesWhole input → ScriptMeans (imageIn input) (textIn input) (length out) (refused r)
+      → ListingMeans input out (refused r) out
+  listed :
+      {ts : List (Tok Character Kind)} → ComesWhole input → ScriptMeans (imageIn input) (textIn input) (length out) (given ts)
+      → ListingMeans input out (given (length ts)) (laid out 0 (listedWords (textIn input) ts))

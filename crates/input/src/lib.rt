@@ -1,5 +1,6 @@
 // What the programs do with their input: `script` an image and a text, `images` two images. Here: where an image at the front ends.
-ghost use Rattle.input.specs.Front.{EndMeans};
+ghost use mathlib.Core.Path.{_≡_};
+ghost use Rattle.input.specs.Front.{endIn};
 use image::HEADER_BYTES;
 use image::MAX_IMAGE;
 use image::TOTAL_AT;
@@ -9,7 +10,7 @@ pub mod script;
 
 // Where the image at the front of the input ends; 0 where it doesn't come whole.
 pub fn find_end(input: &[u8]) -> usize
-    ensures { λ r. ⌜ EndMeans (now (input .entry)) r ⌝ }
+    ensures { λ r. ⌜ r ≡ endIn (now (input .entry)) ⌝ }
 {
     if input.len() < HEADER_BYTES {
         return 0;

@@ -9,8 +9,8 @@ ghost use Rattle.refusal.specs.Outcome.{outcomeMap};
 ghost use Rattle.grammar.specs.Reading.{laidBy};
 ghost use Rattle.grammar.specs.Counted.{countedBy};
 ghost use Rattle.input.specs.Script.{scriptWritten, listedFrom, wordsAfter, maxScript, wholeAnswer};
+use given::Judgement;
 use grammar::Counted;
-use image::Answer;
 use image::MAX_IMAGE;
 use refusal::Refusal;
 
@@ -27,30 +27,20 @@ fn list_script<'a>(image: &'a [u8], text: &'a [u8], out: &mut [u32]) -> Counted
     ensures { λ r. ⌜ r ≡ countedBy (outcomeMap length (scriptWritten (now (image .entry)) (now (text .entry)) (length (now (out .entry))))) ⌝ }
     ensures { λ r. ⌜ now (out .exit) ≡ laidBy (listedWords (now (text .entry))) (now (out .entry)) (scriptWritten (now (image .entry)) (now (text .entry)) (length (now (out .entry)))) ⌝ }
 {
-    let answer = image::judge(image);
-    match answer {
-        Answer::Refused(r) => Counted::Refused(r),
-        Answer::Accepted {
-            version: _,
-            ranges: _,
-        } => {
-            if MAX_SCRIPT < text.len() {
-                return Counted::Refused(Refusal::TextLength);
-            }
-            token::list_checked(image, text, out)
-        }
+    let before = grammar::judge_text(image, text, MAX_SCRIPT);
+    match before {
+        Judgement::Refused(r) => Counted::Refused(r),
+        Judgement::Accepted => token::list_checked(image, text, out),
     }
 }
 
 // The list of the tokens of the text that follows the image in the input.
+// An image that doesn't come whole is taken as empty, which refuses it with 1.
 pub fn list_input(input: &[u8], out: &mut [u32]) -> Counted
     ensures { λ r. ⌜ r ≡ countedBy (listedFrom (now (input .entry)) (length (now (out .entry)))) ⌝ }
     ensures { λ r. ⌜ now (out .exit) ≡ wordsAfter (now (input .entry)) (now (out .entry)) ⌝ }
 {
     let end = crate::find_end(input);
-    if end == 0 {
-        return Counted::Refused(Refusal::Length);
-    }
     list_script(&input[..end], &input[end..], out)
 }
 

@@ -24,14 +24,14 @@ use Rattle.changes.proofs.LimitLaws.{answer-by, runs-are, entries-are}
 use Rattle.changes.proofs.RoomLaws.{lists-both}
 use Rattle.changes.proofs.BoundLaws.{runs-by-limits, entries-by-records}
 use Rattle.input.specs.Front.{imageIn, restIn, WholeWithin}
-use Rattle.input.proofs.FrontLaws.{means-whole, end-whole, sized-whole}
+use Rattle.input.proofs.FrontLaws.{end-whole, sized-whole}
 use Rattle.grammar.specs.Record.{listedWords, recordSize}
 use Rattle.grammar.specs.Before.{beforeWithin}
 use Rattle.grammar.specs.Reading.{outcomeWithin, countWithin, roomed, writtenWithin, listWithin, laidBy, listWordsWithin}
 use Rattle.token.specs.Taken.{takenWithin}
 use Rattle.hashtag.specs.Listed.{spansWords, foundWithin, hashtagsWrittenWithin, hashtagListWithin, hashtagWordsWithin}
 use Rattle.grammar.specs.Counted.{countedBy}
-use Rattle.input.specs.Script.{maxScript, scriptWithin, writtenFromWithin, listedWithin, wordsWithin as scriptWords, wholeAnswerWithin as wholeList}
+use Rattle.input.specs.Script.{maxScript, scriptWithin, listedWithin, wordsWithin as scriptWords, wholeAnswerWithin as wholeList}
 use Rattle.input.specs.Images.{maxRunWords, maxEntryWordsWithin, answerFromWithin, wholeAnswerWithin as wholeChanges}
 use Rattle.limit.specs.Agree.{AgreeOnImage, AgreeOnPair, AgreeOnWriting, AgreeOnScript, AgreeOnChanges}
 
@@ -99,19 +99,17 @@ module _ (k l : ℕ) (fewer : k ≤ l) where
     whole-more : WholeWithin l input
     whole-more = sized-whole input (header-still {l = l} (imageIn input) (omega (arith, h .few-entries)) h .sized)
 
-    same-script : (words : ℕ) → writtenFromWithin k input words ≡ writtenFromWithin l input words
-    unfolding writtenFromWithin scriptWithin
-    same-script words =
-        let e = same-refusal k l (imageIn input) fewer h in
-        rw (means-whole input whole, means-whole input whole-more, e, same-written k l (imageIn input) e _ words)
+    same-script : (words : ℕ) → scriptWithin k (imageIn input) (restIn input) words ≡ scriptWithin l (imageIn input) (restIn input) words
+    unfolding scriptWithin
+    same-script words = let e = same-refusal k l (imageIn input) fewer h in rw (e, same-written k l (imageIn input) e _ words)
 
     pub script-agree : AgreeOnScript k l input
     unfolding listedWithin scriptWords wholeList
     script-agree =
         record {
-          listed = λ words. ap (outcomeMap length) (same-script words);
-          listWords = λ out. ap (laidBy (listedWords (restIn input)) out) (same-script (length out));
-          whole = ap (λ o. countedBy (outcomeMap length o)) (same-script (recordSize * maxScript));
+          listed = λ words. rw (end-whole input whole, end-whole input whole-more) (ap (outcomeMap length) (same-script words));
+          listWords = λ out. rw (end-whole input whole, end-whole input whole-more) (ap (laidBy (listedWords (restIn input)) out) (same-script (length out)));
+          whole = rw (end-whole input whole, end-whole input whole-more) (ap (λ o. countedBy (outcomeMap length o)) (same-script (recordSize * maxScript)));
         }
 
     -- two images, one after the other

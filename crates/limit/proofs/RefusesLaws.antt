@@ -21,8 +21,8 @@ use Rattle.pair.proofs.LimitLaws.{pair-by}
 use Rattle.changes.specs.declared.Changes.{Changes}
 use Rattle.changes.specs.declared.Changes.the-variants as changes
 use Rattle.changes.proofs.LimitLaws.{answer-by, runs-are, entries-are}
-use Rattle.input.specs.Front.{imageIn, restIn, WholeWithin}
-use Rattle.input.proofs.FrontLaws.{means-whole, not-whole, dec-whole, end-whole, image-total, sized-whole}
+use Rattle.input.specs.Front.{imageIn, restIn, frontWithin, afterWithin, WholeWithin}
+use Rattle.input.proofs.FrontLaws.{dec-whole, end-whole, cut-refused, image-total, sized-whole}
 use Rattle.grammar.specs.Record.{recordSize, listedWords}
 use Rattle.grammar.specs.Before.{beforeWithin}
 use Rattle.grammar.specs.Reading.{outcomeWithin, countWithin, roomed, writtenWithin, listWithin, laidBy, listWordsWithin}
@@ -30,8 +30,7 @@ use Rattle.token.specs.Taken.{takenWithin}
 use Rattle.hashtag.specs.Listed.{spansWords, foundWithin, hashtagsWrittenWithin, hashtagListWithin, hashtagWordsWithin}
 use Rattle.grammar.specs.Counted.{countedBy}
 use Rattle.input.specs.Script.{maxScript, scriptWithin, writtenFromWithin, listedWithin, wordsWithin as scriptWords, wholeAnswerWithin as wholeList}
-use Rattle.input.specs.Images.{olderWithin, newerWithin, maxRunWords, maxEntryWordsWithin, wholeAnswerWithin as wholeChanges}
-use Rattle.input.proofs.ImagesLaws.{cut-refused}
+use Rattle.input.specs.Images.{maxRunWords, maxEntryWordsWithin, wholeAnswerWithin as wholeChanges}
 use Rattle.limit.specs.Former.{refusalAbove}
 use Rattle.limit.specs.Refuses.{RefusesChanges, RefusesScript, RefusesInput, RefusesImage}
 
@@ -92,20 +91,16 @@ module _ (limit l : ℕ) (input : List ℕ) (a : AcceptedWithin l (imageIn input
       go (yes h) = let w = sized-whole {limit = l} input (a .header .sized) in absurd (f (record { header = w .header; long = w .long; short = h; comes = w .comes }))
       go (no h) = above-long limit (imageIn input) (omega (arith, image-total {limit = l} input (a .header .sized)))
 
-  script-refused : (words : ℕ) → writtenFromWithin limit input words ≡ refused (refusalAbove limit (imageIn input))
-  unfolding writtenFromWithin scriptWithin
-  script-refused words = go (dec-whole input)
-    where
-      go : Dec (WholeWithin limit input) → writtenFromWithin limit input words ≡ refused (refusalAbove limit (imageIn input))
-      go (yes w) = rw (means-whole input w, above limit (imageIn input) l a many)
-      go (no f) = rw (not-whole input f) (ap refused (sym (cut-long f)))
-
-  front-refused : refusalWithin limit (olderWithin limit input) ≡ some (refusalAbove limit (imageIn input))
+  front-refused : refusalWithin limit (frontWithin limit input) ≡ some (refusalAbove limit (imageIn input))
   front-refused = go (dec-whole input)
     where
-      go : Dec (WholeWithin limit input) → refusalWithin limit (olderWithin limit input) ≡ some (refusalAbove limit (imageIn input))
+      go : Dec (WholeWithin limit input) → refusalWithin limit (frontWithin limit input) ≡ some (refusalAbove limit (imageIn input))
       go (yes w) = rw (end-whole input w) (above limit (imageIn input) l a many)
       go (no f) = cut-refused input f ∙ ap some (sym (cut-long f))
+
+  script-refused : (words : ℕ) → writtenFromWithin limit input words ≡ refused (refusalAbove limit (imageIn input))
+  unfolding scriptWithin
+  script-refused words = rw front-refused
 
 -- the listers' calls and programs, from what is written and from the list of changes
 script-refuses : (limit : ℕ) (input : List ℕ) (r : Refusal) → ((words : ℕ) → writtenFromWithin limit input words ≡ refused r) → RefusesScript limit input r
@@ -113,11 +108,11 @@ unfolding listedWithin scriptWords wholeList
 script-refuses limit input r f =
     record {
       listed = λ words. ap (outcomeMap length) (f words);
-      listWords = λ out. ap (laidBy (listedWords (restIn input)) out) (f (length out));
+      listWords = λ out. ap (laidBy (listedWords (afterWithin limit input)) out) (f (length out));
       whole = ap (λ o. countedBy (outcomeMap length o)) (f (recordSize * maxScript));
     }
 
-input-refuses : (limit : ℕ) (input : List ℕ) (c : Changes) → RefusesChanges limit (olderWithin limit input) (newerWithin limit input) c → RefusesInput limit input c
+input-refuses : (limit : ℕ) (input : List ℕ) (c : Changes) → RefusesChanges limit (frontWithin limit input) (afterWithin limit input) c → RefusesInput limit input c
 unfolding wholeChanges
 input-refuses limit input c h =
     record { answer = h .answer; runs = h .runs; entries = h .entries; whole = h .answer maxRunWords (maxEntryWordsWithin limit) }
@@ -153,12 +148,12 @@ refuses-above limit l s a many =
         script-refused limit l input (subst (AcceptedWithin l) (sym f) a) (subst (λ t. limit < entryCount t) (sym f) many) words
         ∙ ap (λ t. refused (refusalAbove limit t)) f
 
-    changes-front : (input : List ℕ) → imageIn input ≡ s → RefusesChanges limit (olderWithin limit input) (newerWithin limit input) (changes.Older (refusalAbove limit s))
+    changes-front : (input : List ℕ) → imageIn input ≡ s → RefusesChanges limit (frontWithin limit input) (afterWithin limit input) (changes.Older (refusalAbove limit s))
     changes-front input f =
-        older-refused limit (olderWithin limit input) (refusalAbove limit s)
+        older-refused limit (frontWithin limit input) (refusalAbove limit s)
         (front-refused limit l input (subst (AcceptedWithin l) (sym f) a) (subst (λ t. limit < entryCount t) (sym f) many)
         ∙ ap (λ t. some (refusalAbove limit t)) f)
-        (newerWithin limit input)
+        (afterWithin limit input)
 
     changes-after : (input : List ℕ) → refusalWithin limit (imageIn input) ≡ none → restIn input ≡ s → RefusesInput limit input (changes.Newer (refusalAbove limit s))
     changes-after input o f =

@@ -1,6 +1,8 @@
-// Printing to standard output, for the programs: text, numbers and refusals.
+// Printing to standard output, for the programs: text, numbers and refusals; in `answers` what the listers print.
 use libc::STDOUT_FILENO;
 use refusal::Refusal;
+
+pub mod answers;
 
 pub fn print_text(s: &[u8]) {
     io::write_all(STDOUT_FILENO, s);

@@ -1,15 +1,15 @@
 -- `change_lister::main` is safe: the changes that were listed have their words in the buffers. Assumes nothing.
+use mathlib.Core.Path.{sym, _∙_}
 use native.Mathlib.Omega.{arith}
-use Rattle.input.proofs.ImagesMeansLaws.{listed-fits}
+use Rattle.input.proofs.ImagesLaws.{change-listing-means, listed-fits}
 use borrow.Author.Needs.{needs}
 use Rattle.change_lister.proofs.main.Statement.{statement}
 use Rattle.change_lister.proofs.main.Tie as tie
 
-print-changes-requires : tie.Need-print-changes-requires
-print-changes-requires c κs =
-    let b = c .before .before .before in
-    let e = b .before .before .before .before .list-read .ensures in
-    let f = listed-fits _ _ _ _ (e .0, e .1 .1) (b .answer4 .given .1) in
+print-change-listing-requires : tie.Need-print-change-listing-requires
+print-change-listing-requires c κs = λ n m e.
+    let l = c .before .before .before .before .list-read .ensures in
+    let f = listed-fits (change-listing-means _ _ _ (sym (l .0) ∙ e) (sym (l .1 .1 .0)) (sym (l .1 .1 .1))) in
     (omega arith, omega arith)
 
 pub main-spec : {M : Type 1} → statement M
@@ -24,18 +24,5 @@ main-spec =
     (λ c κs. search needs)
     (λ c. search needs)
     (λ c. search needs)
-    (λ c κs. search needs)
-    (λ c. search needs)
-    (λ c. search needs)
-    (λ c κs. search needs)
-    (λ c. search needs)
-    (λ c. search needs)
-    (λ c κs. search needs)
-    (λ c. search needs)
-    (λ c. search needs)
-    (λ c. search needs)
-    print-changes-requires
-    (λ c. search needs)
-    (λ c. search needs)
-    (λ c. search needs)
+    print-change-listing-requires
     (λ c. search needs))

@@ -2,13 +2,10 @@
 use mathlib.Core.Path.{_∙_}
 use native.Mathlib.Omega.{arith}
 use lib.ListN.{length-take}
-use Rattle.input.proofs.ImagesReachLaws.{whole-answer}
+use Rattle.input.proofs.ImagesLaws.{whole-answer}
 use borrow.Author.Needs.{needs}
 use Rattle.input.proofs.images.list_read.Statement.{statement}
 use Rattle.input.proofs.images.list_read.Tie as tie
-
-slice-aggregate-list-input : tie.Need-slice-aggregate-list-input
-slice-aggregate-list-input c = simp length-take (omega arith)
 
 returns : tie.Need-returns
 returns c =
@@ -20,4 +17,4 @@ returns c =
 pub list-read-spec : {M : Type 1} → statement M
 list-read-spec =
     tie.close
-    (tie.spec slice-aggregate-list-input (λ c κs. search needs) (λ c. search needs) (λ c. search needs) returns)
+    (tie.spec (λ c. simp length-take (omega arith)) (λ c κs. search needs) (λ c. search needs) (λ c. search needs) returns)

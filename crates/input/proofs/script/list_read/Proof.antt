@@ -2,19 +2,10 @@
 use mathlib.Core.Path.{_∙_}
 use native.Mathlib.Omega.{arith}
 use lib.ListN.{length-take}
-use Rattle.input.proofs.ScriptReachLaws.{whole-answer}
+use Rattle.input.proofs.ScriptLaws.{whole-answer}
 use borrow.Author.Needs.{needs}
 use Rattle.input.proofs.script.list_read.Statement.{statement}
 use Rattle.input.proofs.script.list_read.Tie as tie
-
-slice-aggregate-list-input : tie.Need-slice-aggregate-list-input
-slice-aggregate-list-input c = simp length-take (omega arith)
-
-list-input-requires : tie.Need-list-input-requires
-list-input-requires c κs = search needs
-
-same-length : tie.Need-same-length
-same-length c = search needs
 
 returns : tie.Need-returns
 returns c =
@@ -24,4 +15,4 @@ returns c =
 
 pub list-read-spec : {M : Type 1} → statement M
 list-read-spec =
-    tie.close (tie.spec slice-aggregate-list-input list-input-requires same-length returns)
+    tie.close (tie.spec (λ c. simp length-take (omega arith)) (λ c κs. search needs) (λ c. search needs) returns)
