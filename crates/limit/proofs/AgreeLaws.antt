@@ -100,7 +100,7 @@ module _ (k l : ℕ) (fewer : k ≤ l) where
     whole-more = sized-whole input (header-still {l = l} (imageIn input) (omega (arith, h .few-entries)) h .sized)
 
     same-script : (words : ℕ) → scriptWithin k (imageIn input) (restIn input) words ≡ scriptWithin l (imageIn input) (restIn input) words
-    unfolding scriptWithin
+    unfolding scriptWithin beforeWithin
     same-script words = let e = same-refusal k l (imageIn input) fewer h in rw (e, same-written k l (imageIn input) e _ words)
 
     pub script-agree : AgreeOnScript k l input

@@ -99,7 +99,7 @@ module _ (limit l : ℕ) (input : List ℕ) (a : AcceptedWithin l (imageIn input
       go (no f) = cut-refused input f ∙ ap some (sym (cut-long f))
 
   script-refused : (words : ℕ) → writtenFromWithin limit input words ≡ refused (refusalAbove limit (imageIn input))
-  unfolding scriptWithin
+  unfolding scriptWithin beforeWithin
   script-refused words = rw front-refused
 
 -- the listers' calls and programs, from what is written and from the list of changes
