@@ -12,7 +12,7 @@ use Rattle.image.specs.Check.{refusalOf}
 use Rattle.image.specs.declared.records.Section.{Section}
 use Rattle.image.specs.declared.records.Section.the-variants.{Ranges, Entries}
 use Rattle.image.specs.Records.{recordAt, recordCount, sectionClass}
-use Rattle.image.proofs.SectionLaws.{fits}
+use Rattle.image.proofs.SectionLaws.{within-limits}
 use Rattle.pair.specs.declared.walk.Ahead.{Ahead}
 use Rattle.pair.specs.Walk.{Walk, AheadOf, codePoints}
 use Rattle.pair.proofs.WalkLaws.{walk-begins, ends-ahead, gap-ahead, range-ahead, ready, Least, both-ahead}
@@ -247,10 +247,10 @@ module _ (older newer : List ℕ) (oa : refusalOf older ≡ none) (na : refusalO
 
   -- by the limits
   pub runs-by-limits : length (runsOf older newer) ≤ 2 * (maxRanges + maxRanges) - 1
-  runs-by-limits = omega (arith, runs-by-records, fits older oa .few-ranges, fits newer na .few-ranges)
+  runs-by-limits = omega (arith, runs-by-records, within-limits older oa .few-ranges, within-limits newer na .few-ranges)
 
   pub entries-by-limits : length (entriesOf older newer) ≤ maxEntries + maxEntries
-  entries-by-limits = omega (arith, entries-by-records, fits older oa .few-entries, fits newer na .few-entries)
+  entries-by-limits = omega (arith, entries-by-records, within-limits older oa .few-entries, within-limits newer na .few-entries)
 
 -- in either section
 pub few-changes :

@@ -33,7 +33,7 @@ use Rattle.grammar.specs.Record.{tokenWidth}
 use Rattle.grammar.specs.Beside.{View, nextView, refusedBy, either, medialFirst, viewNext, refusedFrom}
 use Rattle.grammar.proofs.GrammarLaws.{first-class, fits, tokens-divide}
 use Rattle.grammar.proofs.TailLaws.{Tail, no-more, continued, linked, identifier-begun, tail-identifier, tail-append, tail-from}
-use Rattle.demands.specs.Firm.{Allowed, Settled, Changed, Firm, Touched}
+use Rattle.demands.specs.Firm.{Allowed, ClassSettled, Changed, Firm, Touched}
 
 -- a Continue stays one; a class that begins a token doesn't change; nothing becomes White
 keeps-continue : {a b : Class} → Permitted a b → Continue a → Continue b
@@ -94,11 +94,11 @@ module _ {A : Type 0} (older newer : Meaning A) where
   abbrev AllAllowed : List A → Type 0
   AllAllowed s = All (Allowed older newer) s
 
-  settled-or-changed : (r : List A) → Settled older newer r ⊎ Changed older newer r
+  settled-or-changed : (r : List A) → ClassSettled older newer r ⊎ Changed older newer r
   settled-or-changed [] = inl tt
   settled-or-changed (c ∷ r) = go (class-discrete (newer .class c) (older .class c))
     where
-      go : Dec (newer .class c ≡ older .class c) → Settled older newer (c ∷ r) ⊎ Changed older newer (c ∷ r)
+      go : Dec (newer .class c ≡ older .class c) → ClassSettled older newer (c ∷ r) ⊎ Changed older newer (c ∷ r)
       go (yes p) = inl p
       go (no n) = inr n
 
@@ -107,7 +107,7 @@ module _ {A : Type 0} (older newer : Meaning A) where
   firm-or-touched [] = inl tt
   firm-or-touched (c ∷ r) = go (settled-or-changed (c ∷ r)) (older .medial c) refl (settled-or-changed r)
     where
-      go : Settled older newer (c ∷ r) ⊎ Changed older newer (c ∷ r) → (b : Bool) → older .medial c ≡ b → Settled older newer r ⊎ Changed older newer r →
+      go : ClassSettled older newer (c ∷ r) ⊎ Changed older newer (c ∷ r) → (b : Bool) → older .medial c ≡ b → ClassSettled older newer r ⊎ Changed older newer r →
           Firm older newer (c ∷ r) ⊎ Touched older newer (c ∷ r)
       go (inr n) b m d = inr (inl n)
       go (inl p) false m d = inl (p, λ t. absurd (true≢false (sym t ∙ m)))
@@ -138,7 +138,7 @@ module _ {A : Type 0} (older newer : Meaning A) where
       }
 
   -- the first unit of a text that begins with a token has the class that it had
-  token-settled : (k : Kind) (u r : List A) → AllAllowed (u ++ r) → Token older k u → Settled older newer (u ++ r)
+  token-settled : (k : Kind) (u r : List A) → AllAllowed (u ++ r) → Token older k u → ClassSettled older newer (u ++ r)
   token-settled k u r a t =
       let (c, v, e, f) = fits older .starts k u t in
       let b : AllAllowed (c ∷ (v ++ r)) = rw e at a in
@@ -157,30 +157,30 @@ module _ {A : Type 0} (older newer : Meaning A) where
   after-one (enough h) = enough (omega arith)
   after-one (firm g) = firm g
 
-  settled : {r left : List A} {ts : List (Tok A Kind)} → AllAllowed r → Division (Token older) r ts left → Sure 1 ts left → Settled older newer r
+  settled : {r left : List A} {ts : List (Tok A Kind)} → AllAllowed r → Division (Token older) r ts left → Sure 1 ts left → ClassSettled older newer r
   settled a (ends n) (enough h) = absurd (omega arith)
   settled {r} a (ends n) (firm g) = go r g
     where
-      go : (s : List A) → Firm older newer s → Settled older newer s
+      go : (s : List A) → Firm older newer s → ClassSettled older newer s
       go [] f = tt
       go (c ∷ s) f = f .0
   settled a (takes {k = k} {u = u} {rest = r} L d) g = rw (L .whole) (token-settled k u r (rw (L .whole) at a) (L .token))
 
   -- and so has the second, where the first is a medial and no Continue
   next-settled : {c : A} {r left : List A} {ts : List (Tok A Kind)} → AllAllowed (c ∷ r) → (IsContinue older c → ⊥) → IsMedial older c →
-      Division (Token older) (c ∷ r) ts left → Sure 2 ts left → Settled older newer r
+      Division (Token older) (c ∷ r) ts left → Sure 2 ts left → ClassSettled older newer r
   next-settled a n m (ends x) (enough h) = absurd (omega arith)
   next-settled a n m (ends x) (firm g) = g .1 m
   next-settled {c} {r} {left} a n m (takes {k = k} {u = u} {rest = rest} {ts = ts} L d) g = go k (L .token) (L .whole)
     where
-      after : (w : WhiteKind) (x : A) (v : List A) → c ∷ r ≡ x ∷ (v ++ rest) → All (IsWhite older w) v → Settled older newer r
+      after : (w : WhiteKind) (x : A) (v : List A) → c ∷ r ≡ x ∷ (v ++ rest) → All (IsWhite older w) v → ClassSettled older newer r
       after w x [] e h = let f : r ≡ rest = cc in rw f (settled (rw f at (a .1)) d (after-one g))
       after w x (y ∷ v) e h =
           let f : r ≡ y ∷ (v ++ rest) = cc in
           let b : AllAllowed (y ∷ (v ++ rest)) = rw f at (a .1) in
           rw f (keeps-first (b .0 .permitted) w (whitespace w) (ap (kindBy w) (h .0 .0)))
 
-      go : (j : Kind) → Token older j u → c ∷ r ≡ u ++ rest → Settled older newer r
+      go : (j : Kind) → Token older j u → c ∷ r ≡ u ++ rest → ClassSettled older newer r
       go identifier t e =
           let i = identifier-begun older t in
           let h : c ≡ i .first = let z = ap (λ y. y ++ rest) (i .whole) in cc in
@@ -234,7 +234,7 @@ module _ {A : Type 0} (older newer : Meaning A) where
           let (c, x, p, f) = fits older .starts k u (L .token) in
           let i = identifier-begun newer t in
           let y : i .first ≡ c = let z = i .whole in let q = ap (λ l. l ++ rest) p in let r = L .whole in cc in
-          let o : Settled older newer (c ∷ (x ++ rest)) = rw p at (token-settled k u rest b (L .token)) in
+          let o : ClassSettled older newer (c ∷ (x ++ rest)) = rw p at (token-settled k u rest b (L .token)) in
           let j : identifier ≡ k = let z = ap (kindBy (older .white c)) (sym o ∙ ap (newer .class) (sym y) ∙ i .start) in cc in
           identifier-bound a (rw (← j) at L) d g v w e t h
 

@@ -14,9 +14,9 @@ module _ {A : Type 0} (older newer : Meaning A) where
     pub medial : newer .medial c ≡ older .medial c
 
   -- the first unit, if there is one, has the class that it had
-  abbrev pub Settled : List A → Type 0
-  Settled [] = Unit {0}
-  Settled (c ∷ r) = newer .class c ≡ older .class c
+  abbrev pub ClassSettled : List A → Type 0
+  ClassSettled [] = Unit {0}
+  ClassSettled (c ∷ r) = newer .class c ≡ older .class c
 
   -- there is a first unit, and it has another class
   abbrev pub Changed : List A → Type 0
@@ -26,7 +26,7 @@ module _ {A : Type 0} (older newer : Meaning A) where
   -- the first unit has the class that it had, and so has the next where the first is a medial
   abbrev pub Firm : List A → Type 0
   Firm [] = Unit {0}
-  Firm (c ∷ r) = (newer .class c ≡ older .class c) × (older .medial c ≡ true → Settled r)
+  Firm (c ∷ r) = (newer .class c ≡ older .class c) × (older .medial c ≡ true → ClassSettled r)
 
   -- the first unit has another class, or it is a medial and the next one has
   abbrev pub Touched : List A → Type 0

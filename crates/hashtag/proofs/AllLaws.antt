@@ -9,11 +9,11 @@ use Rattle.utf8.specs.Text.{Character, Encoded, ends, takes, decode, widthOf}
 use Rattle.utf8.proofs.SequenceLaws.{sequence-length}
 use Rattle.utf8.proofs.TextLaws.{decode-means}
 use Rattle.grammar.specs.All.{All}
-use Rattle.hashtag.specs.Find.{Span, runOf, hashtagsFrom, hashtagsOf, HashtagAt, Has, Rising, AllHashtags}
+use Rattle.hashtag.specs.Find.{Span, runOf, hashtagsFrom, hashtagsOf, HashtagAt, Has, SpansRise, AllHashtags}
 use Rattle.hashtag.proofs.FindLaws.{Wide, found-only, found-all, in-of, of-in, rising-from, found-rise}
 
 -- in a list that rises
-has-least : (p : ℕ) (ts : List Span) (t : Span) → Rising p ts → Has t ts → (p ≤ t .start) × (t .start < t .end)
+has-least : (p : ℕ) (ts : List Span) (t : Span) → SpansRise p ts → Has t ts → (p ≤ t .start) × (t .start < t .end)
 has-least p (u ∷ ts) t r (inl e) =
     let b = ap (λ (x : Span). x .start) e in
     let f = ap (λ (x : Span). x .end) e in
@@ -24,7 +24,7 @@ has-least p [] t r h = absurd h
 abbrev Apart : Span → Span → Type 0
 Apart t u = (t ≡ u) ⊎ ((t .end ≤ u .start) ⊎ (u .end ≤ t .start))
 
-has-apart : (p : ℕ) (ts : List Span) (t u : Span) → Rising p ts → Has t ts → Has u ts → Apart t u
+has-apart : (p : ℕ) (ts : List Span) (t u : Span) → SpansRise p ts → Has t ts → Has u ts → Apart t u
 has-apart p (x ∷ ts) t u r (inl e) (inl f) = inl (e ∙ sym f)
 has-apart p (x ∷ ts) t u r (inl e) (inr k) = let b = ap (λ (x : Span). x .end) e in inr (inl (omega (arith, has-least (x .end) ts u (r .2) k)))
 has-apart p (x ∷ ts) t u r (inr h) (inl f) = let b = ap (λ (x : Span). x .end) f in inr (inr (omega (arith, has-least (x .end) ts t (r .2) h)))
@@ -32,18 +32,18 @@ has-apart p (x ∷ ts) t u r (inr h) (inr k) = has-apart (x .end) ts t u (r .2) 
 has-apart p [] t u r h k = absurd h
 
 -- two lists that rise and have the same members are the same
-same-head : (p q : ℕ) (t u : Span) (ts us : List Span) → Rising p (t ∷ ts) → Rising q (u ∷ us) → Has t (u ∷ us) → Has u (t ∷ ts) → t ≡ u
+same-head : (p q : ℕ) (t u : Span) (ts us : List Span) → SpansRise p (t ∷ ts) → SpansRise q (u ∷ us) → Has t (u ∷ us) → Has u (t ∷ ts) → t ≡ u
 same-head p q t u ts us r o (inl e) k = e
 same-head p q t u ts us r o (inr h) (inl f) = sym f
 same-head p q t u ts us r o (inr h) (inr k) = absurd (omega (arith, has-least (u .end) us t (o .2) h, has-least (t .end) ts u (r .2) k, r .1, o .1))
 
-in-tail : (p q : ℕ) (t u x : Span) (ts us : List Span) → t ≡ u → Rising p (t ∷ ts) → Has x ts → Has x (u ∷ us) → Has x us
+in-tail : (p q : ℕ) (t u x : Span) (ts us : List Span) → t ≡ u → SpansRise p (t ∷ ts) → Has x ts → Has x (u ∷ us) → Has x us
 in-tail p q t u x ts us e r h (inl f) =
     let b = ap (λ (x : Span). x .start) (f ∙ sym e) in
     absurd (omega (arith, has-least (t .end) ts x (r .2) h, r .1))
 in-tail p q t u x ts us e r h (inr k) = k
 
-same-members : (p q : ℕ) (ts us : List Span) → Rising p ts → Rising q us → ((t : Span) → Has t ts → Has t us) → ((t : Span) → Has t us → Has t ts) → ts ≡ us
+same-members : (p q : ℕ) (ts us : List Span) → SpansRise p ts → SpansRise q us → ((t : Span) → Has t ts → Has t us) → ((t : Span) → Has t us → Has t ts) → ts ≡ us
 same-members p q [] [] r o f g = refl
 same-members p q [] (u ∷ us) r o f g = absurd (g u (inl refl))
 same-members p q (t ∷ ts) [] r o f g = absurd (f t (inl refl))

@@ -24,14 +24,14 @@ use Rattle.hashtag.specs.Find.{hashtagsOf}
 use Rattle.hashtag.specs.Listed.{spansWords, hashtagsThrough, countedThrough, foundWithin, hashtagsFound, hashtagsWrittenWithin, hashtagListWithin, hashtagListOf, hashtagWordsWithin, hashtagListWords}
 
 module _ (s text out : List ℕ) where
-  abbrev pub Lists : Counted → List ℕ → Type 0
-  Lists r out′ = (r ≡ countedBy (hashtagListOf s text (length out))) × (out′ ≡ hashtagListWords s text out)
+  abbrev pub ListsHashtags : Counted → List ℕ → Type 0
+  ListsHashtags r out′ = (r ≡ countedBy (hashtagListOf s text (length out))) × (out′ ≡ hashtagListWords s text out)
 
-  lists : {r : Counted} {out′ : List ℕ} → Writes (spansWords text) out (hashtagsFound s text) r out′ → Lists r out′
+  lists : {r : Counted} {out′ : List ℕ} → Writes (spansWords text) out (hashtagsFound s text) r out′ → ListsHashtags r out′
   unfolding hashtagListWithin hashtagWordsWithin hashtagsWrittenWithin
   lists w = w
 
-  pub list-refused : {r : Refusal} → beforeText maxText s text ≡ some r → Lists (Refused r) out
+  pub list-refused : {r : Refusal} → beforeText maxText s text ≡ some r → ListsHashtags (Refused r) out
   unfolding foundWithin
   list-refused {r} e = lists (writes-refused (spansWords text) out (let f : hashtagsFound s text ≡ refused r = rw e in f))
 
@@ -41,7 +41,7 @@ module _ (s text out : List ℕ) where
     through = rw read
 
     -- 6
-    pub list-ill : {r : Refusal} → Refused r ≡ countedThrough s text → Lists (Refused r) out
+    pub list-ill : {r : Refusal} → Refused r ≡ countedThrough s text → ListsHashtags (Refused r) out
     unfolding countedThrough
     list-ill e = lists (writes-refused (spansWords text) out (through ∙ by-refused (hashtagsThrough s text) e))
 
@@ -60,7 +60,7 @@ module _ (s text out : List ℕ) where
           go (IllFormed p k) f g = impossible (cc)
 
       -- 8: nothing is written
-      pub list-no-room : roomOf (length out) < n → Lists (Refused (refusal.Room n)) out
+      pub list-no-room : roomOf (length out) < n → ListsHashtags (Refused (refusal.Room n)) out
       list-no-room h = lists (writes-no-room (spansWords text) out (all .found) (all .number) h)
 
       module _ (h : n ≤ roomOf (length out)) where
@@ -68,5 +68,5 @@ module _ (s text out : List ℕ) where
         list-fits = let m = all .number in (all .form, omega arith)
 
         -- all is written
-        pub list-given : Lists (Records n) (laid out 0 (spansWords text (hashtagsOf s text)))
+        pub list-given : ListsHashtags (Records n) (laid out 0 (spansWords text (hashtagsOf s text)))
         list-given = lists (writes-given (spansWords text) out (all .found) (all .number) h)

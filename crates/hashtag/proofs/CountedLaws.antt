@@ -9,7 +9,7 @@ use lib.ListN.{length, getD, take, drop}
 use lib.Seq.{getD-drop}
 use Rattle.lists.proofs.LaidLaws.{rest as part-rest}
 use Rattle.line.specs.Ends.{look}
-use Rattle.hashtag.specs.Seek.{stopOf, sumOf, LinesCounted}
+use Rattle.hashtag.specs.Seek.{stopFor, sumOf, LinesCounted}
 use Rattle.hashtag.specs.declared.Reach.{Reach}
 use Rattle.hashtag.proofs.SeekLaws.{passed-begins}
 
@@ -18,7 +18,7 @@ reach at line = record { at = at; line = line }
 
 module _ (text : List ℕ) where
   abbrev entry : ℕ → ℕ
-  entry i = stopOf true (getD text i 0)
+  entry i = stopFor true (getD text i 0)
 
   -- of bytes, and then of more
   pub sum-split : (from n k : ℕ) → sumOf text from (n + k) ≡ sumOf text from n + sumOf text (from + n) k
@@ -62,13 +62,13 @@ module _ (text : List ℕ) where
   sum-shift s at zero h = refl
   sum-shift s at (suc n) h =
       let z : 0 + n ≡ n = omega arith in
-      (λ j. sum-shift s at n h j + stopOf true (getD s (z j) 0)) ∙ ap (λ (b : ℕ). sumOf text at n + stopOf true b) (h n)
+      (λ j. sum-shift s at n h j + stopFor true (getD s (z j) 0)) ∙ ap (λ (b : ℕ). sumOf text at n + stopFor true b) (h n)
 
   pub sum-part : (at n : ℕ) → sumOf (take (length text - at) (drop at text)) 0 n ≡ sumOf text at n
   sum-part at n =
       sum-shift (take (length text - at) (drop at text)) at n (λ i. ap (λ (s : List ℕ). getD s i 0) (part-rest text at) ∙ getD-drop at text i 0)
 
-pub sum-four : (s : List ℕ) (k l m n : ℕ) → k ≡ stopOf true (getD s 0 0) → l ≡ stopOf true (getD s 1 0) → m ≡ stopOf true (getD s 2 0) → n ≡ stopOf true (getD s 3 0)
+pub sum-four : (s : List ℕ) (k l m n : ℕ) → k ≡ stopFor true (getD s 0 0) → l ≡ stopFor true (getD s 1 0) → m ≡ stopFor true (getD s 2 0) → n ≡ stopFor true (getD s 3 0)
     → k + l + m + n ≡ sumOf s 0 4
 unfolding sumOf
 sum-four s k l m n a b c d = omega arith
@@ -94,7 +94,7 @@ module _ {text : List ℕ} {from first : ℕ} where
         few = omega (arith, i .few);
       }
     where
-      go : (j : ℕ) → from ≤ j → j < at + n → Dec (j < at) → stopOf true (getD text j 0) < look
+      go : (j : ℕ) → from ≤ j → j < at + n → Dec (j < at) → stopFor true (getD text j 0) < look
       go j u v (yes w) = i .passed .each j u w
       go j u v (no w) = sum-each text at n (omega arith) j (omega arith) v
 
@@ -119,6 +119,6 @@ module _ {text : List ℕ} {from first : ℕ} where
         few = omega (arith, i .few, k .few);
       }
     where
-      go : (j : ℕ) → from ≤ j → j < q .at → Dec (j < r .at) → stopOf true (getD text j 0) < look
+      go : (j : ℕ) → from ≤ j → j < q .at → Dec (j < r .at) → stopFor true (getD text j 0) < look
       go j u v (yes w) = i .passed .each j u w
       go j u v (no w) = k .passed .each j (omega arith) v

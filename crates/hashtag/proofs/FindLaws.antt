@@ -11,7 +11,7 @@ use Rattle.lists.proofs.BoolLaws.{and-left, and-right, impossible}
 use Rattle.utf8.specs.Text.{Character, widthOf}
 use Rattle.grammar.specs.All.{All}
 use Rattle.hashtag.specs.Sign.{signs, continues, IsSign, IsContinue}
-use Rattle.hashtag.specs.Find.{Span, runOf, spanBy, hashtagsFrom, HashtagAt, Has, Rising}
+use Rattle.hashtag.specs.Find.{Span, runOf, spanBy, hashtagsFrom, HashtagAt, Has, SpansRise}
 use Rattle.hashtag.proofs.SignLaws.{no-sign}
 use Rattle.hashtag.proofs.RunLaws.{Characters, Identifier, run-yes, run-no, run-none, run-continues, afterRun, run-after, run-longest, run-append}
 
@@ -243,23 +243,23 @@ module _ (s : List ℕ) where
       }
 
   -- the hashtags rise, where every character has a byte at least
-  pub rising-from : (p q : ℕ) (ts : List Span) → p ≤ q → Rising q ts → Rising p ts
+  pub rising-from : (p q : ℕ) (ts : List Span) → p ≤ q → SpansRise q ts → SpansRise p ts
   rising-from p q [] h r = tt
   rising-from p q (t ∷ ts) h r = (omega (arith, r .0), r .1, r .2)
 
-  pub found-rise : (free : Bool) (p : ℕ) (cs : Characters) → All Wide cs → Rising (p + widthOf (runOf s cs)) (hashtagsFrom s free p cs)
+  pub found-rise : (free : Bool) (p : ℕ) (cs : Characters) → All Wide cs → SpansRise (p + widthOf (runOf s cs)) (hashtagsFrom s free p cs)
   unfolding hashtagsFrom
   found-rise free p [] w = tt
   found-rise free p (c ∷ r) w = go (continues s c) refl (found-rise (not (continues s c)) (p + c .width) r (w .1))
     where
-      by : (b : Bool) (run : Characters) → Rising (p + c .width + widthOf run) (hashtagsFrom s (not (continues s c)) (p + c .width) r)
-          → Rising p (spanBy b p (p + c .width) run ++ hashtagsFrom s (not (continues s c)) (p + c .width) r)
+      by : (b : Bool) (run : Characters) → SpansRise (p + c .width + widthOf run) (hashtagsFrom s (not (continues s c)) (p + c .width) r)
+          → SpansRise p (spanBy b p (p + c .width) run ++ hashtagsFrom s (not (continues s c)) (p + c .width) r)
       by b [] h = rising-from p (p + c .width + 0) (hashtagsFrom s (not (continues s c)) (p + c .width) r) (omega arith) h
       by false (d ∷ ds) h = rising-from p (p + c .width + widthOf (d ∷ ds)) (hashtagsFrom s (not (continues s c)) (p + c .width) r) (omega arith) h
       by true (d ∷ ds) h = (omega arith, omega (arith, w .0), h)
 
-      go : (b : Bool) → continues s c ≡ b → Rising (p + c .width + widthOf (runOf s r)) (hashtagsFrom s (not (continues s c)) (p + c .width) r)
-          → Rising (p + widthOf (runOf s (c ∷ r))) (spanBy (free && signs c) p (p + c .width) (runOf s r) ++ hashtagsFrom s (not (continues s c)) (p + c .width) r)
+      go : (b : Bool) → continues s c ≡ b → SpansRise (p + c .width + widthOf (runOf s r)) (hashtagsFrom s (not (continues s c)) (p + c .width) r)
+          → SpansRise (p + widthOf (runOf s (c ∷ r))) (spanBy (free && signs c) p (p + c .width) (runOf s r) ++ hashtagsFrom s (not (continues s c)) (p + c .width) r)
       go true e h =
           let n = ap widthOf (run-yes s c r e) in
           let x = ap (λ (b : Bool). free && b) (no-sign s (c .code) e) ∙ and-false free in

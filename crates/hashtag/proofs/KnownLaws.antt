@@ -18,7 +18,7 @@ use Rattle.line.specs.Line.{endsLine, one, LineAt}
 use Rattle.line.specs.Ends.{look, endAt}
 use Rattle.line.proofs.LineLaws.{told, end-at, line-counted, counted-few, line-passes}
 use Rattle.hashtag.specs.Sign.{isSign}
-use Rattle.hashtag.specs.Seek.{continuesFirst, freeAt, stopOf, Passed, sumOf, LinesCounted, Backed, Sought}
+use Rattle.hashtag.specs.Seek.{continuesFirst, freeAt, stopFor, BytesPassed, sumOf, LinesCounted, Backed, Sought}
 use Rattle.hashtag.specs.declared.Sign.{Sign}
 use Rattle.hashtag.specs.declared.Reach.{Reach}
 use Rattle.hashtag.proofs.SignLaws.{sign-ends-none, no-sign-here}
@@ -77,7 +77,7 @@ module _ (s text : List ℕ) where
   pub walked-begins : {from line : ℕ} → from ≤ length text → LineAt text from line → Walked from from line
   walked-begins {from} h l = record { before = from; seeking = seeking-begins s text from h; last = inl (refl, refl); lined = l }
 
-  to-past : {from at line past : ℕ} → Walked from at line → Passed true text at past → past ≤ at → Walked from past (line + sumOf text at (past - at))
+  to-past : {from at line past : ℕ} → Walked from at line → BytesPassed true text at past → past ≤ at → Walked from past (line + sumOf text at (past - at))
   to-past {from} {at} {line} {past} i p l =
       let e : at ≡ past = omega (arith, p .above) in
       let z : past - at ≡ 0 = omega arith in
@@ -92,7 +92,7 @@ module _ (s text : List ℕ) where
       record { before = at; seeking = seeking-over s text (i .seeking) (h .here) g; last = inr (i .seeking .above, (n, h, refl)); lined = l }
 
   -- a search that passes over the first byte of a character passes over all of it
-  module _ {past : ℕ} (stop : past < length text → stopOf true (getD text past 0) < look → ⊥) where
+  module _ {past : ℕ} (stop : past < length text → stopFor true (getD text past 0) < look → ⊥) where
     apart : {at n : ℕ} → Stands s text at n → at < past → at + n ≤ past
     apart {at} {n} h l = by (decLt past (at + n))
       where
@@ -101,10 +101,10 @@ module _ (s text : List ℕ) where
         by (yes m) = absurd (stop (omega (arith, h .here .within)) (omega (arith, trail-passes (getD text past 0) (others-are h past l m))))
 
   -- what it counts of a character is what its first byte tells
-  sum-character : {at n : ℕ} → Stands s text at n → sumOf text at n ≡ stopOf true (getD text at 0)
+  sum-character : {at n : ℕ} → Stands s text at n → sumOf text at n ≡ stopFor true (getD text at 0)
   sum-character {at} {n} h = go n refl
     where
-      go : (k : ℕ) → n ≡ k → sumOf text at k ≡ stopOf true (getD text at 0)
+      go : (k : ℕ) → n ≡ k → sumOf text at k ≡ stopFor true (getD text at 0)
       go zero e = absurd (omega (arith, h .here .some-bytes))
       go (suc k) e = sum-first text at k (λ i l u. trail-passes (getD text i 0) (others-are h i l (omega arith)))
 
@@ -113,21 +113,21 @@ module _ (s text : List ℕ) where
     stands-here {at} {line} n i h e = subst (Stands s text at) (sym e) (stands-known s text at h (seeking-known s text (i .seeking) well))
 
     -- over a character at which the search doesn't stop: no sign, and its first byte tells whether a line ends with it
-    walked-first : {at line n : ℕ} → Walked from at line → Stands s text at n → stopOf true (getD text at 0) < look → Walked from (at + n) (line + sumOf text at n)
+    walked-first : {at line n : ℕ} → Walked from at line → Stands s text at n → stopFor true (getD text at 0) < look → Walked from (at + n) (line + sumOf text at n)
     walked-first {at} {line} {n} i h z =
         let b = getD text at 0 in
         let t = no-stop true b z in
         let w : at < length text = omega (arith, h .here .some-bytes, h .here .within) in
-        let e = told text at (h .code) n (h .step) w (stopOf true b) (no-stop-end b z) z (charactersAt text (at + n)) in
+        let e = told text at (h .code) n (h .step) w (stopFor true b) (no-stop-end b z) z (charactersAt text (at + n)) in
         walked-over i h (inl (sym (h .sign) ∙ sym (no-sign-here text at (t .0) (t .1)))) (line-counted (i .lined) (h .code) n (h .step) (sumOf text at n) (sum-character h ∙ e))
 
     -- bytes are passed over up to where the search stops: there a character begins
-    module _ {past : ℕ} (stop : past < length text → stopOf true (getD text past 0) < look → ⊥) where
-      walked-in : (k at line : ℕ) → Walked from at line → Passed true text at past → past ≤ at + k → Walked from past (line + sumOf text at (past - at))
+    module _ {past : ℕ} (stop : past < length text → stopFor true (getD text past 0) < look → ⊥) where
+      walked-in : (k at line : ℕ) → Walked from at line → BytesPassed true text at past → past ≤ at + k → Walked from past (line + sumOf text at (past - at))
       walked-in zero at line i p l = to-past i p (omega arith)
       walked-in (suc k) at line i p l = go (decLt at past) (λ j m q r t. walked-in k j m q r t)
         where
-          go : Dec (at < past) → ((j m : ℕ) → Walked from j m → Passed true text j past → past ≤ j + k → Walked from past (m + sumOf text j (past - j))) →
+          go : Dec (at < past) → ((j m : ℕ) → Walked from j m → BytesPassed true text j past → past ≤ j + k → Walked from past (m + sumOf text j (past - j))) →
               Walked from past (line + sumOf text at (past - at))
           go (no m) f = to-past i p (omega arith)
           go (yes m) f =
@@ -141,7 +141,7 @@ module _ (s text : List ℕ) where
               (f (at + n) (line + sumOf text at n) (walked-first i h (p .each at (omega arith) m))
               (record { above = a; within = p .within; each = λ j u v. p .each j (omega arith) v }) (omega (arith, h .here .some-bytes)))
 
-    pub walked-bytes : {at line : ℕ} {r : Reach} → Walked from at line → LinesCounted text at line r → (r .at < length text → stopOf true (getD text (r .at) 0) < look → ⊥) →
+    pub walked-bytes : {at line : ℕ} {r : Reach} → Walked from at line → LinesCounted text at line r → (r .at < length text → stopFor true (getD text (r .at) 0) < look → ⊥) →
         Walked from (r .at) (r .line)
     walked-bytes {at} {line} {r} i c stop =
         subst (Walked from (r .at)) (sym (c .sum)) (walked-in stop (r .at - at) at line i (c .passed) (omega arith))

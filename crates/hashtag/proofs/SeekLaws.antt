@@ -28,7 +28,7 @@ use Rattle.character.specs.Read.{ReadAs}
 use Rattle.character.specs.declared.Character.{Character as Read}
 use Rattle.hashtag.specs.Sign.{isSign, continues}
 use Rattle.hashtag.specs.Find.{runOf, hashtagsFrom}
-use Rattle.hashtag.specs.Seek.{hashtagsAt, continuesFirst, freeAt, stopOf, Passed, Skipped, signOf, Sought}
+use Rattle.hashtag.specs.Seek.{hashtagsAt, continuesFirst, freeAt, stopFor, BytesPassed, Skipped, signOf, Sought}
 use Rattle.hashtag.proofs.SignLaws.{continuesBy, by-traits, no-sign-here}
 use Rattle.hashtag.proofs.RunLaws.{Characters, run-yes, run-no, run-none}
 use Rattle.hashtag.proofs.FindLaws.{found-none, found-begins, found-passes}
@@ -43,29 +43,29 @@ no-run-first s (c ∷ r) e = run-no s c r e
 no-run-first s [] e = run-none s
 
 -- what a byte tells where a search doesn't stop
-pub no-stop : (known : Bool) (b : ℕ) → stopOf known b < look → (b ≡ 0x23 → ⊥) × (b ≡ 0xEF → ⊥)
-no-stop known b h = (λ f. let z : look ≡ stopOf known b = rw f in omega arith, λ f. let z : look ≡ stopOf known b = rw f in omega arith)
+pub no-stop : (known : Bool) (b : ℕ) → stopFor known b < look → (b ≡ 0x23 → ⊥) × (b ≡ 0xEF → ⊥)
+no-stop known b h = (λ f. let z : look ≡ stopFor known b = rw f in omega arith, λ f. let z : look ≡ stopFor known b = rw f in omega arith)
 
-pub no-stop-end : (b : ℕ) → stopOf true b < look → stopOf true b ≡ endOf b
+pub no-stop-end : (b : ℕ) → stopFor true b < look → stopFor true b ≡ endOf b
 no-stop-end b h = let n = no-stop true b h in rw (ne-eqb b 0x23 (n .0), ne-eqb b 0xEF (n .1))
 
-plain-byte : (b : ℕ) → stopOf false b < look → b < 0x80
+plain-byte : (b : ℕ) → stopFor false b < look → b < 0x80
 plain-byte b h = go (decLt b 0x80)
   where
     go : Dec (b < 0x80) → b < 0x80
     go (yes l) = l
     go (no l) =
         let n = no-stop false b h in
-        let z : look ≡ stopOf false b = rw (ne-eqb b 0x23 (n .0), ne-eqb b 0xEF (n .1), le-ltb b 0x80 (let z : 0x80 ≤ b = omega arith in z)) in
+        let z : look ≡ stopFor false b = rw (ne-eqb b 0x23 (n .0), ne-eqb b 0xEF (n .1), le-ltb b 0x80 (let z : 0x80 ≤ b = omega arith in z)) in
         absurd (omega arith)
 
-pub trail-passes : (b : ℕ) → isTrail b ≡ true → stopOf true b ≡ 0
+pub trail-passes : (b : ℕ) → isTrail b ≡ true → stopFor true b ≡ 0
 trail-passes b e =
     let r = trail-range b e in
     rw (ne-eqb b 0x23 (λ f. absurd (omega arith)), ne-eqb b 0xEF (λ f. absurd (omega arith))) (trail-tells b e)
 
 -- what the table has for a byte
-pub small : (b : ℕ) {n : ℕ} → n ≡ stopOf true b → n ≤ look
+pub small : (b : ℕ) {n : ℕ} → n ≡ stopFor true b → n ≤ look
 small b {n} e = go (eqb b 0x23) (eqb b 0xEF) e
   where
     go : (p q : Bool) → n ≡ cond p look (cond q look (endOf b)) → n ≤ look
@@ -74,16 +74,16 @@ small b {n} e = go (eqb b 0x23) (eqb b 0xEF) e
     go false false f = omega (arith, end-most b)
 
 -- bytes that were passed over
-pub passed-begins : (known : Bool) (text : List ℕ) (from : ℕ) → from ≤ length text → Passed known text from from
+pub passed-begins : (known : Bool) (text : List ℕ) (from : ℕ) → from ≤ length text → BytesPassed known text from from
 passed-begins known text from h = record { above = omega arith; within = h; each = λ i l u. absurd (omega arith) }
 
-pub passed-more : {known : Bool} {text : List ℕ} {from at : ℕ} → Passed known text from at → at < length text → stopOf known (getD text at 0) < look → Passed known text from (at + 1)
+pub passed-more : {known : Bool} {text : List ℕ} {from at : ℕ} → BytesPassed known text from at → at < length text → stopFor known (getD text at 0) < look → BytesPassed known text from (at + 1)
 passed-more {known} {text} {from} {at} p h e =
     record { above = omega (arith, p .above); within = omega arith; each = λ i l u. go i l u (decLt i at) }
   where
-    go : (i : ℕ) → from ≤ i → i < at + 1 → Dec (i < at) → stopOf known (getD text i 0) < look
+    go : (i : ℕ) → from ≤ i → i < at + 1 → Dec (i < at) → stopFor known (getD text i 0) < look
     go i l u (yes v) = p .each i l v
-    go i l u (no v) = let q : at ≡ i = omega arith in subst (λ (j : ℕ). stopOf known (getD text j 0) < look) q e
+    go i l u (no v) = let q : at ≡ i = omega arith in subst (λ (j : ℕ). stopFor known (getD text j 0) < look) q e
 
 -- the length of the sequence at a place: none begins there, or one of this length
 pub measured-none : (text : List ℕ) (at n : ℕ) → at < length text → n ≡ lengthOf (stepOf (drop at text)) → n ≡ 0 → IllHead (drop at text)
@@ -261,7 +261,7 @@ module _ (s text : List ℕ) where
           passes (inr e) = inr (no free refl e)
 
   -- bytes that are characters by themselves
-  one-plain : {from before at : ℕ} → Seeking from before at → at < length text → stopOf false (getD text at 0) < look → Seeking from at (at + 1)
+  one-plain : {from before at : ℕ} → Seeking from before at → at < length text → stopFor false (getD text at 0) < look → Seeking from at (at + 1)
   one-plain {from} {before} {at} i h e =
       let k = stands-at at 1 (ascii-at text at h (plain-byte (getD text at 0) e)) h in
       let n = no-stop false (getD text at 0) e in
@@ -270,7 +270,7 @@ module _ (s text : List ℕ) where
   pub seeking-plain : {from before at past : ℕ} → Seeking from before at → Skipped false text at past → at < past → Seeking from (past - 1) past
   seeking-plain {from} {before} {at} {past} i p h = go (past - at - 1) past (omega arith) (p .passed)
     where
-      go : (k q : ℕ) → q ≡ at + suc k → Passed false text at q → Seeking from (q - 1) q
+      go : (k q : ℕ) → q ≡ at + suc k → BytesPassed false text at q → Seeking from (q - 1) q
       go zero q e p =
           let y : at ≡ q - 1 = omega arith in
           let z : at + 1 ≡ q = omega arith in

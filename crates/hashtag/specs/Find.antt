@@ -7,7 +7,7 @@
 --   hashtagsFrom   the hashtags of the characters from a byte on
 --   hashtagsOf     the hashtags of a text under an image
 --   HashtagAt      a hashtag of the characters stands at these places
---   Has, Rising    a list has this hashtag; its hashtags rise and don't overlap
+--   Has, SpansRise    a list has this hashtag; its hashtags rise and don't overlap
 --   AllHashtags    a list has exactly the hashtags of the characters, rising
 use Prim.Native.Nat.{ℕ, _+_, _≤_, _<_}
 use mathlib.Core.Path.{_≡_}
@@ -56,11 +56,11 @@ Has t [] = ⊥
 Has t (u ∷ us) = (t ≡ u) ⊎ Has t us
 
 -- each begins at p or after it, and ends after it begins, and the next begins no sooner than that
-abbrev pub Rising : ℕ → List Span → Type 0
-Rising p [] = Unit {0}
-Rising p (t ∷ ts) = (p ≤ t .start) × (t .start < t .end) × Rising (t .end) ts
+abbrev pub SpansRise : ℕ → List Span → Type 0
+SpansRise p [] = Unit {0}
+SpansRise p (t ∷ ts) = (p ≤ t .start) × (t .start < t .end) × SpansRise (t .end) ts
 
 pub record AllHashtags (s : List ℕ) (cs : List Character) (ts : List Span) : Type 0 where
   pub only : (t : Span) → Has t ts → HashtagAt s cs t
   pub all : (t : Span) → HashtagAt s cs t → Has t ts
-  pub rising : Rising 0 ts
+  pub rising : SpansRise 0 ts

@@ -3,11 +3,11 @@
 --   hashtagsAt                     the hashtags of the characters from a place on
 --   continuesFirst                 whether the first of characters is hashtag Continue
 --   freeAt                         no hashtag Continue stands right before a place
---   stopOf, StopsOf                what a search for signs does at a byte; the table of all bytes
---   Passed                         it stops nowhere from one place to before another
+--   stopFor, StopsOf                what a search for signs does at a byte; the table of all bytes
+--   BytesPassed                         it stops nowhere from one place to before another
 --   Skipped                        the first place from a place on where it stops, or the text's end
 --   sumOf                          the line ends that it passes over
---   LinesCounted, LinesCountedTo   as Passed and Skipped, with the line ends counted on the way
+--   LinesCounted, LinesCountedTo   as BytesPassed and Skipped, with the line ends counted on the way
 --   Backed                         the last place before another whose byte is none of 80 to BF
 --   signOf                         whether a sequence is that of a sign
 --   Sought                         the next hashtag from a place on
@@ -43,35 +43,35 @@ freeAt s text before at = cond (ltb before at) (not (continuesFirst s (character
 
 -- `look` where it stops, else how many line ends it passes over there. It stops at the first bytes of the signs; in a text that is known to be
 -- well-formed where a line end is to be looked at, in another at every byte that isn't a character by itself, and line ends aren't counted
-abbrev pub stopOf : Bool → ℕ → ℕ
-stopOf known b = cond (eqb b 0x23) look (cond (eqb b 0xEF) look (cond known (endOf b) (cond (ltb b 0x80) 0 look)))
+abbrev pub stopFor : Bool → ℕ → ℕ
+stopFor known b = cond (eqb b 0x23) look (cond (eqb b 0xEF) look (cond known (endOf b) (cond (ltb b 0x80) 0 look)))
 
 abbrev pub StopsOf : Bool → List ℕ → Type 0
-StopsOf known t = Filled 256 (stopOf known) t 256
+StopsOf known t = Filled 256 (stopFor known) t 256
 
-pub record Passed (known : Bool) (text : List ℕ) (from to : ℕ) : Type 0 where
+pub record BytesPassed (known : Bool) (text : List ℕ) (from to : ℕ) : Type 0 where
   pub above : from ≤ to
   pub within : to ≤ length text
-  pub each : (i : ℕ) → from ≤ i → i < to → stopOf known (getD text i 0) < look
+  pub each : (i : ℕ) → from ≤ i → i < to → stopFor known (getD text i 0) < look
 
 pub record Skipped (known : Bool) (text : List ℕ) (from to : ℕ) : Type 0 where
-  pub passed : Passed known text from to
-  pub stop : to < length text → stopOf known (getD text to 0) < look → ⊥
+  pub passed : BytesPassed known text from to
+  pub stop : to < length text → stopFor known (getD text to 0) < look → ⊥
 
 -- in n bytes from a place on, in a text that is known to be well-formed
 unfoldable pub sumOf : List ℕ → ℕ → ℕ → ℕ
 sumOf text from zero = 0
-sumOf text from (suc n) = sumOf text from n + stopOf true (getD text (from + n) 0)
+sumOf text from (suc n) = sumOf text from n + stopFor true (getD text (from + n) 0)
 
 -- `from` is on this line
 pub record LinesCounted (text : List ℕ) (from line : ℕ) (r : Reach) : Type 0 where
-  pub passed : Passed true text from (r .at)
+  pub passed : BytesPassed true text from (r .at)
   pub sum : r .line ≡ line + sumOf text from (r .at - from)
   pub few : r .line ≤ line + look * (r .at - from)
 
 pub record LinesCountedTo (text : List ℕ) (from line : ℕ) (r : Reach) : Type 0 where
   pub counted : LinesCounted text from line r
-  pub stop : r .at < length text → stopOf true (getD text (r .at) 0) < look → ⊥
+  pub stop : r .at < length text → stopFor true (getD text (r .at) 0) < look → ⊥
 
 -- no sooner than `from`; `from` where there is none
 pub record Backed (text : List ℕ) (from to r : ℕ) : Type 0 where

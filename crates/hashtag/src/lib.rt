@@ -23,7 +23,7 @@ ghost use Rattle.grammar.specs.Before.{maxText, beforeText};
 ghost use Rattle.hashtag.specs.Sign.{isSign};
 ghost use Rattle.hashtag.specs.Find.{runOf, hashtagsOf};
 ghost use Rattle.hashtag.specs.Listed.{spansWords, hashtagListOf, hashtagListWords, countedThrough, closedBy};
-ghost use Rattle.hashtag.specs.Seek.{continuesFirst, freeAt, stopOf, StopsOf, Skipped, sumOf, LinesCounted, LinesCountedTo, Backed, signOf, Sought};
+ghost use Rattle.hashtag.specs.Seek.{continuesFirst, freeAt, stopFor, StopsOf, Skipped, sumOf, LinesCounted, LinesCountedTo, Backed, signOf, Sought};
 use given::Judgement;
 use grammar::Counted;
 use grammar::MAX_TEXT;
@@ -31,7 +31,7 @@ use grammar::RECORD_WORDS;
 use refusal::Refusal;
 
 // The kind of a hashtag in its record.
-pub const HASHTAG: u32 = 6;
+pub const HASHTAG_KIND: u32 = 6;
 
 // The signs that begin a hashtag.
 const NUMBER_SIGN: u32 = 0x23;
@@ -53,7 +53,7 @@ pub struct Sign {
 }
 
 // A sign, and the line of its first byte; where there is none, the line of that place.
-pub struct Found {
+pub struct FoundSign {
     pub sign: Sign,
     pub line: u32,
 }
@@ -111,7 +111,7 @@ fn continues_at<'a>(image: &'a [u8], table: &'a [u8; 128], text: &'a [u8], at: u
 }
 
 // One past the run of hashtag Continue that begins at a place.
-fn find_end<'a>(image: &'a [u8], table: &'a [u8; 128], text: &'a [u8], from: usize) -> usize
+fn find_run_end<'a>(image: &'a [u8], table: &'a [u8; 128], text: &'a [u8], from: usize) -> usize
     requires { ⌜ refusalOf (now image) ≡ none ⌝ }
     requires { ⌜ TableOf (now image) (now table) ⌝ }
     requires { ⌜ from ≤ length (now text) ⌝ }
@@ -138,7 +138,7 @@ fn find_end<'a>(image: &'a [u8], table: &'a [u8; 128], text: &'a [u8], from: usi
 // stop it; in a text that is known to be well-formed those whose line end is to be looked at too, in another every byte that isn't a
 // character by itself.
 fn stop_at(b: usize, known: bool) -> u8
-    ensures { λ r. ⌜ r ≡ stopOf known b ⌝ }
+    ensures { λ r. ⌜ r ≡ stopFor known b ⌝ }
 {
     if b == NUMBER_SIGN as usize {
         return STOP;
@@ -170,7 +170,7 @@ fn fill_stops(known: bool) -> [u8; 256]
 
 // What the table has for a byte.
 fn look(stops: &[u8; 256], b: u8) -> u8
-    ensures { λ r. ⌜ ((known : Bool) → StopsOf known (now (stops .entry)) → r ≡ stopOf known b) ⌝ }
+    ensures { λ r. ⌜ ((known : Bool) → StopsOf known (now (stops .entry)) → r ≡ stopFor known b) ⌝ }
 {
     stops[b as usize]
 }
@@ -364,7 +364,7 @@ fn seek_known<'a>(
     text: &'a [u8],
     from: usize,
     mut line: u32,
-) -> Found
+) -> FoundSign
     requires { ⌜ refusalOf (now image) ≡ none ⌝ }
     requires { ⌜ TableOf (now image) (now table) ⌝ }
     requires { ⌜ StopsOf true (now stops) ⌝ }
@@ -388,14 +388,14 @@ fn seek_known<'a>(
             let before = step_back(text, from, at);
             let sign = Sign { at, next };
             if begins(image, table, text, before, sign) {
-                return Found { sign, line };
+                return FoundSign { sign, line };
             }
         }
         line += line::count_at(text, at);
         at = next;
     }
     let sign = Sign { at, next: at };
-    Found { sign, line }
+    FoundSign { sign, line }
 }
 
 // The answer where the characters end at a place: so many hashtags, or refusal 6 if the text goes on there.
@@ -449,8 +449,8 @@ fn write_hashtags<'a>(image: &'a [u8], table: &'a [u8; 128], text: &'a [u8], out
         if sign.next <= sign.at {
             return;
         }
-        let end = find_end(image, table, text, sign.next);
-        grammar::put_record(&mut out[w..], HASHTAG, sign.at, end, found.line);
+        let end = find_run_end(image, table, text, sign.next);
+        grammar::put_record(&mut out[w..], HASHTAG_KIND, sign.at, end, found.line);
         w += RECORD_WORDS;
         at = sign.next;
         line = found.line;

@@ -8,7 +8,7 @@ use native.Mathlib.Omega.{arith}
 use native.Mathlib.Decide.{decLt}
 use lib.Dec.{leb, ltb, eqb}
 use borrow.Author.Tests.{leb-true, ltb-true, eqb-true, eqb-false, not-true, le-leb, lt-ltb}
-use Rattle.lists.specs.First.{Tells}
+use Rattle.lists.specs.First.{Decides}
 use Rattle.lists.proofs.BoolLaws.{and-left, and-right, and-in, or-cases, or-left, or-right, split}
 use Rattle.utf8.specs.Scalar.{isScalar}
 use Rattle.image.specs.Limits.{firstClass, lastClass, firstRole, lastRole, lastCodePoint, firstSurrogate, lastSurrogate}
@@ -112,10 +112,10 @@ module _ (point role : ℕ → ℕ) (i : ℕ) where
       (or-first i risen (λ h. lt-ltb _ _ (g .rises h)) _ refl)
 
 -- the tests tell the good ranges and the good entries
-pub ranges-told : (at : ℕ → Range) → Tells (goodRange at) (GoodRange at)
+pub ranges-told : (at : ℕ → Range) → Decides (goodRange at) (GoodRange at)
 ranges-told at = record { to = range-to at; from = range-from at }
 
-pub entries-told : (point role : ℕ → ℕ) → Tells (goodEntry point role) (GoodEntry point role)
+pub entries-told : (point role : ℕ → ℕ) → Decides (goodEntry point role) (GoodEntry point role)
 entries-told point role = record { to = entry-to point role; from = entry-from point role }
 
 -- whether a record is good depends on it and the one before it

@@ -24,7 +24,7 @@ use Rattle.image.specs.Placed.{Rising}
 use Rattle.image.proofs.ClassLaws.{ranges-rise, class-known}
 
 -- the counts of an accepted image, and its length
-pub record Fits (s : List ℕ) : Type 0 where
+pub record WithinLimits (s : List ℕ) : Type 0 where
   pub few-ranges : rangeCount s ≤ maxRanges
   pub few-entries : entryCount s ≤ maxEntries
   pub size : length s ≡ imageEnd (rangeCount s) (entryCount s)
@@ -63,12 +63,12 @@ module _ (s : List ℕ) (x : ℕ) where
   hashtag-by-sections = hashtag-by s x ∙ ap isHashtag entry-role
 
 module _ (s : List ℕ) (a : refusalOf s ≡ none) where
-  pub fits : Fits s
-  fits = let h = accepted s a .header in record { few-ranges = h .few-ranges; few-entries = h .few-entries; size = accepted-size s a }
+  pub within-limits : WithinLimits s
+  within-limits = let h = accepted s a .header in record { few-ranges = h .few-ranges; few-entries = h .few-entries; size = accepted-size s a }
 
   pub few-records : (section : Section) → recordCount s section ≤ maxRanges
-  few-records Ranges = fits .few-ranges
-  few-records Entries = omega (arith, fits .few-entries)
+  few-records Ranges = within-limits .few-ranges
+  few-records Entries = omega (arith, within-limits .few-entries)
 
   pub records-rise : (section : Section) → Rising (recordAt s section) (recordCount s section)
   records-rise Ranges = ranges-rise _ _ (accepted s a .ranges)

@@ -26,7 +26,7 @@ use Rattle.grammar.specs.declared.Counted.the-variants as counted
 use Rattle.grammar.specs.Counted.{countedBy}
 use Rattle.input.specs.Front.{imageIn, restIn as textIn, frontIn, afterIn, ComesWhole}
 use Rattle.input.proofs.FrontLaws.{dec-whole, end-whole, cut-refused, looks-no-further}
-use Rattle.input.specs.Script.{maxScript, scriptWithin, scriptWritten, writtenFrom, listedWithin, listedFrom, wordsWithin, wordsAfter}
+use Rattle.input.specs.Script.{maxScript, scriptWithin, scriptWritten, writtenFrom, listedWithin, listedFrom, scriptWordsWithin, scriptWords}
 use Rattle.input.specs.Script.{wholeAnswerWithin, wholeAnswer, ScriptMeans, refused-before, short-text}
 use Rattle.input.specs.Script.{ListingMeans, cut-off, not-listed, listed}
 
@@ -86,16 +86,16 @@ module _ (input out : List ℕ) where
 
   pub means-listing :
       {o : Outcome ℕ} {words : List ℕ} → ListingMeans input out o words
-      → (listedFrom input (length out) ≡ o) × (wordsAfter input out ≡ words)
-  unfolding listedWithin wordsWithin
+      → (listedFrom input (length out) ≡ o) × (scriptWords input out ≡ words)
+  unfolding listedWithin scriptWordsWithin
   means-listing (cut-off f) = rw (script-refused _ _ _ (cut-before f)) (refl, refl)
   means-listing (not-listed w m) = rw (end-whole input w, means-script _ _ _ m) (refl, refl)
   means-listing (listed w m) = rw (end-whole input w, means-script _ _ _ m) (refl, refl)
 
   pub listing-means :
-      {o : Outcome ℕ} {words : List ℕ} → listedFrom input (length out) ≡ o → wordsAfter input out ≡ words
+      {o : Outcome ℕ} {words : List ℕ} → listedFrom input (length out) ≡ o → scriptWords input out ≡ words
       → ListingMeans input out o words
-  unfolding listedWithin wordsWithin
+  unfolding listedWithin scriptWordsWithin
   listing-means e f = rw (← e, ← f) (go (dec-whole input))
     where
       Means : List ℕ → Outcome TokenList → Type 0

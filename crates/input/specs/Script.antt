@@ -46,11 +46,11 @@ listedWithin limit input words = outcomeMap length (writtenFromWithin limit inpu
 abbrev pub listedFrom : List ℕ → ℕ → Outcome ℕ
 listedFrom input words = listedWithin maxEntries input words
 
-unfoldable pub wordsWithin : ℕ → List ℕ → List ℕ → List ℕ
-wordsWithin limit input out = laidBy (listedWords (afterWithin limit input)) out (writtenFromWithin limit input (length out))
+unfoldable pub scriptWordsWithin : ℕ → List ℕ → List ℕ → List ℕ
+scriptWordsWithin limit input out = laidBy (listedWords (afterWithin limit input)) out (writtenFromWithin limit input (length out))
 
-abbrev pub wordsAfter : List ℕ → List ℕ → List ℕ
-wordsAfter input out = wordsWithin maxEntries input out
+abbrev pub scriptWords : List ℕ → List ℕ → List ℕ
+scriptWords input out = scriptWordsWithin maxEntries input out
 
 -- the program's answer: there is room for a token at every byte of the longest text
 unfoldable pub wholeAnswerWithin : ℕ → List ℕ → Counted

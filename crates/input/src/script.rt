@@ -8,7 +8,7 @@ ghost use lib.ListN.{length, take};
 ghost use Rattle.refusal.specs.Outcome.{outcomeMap};
 ghost use Rattle.grammar.specs.Reading.{laidBy};
 ghost use Rattle.grammar.specs.Counted.{countedBy};
-ghost use Rattle.input.specs.Script.{scriptWritten, listedFrom, wordsAfter, maxScript, wholeAnswer};
+ghost use Rattle.input.specs.Script.{scriptWritten, listedFrom, scriptWords, maxScript, wholeAnswer};
 use given::Judgement;
 use grammar::Counted;
 use image::MAX_IMAGE;
@@ -38,7 +38,7 @@ fn list_script<'a>(image: &'a [u8], text: &'a [u8], out: &mut [u32]) -> Counted
 // An image that doesn't come whole is taken as empty, which refuses it with 1.
 pub fn list_input(input: &[u8], out: &mut [u32]) -> Counted
     ensures { λ r. ⌜ r ≡ countedBy (listedFrom (now (input .entry)) (length (now (out .entry)))) ⌝ }
-    ensures { λ r. ⌜ now (out .exit) ≡ wordsAfter (now (input .entry)) (now (out .entry)) ⌝ }
+    ensures { λ r. ⌜ now (out .exit) ≡ scriptWords (now (input .entry)) (now (out .entry)) ⌝ }
 {
     let end = crate::find_end(input);
     list_script(&input[..end], &input[end..], out)
@@ -50,7 +50,7 @@ pub fn list_read(buffer: &[u8], n: usize, out: &mut [u32]) -> Counted
     requires { ⌜ (maxImage + maxScript < length (now buffer)) × (length (now out) ≡ recordSize * maxScript) ⌝ }
     ensures { λ r. ⌜ r ≡ countedBy (listedFrom (take n (now (buffer .entry))) (length (now (out .entry)))) ⌝ }
     ensures { λ r. ⌜ ((whole : List ℕ) → take (length (now (buffer .entry))) whole ≡ take n (now (buffer .entry)) → r ≡ wholeAnswer whole) ⌝ }
-    ensures { λ r. ⌜ now (out .exit) ≡ wordsAfter (take n (now (buffer .entry))) (now (out .entry)) ⌝ }
+    ensures { λ r. ⌜ now (out .exit) ≡ scriptWords (take n (now (buffer .entry))) (now (out .entry)) ⌝ }
 {
     list_input(&buffer[..n], out)
 }

@@ -31,7 +31,7 @@ use Rattle.grammar.specs.Reading.{outcomeWithin, countWithin, roomed, writtenWi
 use Rattle.token.specs.Taken.{takenWithin}
 use Rattle.hashtag.specs.Listed.{spansWords, foundWithin, hashtagsWrittenWithin, hashtagListWithin, hashtagWordsWithin}
 use Rattle.grammar.specs.Counted.{countedBy}
-use Rattle.input.specs.Script.{maxScript, scriptWithin, listedWithin, wordsWithin as scriptWords, wholeAnswerWithin as wholeList}
+use Rattle.input.specs.Script.{maxScript, scriptWithin, listedWithin, scriptWordsWithin as scriptWords, wholeAnswerWithin as wholeList}
 use Rattle.input.specs.Images.{maxRunWords, maxEntryWordsWithin, answerFromWithin, wholeAnswerWithin as wholeChanges}
 use Rattle.limit.specs.Agree.{AgreeOnImage, AgreeOnPair, AgreeOnWriting, AgreeOnScript, AgreeOnChanges}
 

@@ -29,7 +29,7 @@ use Rattle.grammar.specs.Reading.{outcomeWithin, countWithin, roomed, writtenWi
 use Rattle.token.specs.Taken.{takenWithin}
 use Rattle.hashtag.specs.Listed.{spansWords, foundWithin, hashtagsWrittenWithin, hashtagListWithin, hashtagWordsWithin}
 use Rattle.grammar.specs.Counted.{countedBy}
-use Rattle.input.specs.Script.{maxScript, scriptWithin, writtenFromWithin, listedWithin, wordsWithin as scriptWords, wholeAnswerWithin as wholeList}
+use Rattle.input.specs.Script.{maxScript, scriptWithin, writtenFromWithin, listedWithin, scriptWordsWithin as scriptWords, wholeAnswerWithin as wholeList}
 use Rattle.input.specs.Images.{maxRunWords, maxEntryWordsWithin, wholeAnswerWithin as wholeChanges}
 use Rattle.limit.specs.Former.{refusalAbove}
 use Rattle.limit.specs.Refuses.{RefusesChanges, RefusesScript, RefusesInput, RefusesImage}

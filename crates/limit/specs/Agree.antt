@@ -13,7 +13,7 @@ use Rattle.changes.specs.Answer.{answerWithin, runsAfterWithin, entriesAfterWit
 use Rattle.grammar.specs.Reading.{countWithin, listWithin, listWordsWithin}
 use Rattle.token.specs.Taken.{takenWithin}
 use Rattle.hashtag.specs.Listed.{hashtagListWithin, hashtagWordsWithin}
-use Rattle.input.specs.Script.{listedWithin, wordsWithin as scriptWords, wholeAnswerWithin as wholeList}
+use Rattle.input.specs.Script.{listedWithin, scriptWordsWithin as scriptWords, wholeAnswerWithin as wholeList}
 use Rattle.input.specs.Images.{answerFromWithin, runsFromWithin, entriesFromWithin, wholeAnswerWithin as wholeChanges}
 
 module _ (k l : ℕ) where

@@ -30,7 +30,7 @@ use Rattle.token.specs.declared.Taken.the-variants as taken
 use Rattle.hashtag.specs.Listed.{hashtagListWithin, hashtagWordsWithin}
 use Rattle.grammar.specs.declared.Counted.the-variants as counted
 use Rattle.input.specs.Front.{imageIn, restIn}
-use Rattle.input.specs.Script.{listedWithin, wordsWithin as scriptWords, wholeAnswerWithin as wholeList}
+use Rattle.input.specs.Script.{listedWithin, scriptWordsWithin as scriptWords, wholeAnswerWithin as wholeList}
 use Rattle.input.specs.Images.{answerFromWithin, runsFromWithin, entriesFromWithin, wholeAnswerWithin as wholeChanges}
 
 module _ (limit : ℕ) where

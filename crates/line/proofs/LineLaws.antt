@@ -61,22 +61,22 @@ one-at-most true = omega arith
 one-at-most false = omega arith
 
 -- what a byte tells
-pub data Tells (b : ℕ) : ℕ → Type 0 where
-  nothing : (b < 0x0A) ⊎ (0x0D < b) → (b ≡ 0xC2 → ⊥) → (b ≡ 0xE2 → ⊥) → Tells b 0
-  ends : 0x0A ≤ b → b < 0x0D → Tells b 1
-  looks : Tells b look
+pub data EndTold (b : ℕ) : ℕ → Type 0 where
+  nothing : (b < 0x0A) ⊎ (0x0D < b) → (b ≡ 0xC2 → ⊥) → (b ≡ 0xE2 → ⊥) → EndTold b 0
+  ends : 0x0A ≤ b → b < 0x0D → EndTold b 1
+  looks : EndTold b look
 
-end-tells : (b : ℕ) → Tells b (endOf b)
+end-tells : (b : ℕ) → EndTold b (endOf b)
 unfolding endOf
 end-tells b = go (decLt b 0x0A) (decLt b 0x0D)
   where
-    past : 0x0D ≤ b → (t u v : Bool) → eqb b 0x0D ≡ t → eqb b 0xC2 ≡ u → eqb b 0xE2 ≡ v → Tells b (cond t look (cond u look (cond v look 0)))
+    past : 0x0D ≤ b → (t u v : Bool) → eqb b 0x0D ≡ t → eqb b 0xC2 ≡ u → eqb b 0xE2 ≡ v → EndTold b (cond t look (cond u look (cond v look 0)))
     past h true u v e f g = looks
     past h false true v e f g = looks
     past h false false true e f g = looks
     past h false false false e f g = nothing (inr (omega (arith, eqb-false b 0x0D e))) (eqb-false b 0xC2 f) (eqb-false b 0xE2 g)
 
-    go : Dec (b < 0x0A) → Dec (b < 0x0D) → Tells b (endOf b)
+    go : Dec (b < 0x0A) → Dec (b < 0x0D) → EndTold b (endOf b)
     go (yes h) d = rw (lt-ltb b 0x0A h) (nothing (inl h) (λ e. absurd (omega arith)) (λ e. absurd (omega arith)))
     go (no h) (yes l) = rw (le-ltb b 0x0A (omega arith), lt-ltb b 0x0D l) (ends (omega arith) l)
     go (no h) (no l) = rw (le-ltb b 0x0A (omega arith), le-ltb b 0x0D (omega arith)) (past (omega arith) (eqb b 0x0D) (eqb b 0xC2) (eqb b 0xE2) refl refl refl)
@@ -85,7 +85,7 @@ end-tells b = go (decLt b 0x0A) (decLt b 0x0D)
 pub end-most : (b : ℕ) → endOf b ≤ look
 end-most b = go (end-tells b)
   where
-    go : {v : ℕ} → Tells b v → v ≤ look
+    go : {v : ℕ} → EndTold b v → v ≤ look
     go (nothing h c e) = omega arith
     go (ends h l) = omega arith
     go looks = omega arith
@@ -141,7 +141,7 @@ module _ (text : List ℕ) where
     b = getD text at 0
 
     -- no line ends with it
-    told-by : at < length text → {v : ℕ} → Tells b v → v < look → (r : List Character) → v ≡ one (endsLine x r)
+    told-by : at < length text → {v : ℕ} → EndTold b v → v < look → (r : List Character) → v ≡ one (endsLine x r)
     told-by h (nothing k c d) l r = sym (ends-not x r (no-line-end x none))
       where
         first : (y : ℕ) → getD (drop at text) 0 0 ≡ y → b ≡ y

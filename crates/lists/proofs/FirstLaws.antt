@@ -6,7 +6,7 @@ use native.Mathlib.Numerals.{add-one}
 use native.Mathlib.Omega.{arith}
 use native.Mathlib.Decide.{decLt}
 use borrow.Author.Tests.{not-true, not-false}
-use Rattle.lists.specs.First.{firstFrom, firstWhere, AllGood, FirstBad, Tells}
+use Rattle.lists.specs.First.{firstFrom, firstWhere, AllGood, FirstBad, Decides}
 
 -- for loops: the search from index i on, with n - i indexes left
 module _ (f : ℕ → Bool) (n i : ℕ) where
@@ -101,7 +101,7 @@ first-same f g n e = go (decLt (firstWhere f n) n)
         q ∙ sym (first-none g n (λ x u. let v : x < firstWhere f n = omega arith in sym (e x u) ∙ first-passed f n x v))
 
 -- the first index that isn't good, where a test tells which are
-module _ (good : ℕ → Bool) (Good : ℕ → Type 0) (tells : Tells good Good) (n : ℕ) where
+module _ (good : ℕ → Bool) (Good : ℕ → Type 0) (tells : Decides good Good) (n : ℕ) where
   abbrev bad : ℕ → Bool
   bad i = not (good i)
 

@@ -23,6 +23,6 @@ pub record FirstBad (Good : ℕ → Type 0) (n i : ℕ) : Type 0 where
   pub before : AllGood Good i
 
 -- the test holds exactly at the good indexes
-pub record Tells (good : ℕ → Bool) (Good : ℕ → Type 0) : Type 0 where
+pub record Decides (good : ℕ → Bool) (Good : ℕ → Type 0) : Type 0 where
   pub to : (i : ℕ) → good i ≡ true → Good i
   pub from : (i : ℕ) → Good i → good i ≡ true

@@ -15,7 +15,7 @@ use Rattle.image.specs.Profile.{pointAt, roleAt, afterRole}
 use Rattle.image.specs.Check.{refusalOf, classOf}
 use Rattle.image.proofs.ImageLaws.{refusal-means, means-refusal, accepted, refused-none}
 use Rattle.image.proofs.RisingLaws.{class-cases, class-of}
-use Rattle.image.proofs.SectionLaws.{fits, records-rise, class-by-sections}
+use Rattle.image.proofs.SectionLaws.{within-limits, records-rise, class-by-sections}
 use Rattle.image.specs.Records.{entryRange, recordAt, recordCount, HasClass, held, in-none, HasRole, named, no-entry}
 use Rattle.image.specs.declared.records.Section.the-variants.{Ranges, Entries}
 use Rattle.lookup.specs.declared.Probe.{Probe}
@@ -103,4 +103,4 @@ module _ (s : List ℕ) (x : ℕ) where
       go f (not-scalar a h) e = impossible (cc)
       go f (found-class a h t r) e =
           let z : steps ≡ k = cc in
-          omega (arith, seek-thirteen (rangeAt s) x (rangeCount s) (fits s (refused-none s a) .few-ranges))
+          omega (arith, seek-thirteen (rangeAt s) x (rangeCount s) (within-limits s (refused-none s a) .few-ranges))

@@ -69,14 +69,14 @@ module _ (s text : List ℕ) where
 
   -- writing the list
   module _ (out : List ℕ) where
-    abbrev pub Lists : Counted → List ℕ → Type 0
-    Lists r out′ = (r ≡ countedBy (listOf s text (length out))) × (out′ ≡ listWords s text out)
+    abbrev pub ListsTokens : Counted → List ℕ → Type 0
+    ListsTokens r out′ = (r ≡ countedBy (listOf s text (length out))) × (out′ ≡ listWords s text out)
 
-    lists : {r : Counted} {out′ : List ℕ} → Writes (listedWords text) out (outcomeOf s text) r out′ → Lists r out′
+    lists : {r : Counted} {out′ : List ℕ} → Writes (listedWords text) out (outcomeOf s text) r out′ → ListsTokens r out′
     unfolding listWithin listWordsWithin writtenWithin
     lists w = w
 
-    pub list-refused : {r : Refusal} → beforeText maxText s text ≡ some r → Lists (Refused r) out
+    pub list-refused : {r : Refusal} → beforeText maxText s text ≡ some r → ListsTokens (Refused r) out
     list-refused e = lists (writes-refused (listedWords text) out (outcome-refused e))
 
     -- .. from what the count gives
@@ -85,7 +85,7 @@ module _ (s text : List ℕ) where
       through = outcome-through (means-before maxText s text (allowed (is-accepted s accepted) short))
 
       -- what refuses the count: nothing is written
-      pub list-stopped : {r : Refusal} → Refused r ≡ countThrough s text → Lists (Refused r) out
+      pub list-stopped : {r : Refusal} → Refused r ≡ countThrough s text → ListsTokens (Refused r) out
       unfolding countThrough
       list-stopped e = lists (writes-refused (listedWords text) out (through ∙ by-refused (readThrough s text) e))
 
@@ -98,8 +98,8 @@ module _ (s text : List ℕ) where
             (through ∙ g ∙ ap given q, l ∙ ap length q)
 
         -- 8
-        pub list-no-room : roomOf (length out) < n → Lists (Refused (refusal.Room n)) out
+        pub list-no-room : roomOf (length out) < n → ListsTokens (Refused (refusal.Room n)) out
         list-no-room h = lists (writes-no-room (listedWords text) out (all .0) (all .1) h)
 
-        pub list-given : n ≤ roomOf (length out) → Lists (Records n) (laid out 0 (listedWords text (tokensOf s text)))
+        pub list-given : n ≤ roomOf (length out) → ListsTokens (Records n) (laid out 0 (listedWords text (tokensOf s text)))
         list-given h = lists (writes-given (listedWords text) out (all .0) (all .1) h)

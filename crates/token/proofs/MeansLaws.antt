@@ -29,7 +29,7 @@ use Rattle.turns.specs.First.{firstIn, firstBy, firstOf}
 use Rattle.token.specs.declared.Taken.{Taken}
 use Rattle.token.specs.declared.Taken.the-variants.{Refused}
 use Rattle.token.specs.Taken.{takenOf}
-use Rattle.token.specs.Means.{Placed, TakenMeans, refused-before, past-end, ill-formed, no-token, done, token}
+use Rattle.token.specs.Means.{PlaceAllowed, TakenMeans, refused-before, past-end, ill-formed, no-token, done, token}
 use Rattle.token.proofs.TakenLaws.{takenBy, taken-refused, taken-past, taken-first}
 
 -- the tokens of a text whose characters are known are those of their one division
@@ -50,7 +50,7 @@ first-is s part (reads q r p f e) d h =
     ap (firstBy (tokensOf s part)) (means-step part _ (sequence q r p f refl refl)) ∙ ap firstIn (tokens-are s part (reads q r p f e) d)
 
 module _ (s text : List ℕ) (place : ℕ) where
-  placed-means : Placed s text place → TakenMeans s text place (takenBy text place (firstOf s (drop place text)))
+  placed-means : PlaceAllowed s text place → TakenMeans s text place (takenBy text place (firstOf s (drop place text)))
   unfolding firstOf
   placed-means h = go (stepOf (drop place text)) (step-means (drop place text) (stepOf (drop place text)) refl)
     where
@@ -85,7 +85,7 @@ module _ (s text : List ℕ) (place : ℕ) where
   pub taken-means : (t : Taken) → takenOf s text place ≡ t → TakenMeans s text place t
   taken-means t e = subst (TakenMeans s text place) e own-means
 
-  placed-taken : Placed s text place → (f : First) → firstOf s (drop place text) ≡ f → takenOf s text place ≡ takenBy text place f
+  placed-taken : PlaceAllowed s text place → (f : First) → firstOf s (drop place text) ≡ f → takenOf s text place ≡ takenBy text place f
   placed-taken h f e = sym (taken-first s text place (means-before maxText s text (allowed (h .image) (h .short))) (h .within) f e)
 
   pub means-taken : (t : Taken) → TakenMeans s text place t → takenOf s text place ≡ t

@@ -20,7 +20,7 @@ use Rattle.token.specs.declared.Taken.{Taken}
 use Rattle.token.specs.declared.Taken.the-variants.{Refused, Done, Token}
 
 -- none of 1 to 5 and 13 applies
-pub record Placed (s text : List ℕ) (place : ℕ) : Type 0 where
+pub record PlaceAllowed (s text : List ℕ) (place : ℕ) : Type 0 where
   pub image : Accepted s
   pub short : length text ≤ maxText
   pub within : place ≤ length text
@@ -32,15 +32,15 @@ pub data TakenMeans (s text : List ℕ) (place : ℕ) : Taken → Type 0 where
   past-end : Accepted s → length text ≤ maxText → length text < place → TakenMeans s text place (Refused refusal.Shape)
   -- 6: no well-formed sequence begins at the place, and it isn't the end; n bytes there are the maximal subpart
   ill-formed :
-      {n : ℕ} → Placed s text place → place < length text → NoSequence (drop place text) → MaximalSubpart (drop place text) n →
+      {n : ℕ} → PlaceAllowed s text place → place < length text → NoSequence (drop place text) → MaximalSubpart (drop place text) n →
       TakenMeans s text place (Refused (refusal.IllFormed place n))
   -- 7: no token begins the characters from the place up to the first ill-formed place, and there is one
   no-token :
-      {c : Character} {cs : List Character} {rest : List ℕ} → Placed s text place → Encoded (drop place text) (c ∷ cs) rest →
+      {c : Character} {cs : List Character} {rest : List ℕ} → PlaceAllowed s text place → Encoded (drop place text) (c ∷ cs) rest →
       NoToken (TokenOf (meaningOf s)) (c ∷ cs) → TakenMeans s text place (Refused (refusal.Characters place))
   -- the place is the text's end
-  done : Placed s text place → place ≡ length text → TakenMeans s text place Done
+  done : PlaceAllowed s text place → place ≡ length text → TakenMeans s text place Done
   -- the longest token that begins the characters from the place up to the first ill-formed place: its kind, and its places in the whole text
   token :
-      {cs us after : List Character} {rest : List ℕ} {k : Kind} → Placed s text place → Encoded (drop place text) cs rest →
+      {cs us after : List Character} {rest : List ℕ} {k : Kind} → PlaceAllowed s text place → Encoded (drop place text) cs rest →
       Longest (TokenOf (meaningOf s)) cs k us after → TakenMeans s text place (Token (kindNumber k) place (place + widthOf us))

@@ -10,7 +10,7 @@ use native.Mathlib.Decide.{decLt}
 use borrow.Author.Tests.{lt-ltb, le-ltb}
 use Rattle.lists.proofs.BoolLaws.{impossible}
 use Rattle.utf8.specs.Scalar.{isScalar, ScalarMeans, below-surrogates, above-surrogates}
-use Rattle.utf8.specs.Table.{Range, _to_, Row, TableRow, row, table, bytesOf, rows, Fills, FillsSome, Sequence}
+use Rattle.utf8.specs.Table.{ByteRange, _to_, Row, TableRow, row, table, byteColumns, rows, Fills, FillsSome, Sequence}
 use Rattle.utf8.specs.Encoding.{encoding, codePoint, Encodes, EncodesIn, FillsAt, EncodesAt, OneRow, OneEncoding}
 use Rattle.utf8.proofs.ScalarLaws.{means-scalar, scalar-means, scalar-le}
 use Rattle.utf8.proofs.LeadLaws.{rising, rising-parts}
@@ -41,7 +41,7 @@ unfolding encoding
 encoding-example = (refl, refl, refl, refl)
 
 -- a byte is in a range
-abbrev pub within : Range → ℕ → Type 0
+abbrev pub within : ByteRange → ℕ → Type 0
 within g b = (g .low ≤ b) × (b ≤ g .high)
 
 -- bytes of each length are the encoding of the code point that they stand for
@@ -104,23 +104,23 @@ encoding-code x h = go (decLt x 0x80) (decLt x 0x800) (decLt x 0x10000)
 
 -- the bytes of a row of one, two, three and four ranges
 module _ (P : List ℕ → Type 0) where
-  row-1 : (g : Range) → ((b : ℕ) → within g b → P (b ∷ [])) → (q : List ℕ) → Fills (g ∷ []) q → P q
+  row-1 : (g : ByteRange) → ((b : ℕ) → within g b → P (b ∷ [])) → (q : List ℕ) → Fills (g ∷ []) q → P q
   row-1 g k (b ∷ []) f = k b (f .0, f .1)
   row-1 g k (b ∷ c ∷ q) f = absurd (f .2)
 
-  row-2 : (g h : Range) → ((b c : ℕ) → within g b → within h c → P (b ∷ c ∷ [])) → (q : List ℕ) → Fills (g ∷ h ∷ []) q → P q
+  row-2 : (g h : ByteRange) → ((b c : ℕ) → within g b → within h c → P (b ∷ c ∷ [])) → (q : List ℕ) → Fills (g ∷ h ∷ []) q → P q
   row-2 g h k (b ∷ []) f = absurd (f .2)
   row-2 g h k (b ∷ c ∷ []) f = k b c (f .0, f .1) (f .2 .0, f .2 .1)
   row-2 g h k (b ∷ c ∷ d ∷ q) f = absurd (f .2 .2)
 
-  row-3 : (g h i : Range) → ((b c d : ℕ) → within g b → within h c → within i d → P (b ∷ c ∷ d ∷ [])) → (q : List ℕ) → Fills (g ∷ h ∷ i ∷ []) q → P q
+  row-3 : (g h i : ByteRange) → ((b c d : ℕ) → within g b → within h c → within i d → P (b ∷ c ∷ d ∷ [])) → (q : List ℕ) → Fills (g ∷ h ∷ i ∷ []) q → P q
   row-3 g h i k (b ∷ []) f = absurd (f .2)
   row-3 g h i k (b ∷ c ∷ []) f = absurd (f .2 .2)
   row-3 g h i k (b ∷ c ∷ d ∷ []) f = k b c d (f .0, f .1) (f .2 .0, f .2 .1) (f .2 .2 .0, f .2 .2 .1)
   row-3 g h i k (b ∷ c ∷ d ∷ e ∷ q) f = absurd (f .2 .2 .2)
 
   row-4 :
-      (g h i j : Range) → ((b c d e : ℕ) → within g b → within h c → within i d → within j e → P (b ∷ c ∷ d ∷ e ∷ []))
+      (g h i j : ByteRange) → ((b c d e : ℕ) → within g b → within h c → within i d → within j e → P (b ∷ c ∷ d ∷ e ∷ []))
       → (q : List ℕ) → Fills (g ∷ h ∷ i ∷ j ∷ []) q → P q
   row-4 g h i j k (b ∷ []) f = absurd (f .2)
   row-4 g h i j k (b ∷ c ∷ []) f = absurd (f .2 .2)
@@ -129,20 +129,20 @@ module _ (P : List ℕ → Type 0) where
   row-4 g h i j k (b ∷ c ∷ d ∷ e ∷ x ∷ q) f = absurd (f .2 .2 .2 .2)
 
 -- bytes that are the encoding of what they stand for, and that is in a range
-in-range : {g : Range} {q : List ℕ} → q ≡ encoding (codePoint q) → within g (codePoint q) → EncodesIn g q
+in-range : {g : ByteRange} {q : List ℕ} → q ≡ encoding (codePoint q) → within g (codePoint q) → EncodesIn g q
 in-range {g} {q} e h = record { code = codePoint q; from = h .0; upto = h .1; bytes = e }
 
 -- the encoding of a number fills a row of its length, if its first bytes are in the ranges of the row
-fills-2 : (g : Range) (x : ℕ) → 0x80 ≤ x → x < 0x800 → within g (0xC0 + x / 0x40) → Fills (g ∷ 0x80 to 0xBF ∷ []) (encoding x)
+fills-2 : (g : ByteRange) (x : ℕ) → 0x80 ≤ x → x < 0x800 → within g (0xC0 + x / 0x40) → Fills (g ∷ 0x80 to 0xBF ∷ []) (encoding x)
 fills-2 g x l h u = rw (encoding-2 x l h) (u .0, u .1, (omega arith, omega arith, tt))
 
 fills-3 :
-    (g h : Range) (x : ℕ) → 0x800 ≤ x → x < 0x10000 → within g (0xE0 + x / 0x1000) → within h (0x80 + x / 0x40 % 0x40)
+    (g h : ByteRange) (x : ℕ) → 0x800 ≤ x → x < 0x10000 → within g (0xE0 + x / 0x1000) → within h (0x80 + x / 0x40 % 0x40)
     → Fills (g ∷ h ∷ 0x80 to 0xBF ∷ []) (encoding x)
 fills-3 g h x l k u v = rw (encoding-3 x l k) (u .0, u .1, (v .0, v .1, (omega arith, omega arith, tt)))
 
 fills-4 :
-    (g h : Range) (x : ℕ) → 0x10000 ≤ x → within g (0xF0 + x / 0x40000) → within h (0x80 + x / 0x1000 % 0x40)
+    (g h : ByteRange) (x : ℕ) → 0x10000 ≤ x → within g (0xF0 + x / 0x40000) → within h (0x80 + x / 0x1000 % 0x40)
     → Fills (g ∷ h ∷ 0x80 to 0xBF ∷ 0x80 to 0xBF ∷ []) (encoding x)
 fills-4 g h x l u v = rw (encoding-4 x l) (u .0, u .1, (v .0, v .1, (omega arith, omega arith, (omega arith, omega arith, tt))))
 
@@ -179,7 +179,7 @@ holds-2 = record {
 }
 
 -- rows of three bytes, and of four
-module _ (c g h : Range) where
+module _ (c g h : ByteRange) where
   holds-3 :
       0x800 ≤ c .low → c .high < 0x10000 → 0xE0 ≤ g .low → g .high ≤ 0xEF → 0x80 ≤ h .low → h .high ≤ 0xBF
       → ((b d e : ℕ) → within g b → within h d → within (0x80 to 0xBF) e → within c (codePoint (b ∷ d ∷ e ∷ [])))
@@ -219,11 +219,11 @@ table-holds (suc (suc (suc (suc (suc (suc (suc zero))))))) = holds-4 _ _ _ (omeg
 table-holds (suc (suc (suc (suc (suc (suc (suc (suc zero)))))))) = holds-4 _ _ _ (omega arith) (omega arith) (omega arith) (omega arith) (omega arith) (λ b d e f u v w z. (omega arith, omega arith)) (λ x u. ((omega arith, omega arith), (omega arith, omega arith), scalar-above x (omega arith) (omega arith)))
 table-holds (suc (suc (suc (suc (suc (suc (suc (suc (suc k))))))))) = tt
 
-reads-at : (rs : List TableRow) (k : ℕ) (q : List ℕ) → HoldsAt rs k → FillsAt (bytesOf rs) k q → EncodesAt rs k q
+reads-at : (rs : List TableRow) (k : ℕ) (q : List ℕ) → HoldsAt rs k → FillsAt (byteColumns rs) k q → EncodesAt rs k q
 reads-at (r ∷ rs) zero q a f = a .reads q f
 reads-at (r ∷ rs) (suc k) q a f = reads-at rs k q a f
 
-writes-at : (rs : List TableRow) (k : ℕ) (q : List ℕ) → HoldsAt rs k → EncodesAt rs k q → FillsAt (bytesOf rs) k q
+writes-at : (rs : List TableRow) (k : ℕ) (q : List ℕ) → HoldsAt rs k → EncodesAt rs k q → FillsAt (byteColumns rs) k q
 writes-at (r ∷ rs) zero q a e = subst (Fills (r .bytes)) (sym (e .bytes)) (a .writes (e .code) (e .from, e .upto))
 writes-at (r ∷ rs) (suc k) q a e = writes-at rs k q a e
 

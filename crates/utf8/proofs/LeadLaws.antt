@@ -12,7 +12,7 @@ use borrow.Author.Tests.{leb-true, ltb-true}
 use Rattle.lists.proofs.BoolLaws.{and-left, and-right, or-cases, impossible}
 use Rattle.utf8.specs.declared.Lead.{Lead}
 use Rattle.utf8.specs.declared.Step.the-variants.{Scalar, IllFormed, End}
-use Rattle.utf8.specs.Table.{Range, Row, rows, inside, fits}
+use Rattle.utf8.specs.Table.{ByteRange, Row, rows, inside, fits}
 use Rattle.utf8.specs.Encoding.{codePoint}
 use Rattle.utf8.specs.Subpart.{begun, subpartIn, subpartOf}
 use Rattle.utf8.specs.Head.{stepIn, stepOf, IllHead}
@@ -27,7 +27,7 @@ rising m ([] ∷ rs) = false
 rising m ((g ∷ gs) ∷ rs) = (leb m (g .low) && leb (g .low) (g .high)) && rising (suc (g .high)) rs
 
 pub rising-parts :
-    (m : ℕ) (g : Range) (gs : Row) (rs : List Row) → rising m ((g ∷ gs) ∷ rs) ≡ true
+    (m : ℕ) (g : ByteRange) (gs : Row) (rs : List Row) → rising m ((g ∷ gs) ∷ rs) ≡ true
     → (m ≤ g .low) × (g .low ≤ g .high) × (rising (suc (g .high)) rs ≡ true)
 rising-parts m g gs rs t =
     let u = and-left (leb m (g .low) && leb (g .low) (g .high)) (rising (suc (g .high)) rs) t in (
@@ -113,7 +113,7 @@ trail-by gs a = a .1 ∙ ap (λ (n : ℕ). trailOf n (leadAfter gs)) (sym (a .0)
 
 -- the row that has the byte decides, since no later row has it
 row-here :
-    (g : Range) (gs : Row) (rs : List Row) (b : ℕ) (s : List ℕ) → inside g b ≡ true → stepIn rs (b ∷ s) ≡ IllFormed (subpartOf (b ∷ s))
+    (g : ByteRange) (gs : Row) (rs : List Row) (b : ℕ) (s : List ℕ) → inside g b ≡ true → stepIn rs (b ∷ s) ≡ IllFormed (subpartOf (b ∷ s))
     → AsLead gs → stepIn ((g ∷ gs) ∷ rs) (b ∷ s) ≡ stepBy (leadAfter gs) (b ∷ s)
 unfolding stepBy
 row-here g gs rs b s e f a =
@@ -220,7 +220,7 @@ module _ {s : List ℕ} {l : Lead} {p : Row} {n : ℕ} (d : Begun s l p n) where
       ∙ ap (λ (q : Row). suc (begun q (drop 1 s))) r ∙ ap suc (d .more gs)
 
   -- the next byte is in its range
-  pub next-in : (g : Range) → byteFits g s (suc n) ≡ true → Begun s l (p ++ (g ∷ [])) (suc n)
+  pub next-in : (g : ByteRange) → byteFits g s (suc n) ≡ true → Begun s l (p ++ (g ∷ [])) (suc n)
   next-in g f = record {
     lead = d .lead;
     within = byte-there g [] s (suc n) f;
@@ -233,13 +233,13 @@ module _ {s : List ℕ} {l : Lead} {p : Row} {n : ℕ} (d : Begun s l p n) where
 
   -- it isn't: no sequence begins
   pub next-out :
-      (g : Range) (gs : Row) (k : ℕ) → l .len ≡ suc k → trailOf (suc k) l ≡ p ++ (g ∷ gs)
+      (g : ByteRange) (gs : Row) (k : ℕ) → l .len ≡ suc k → trailOf (suc k) l ≡ p ++ (g ∷ gs)
       → byteFits g s (suc n) ≡ false → 0 ≡ packed (stepOf s)
   next-out g gs k e r f = sym (judged k (g ∷ gs) false e r (fits-out g gs s (suc n) f))
 
   -- .. and the bytes before it are the maximal subpart
   pub subpart-out :
-      (g : Range) (gs : Row) (k : ℕ) → l .len ≡ suc k → trailOf (suc k) l ≡ p ++ (g ∷ gs)
+      (g : ByteRange) (gs : Row) (k : ℕ) → l .len ≡ suc k → trailOf (suc k) l ≡ p ++ (g ∷ gs)
       → byteFits g s (suc n) ≡ false → suc n ≡ subpartOf s
   subpart-out g gs k e r f = omega (arith, subpart-asked (suc k) (g ∷ gs) e r, begun-out g gs s (suc n) f)
 

@@ -11,25 +11,25 @@ use lib.ListN.{length, take, drop, getD, length-drop, drop-of-length-le}
 use lib.Seq.{drop-cons}
 use borrow.Author.Tests.{leb-true, le-leb, lt-leb, lt-ltb, le-ltb, ltb-true, ltb-false}
 use Rattle.lists.proofs.BoolLaws.{and-left, and-right}
-use Rattle.utf8.specs.Table.{Range, Row, inside, fits}
+use Rattle.utf8.specs.Table.{ByteRange, Row, inside, fits}
 use Rattle.utf8.specs.Subpart.{begun}
 use Rattle.utf8.specs.Lead.{byteFits}
 
-pub inside-in : (g : Range) (b : ℕ) → g .low ≤ b → b ≤ g .high → inside g b ≡ true
+pub inside-in : (g : ByteRange) (b : ℕ) → g .low ≤ b → b ≤ g .high → inside g b ≡ true
 inside-in g b l h = rw (le-leb (g .low) b l, le-leb b (g .high) h)
 
-pub inside-out : (g : Range) (b : ℕ) → inside g b ≡ true → (g .low ≤ b) × (b ≤ g .high)
+pub inside-out : (g : ByteRange) (b : ℕ) → inside g b ≡ true → (g .low ≤ b) × (b ≤ g .high)
 inside-out g b e =
     (leb-true (g .low) b (and-left (leb (g .low) b) (leb b (g .high)) e), leb-true b (g .high) (and-right (leb (g .low) b) (leb b (g .high)) e))
 
-pub inside-above : (g : Range) (b : ℕ) → g .high < b → inside g b ≡ false
+pub inside-above : (g : ByteRange) (b : ℕ) → g .high < b → inside g b ≡ false
 inside-above g b h = rw (lt-leb b (g .high) h) (go (leb (g .low) b))
   where
     go : (t : Bool) → (t && false) ≡ false
     go true = refl
     go false = refl
 
-pub inside-below : (g : Range) (b : ℕ) → b < g .low → inside g b ≡ false
+pub inside-below : (g : ByteRange) (b : ℕ) → b < g .low → inside g b ≡ false
 inside-below g b h = rw (lt-leb (g .low) b h)
 
 pub ltb-not : (a b : ℕ) → ltb a b ≡ not (leb b a)
@@ -40,7 +40,7 @@ ltb-not a b =
     ]
 
 -- byte i of a text, and the row from byte i on
-module _ (g : Range) (gs : Row) (s : List ℕ) (i : ℕ) where
+module _ (g : ByteRange) (gs : Row) (s : List ℕ) (i : ℕ) where
   byte-here : i < length s → byteFits g s i ≡ inside g (getD s i 0)
   unfolding byteFits
   byte-here h = rw (lt-ltb i (length s) h)
@@ -84,7 +84,7 @@ fits-length [] s e = omega arith
 fits-length (g ∷ gs) [] e = absurd (false≢true e)
 fits-length (g ∷ gs) (b ∷ s) e = let h = fits-length gs s (and-right (inside g b) (fits gs s) e) in omega arith
 
-pub fits-short : (g : Range) (gs : Row) (s : List ℕ) (i : ℕ) → length s < i + suc (length gs) → fits (g ∷ gs) (drop i s) ≡ false
+pub fits-short : (g : ByteRange) (gs : Row) (s : List ℕ) (i : ℕ) → length s < i + suc (length gs) → fits (g ∷ gs) (drop i s) ≡ false
 fits-short g gs s i h = go (fits (g ∷ gs) (drop i s)) refl
   where
     go : (t : Bool) → fits (g ∷ gs) (drop i s) ≡ t → fits (g ∷ gs) (drop i s) ≡ false

@@ -15,7 +15,7 @@ use mathlib.Core.List.{List, [], _∷_}
 use lib.Dec.{ltb}
 use lib.ListN.{length}
 use Rattle.utf8.specs.Scalar.{isScalar}
-use Rattle.utf8.specs.Table.{Range, Row, TableRow, rows, Fills, Sequence}
+use Rattle.utf8.specs.Table.{ByteRange, Row, TableRow, rows, Fills, Sequence}
 
 -- row by row of Table 3-6: 0xxxxxxx; 110yyyyy 10xxxxxx; 1110zzzz 10yyyyyy 10xxxxxx; 11110uuu 10uuzzzz 10yyyyyy 10xxxxxx.
 -- The first row that has room for its bits: 7, 11, 16, 21
@@ -46,7 +46,7 @@ pub record Encodes (q : List ℕ) : Type 0 where
   pub scalar : isScalar code ≡ true
   pub bytes : q ≡ encoding code
 
-pub record EncodesIn (g : Range) (q : List ℕ) : Type 0 where
+pub record EncodesIn (g : ByteRange) (q : List ℕ) : Type 0 where
   pub code : ℕ
   pub from : g .low ≤ code
   pub upto : code ≤ g .high

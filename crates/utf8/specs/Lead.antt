@@ -22,14 +22,14 @@ use lib.ListN.{length, take, drop, getD}
 use Rattle.utf8.specs.declared.Lead.{Lead}
 use Rattle.utf8.specs.declared.Step.{Step}
 use Rattle.utf8.specs.declared.Step.the-variants.{Scalar, IllFormed, End}
-use Rattle.utf8.specs.Table.{Range, _to_, Row, rows, inside, fits}
+use Rattle.utf8.specs.Table.{ByteRange, _to_, Row, rows, inside, fits}
 use Rattle.utf8.specs.Encoding.{codePoint}
 use Rattle.utf8.specs.Subpart.{subpartOf}
 
-abbrev pub leadWith : ℕ → Range → Range → Range → Lead
+abbrev pub leadWith : ℕ → ByteRange → ByteRange → ByteRange → Lead
 leadWith n g h i = record { len = n; low2 = g .low; high2 = g .high; low3 = h .low; high3 = h .high; low4 = i .low; high4 = i .high }
 
-abbrev pub absent : Range
+abbrev pub absent : ByteRange
 absent = 0x80 to 0xBF
 
 abbrev pub leadAfter : Row → Lead
@@ -68,7 +68,7 @@ stepBy l s = stepAs (l .len) (trailOf (l .len) l) s
 abbrev pub wholeLength : Row → List ℕ → ℕ
 wholeLength gs s = cond (fits gs (drop 1 s)) (suc (length gs)) 0
 
-unfoldable pub byteFits : Range → List ℕ → ℕ → Bool
+unfoldable pub byteFits : ByteRange → List ℕ → ℕ → Bool
 byteFits g s i = ltb i (length s) && inside g (getD s i 0)
 
 abbrev pub packed : Step → ℕ

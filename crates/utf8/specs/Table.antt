@@ -1,10 +1,10 @@
 -- Well-formed UTF-8 byte sequences (docs/RULES.md, "UTF-8 by its first byte"): the Unicode Standard, section 3.9, Table 3-7.
 --
---   Range, _to_        a range of code points or of bytes, both ends in it
+--   ByteRange, _to_        a range of code points or of bytes, both ends in it
 --   Row                the bytes of a row: a range for each
 --   TableRow, row      a row as printed: code points, then the bytes of their sequences
 --   table              Table 3-7, row by row
---   bytesOf, rows      the bytes of each row of a table; of Table 3-7
+--   byteColumns, rows      the bytes of each row of a table; of Table 3-7
 --   inside             a number is in a range
 --   fits               a text begins with bytes that are as a row says
 --   Fills, FillsSome   bytes are as a row says, and no more of them; as one of these rows says
@@ -15,22 +15,22 @@ use mathlib.Core.List.{List, [], _∷_}
 use mathlib.Core.Logic.{_⊎_}
 use lib.Dec.{leb}
 
-pub record Range : Type 0 where
+pub record ByteRange : Type 0 where
   pub low : ℕ
   pub high : ℕ
 
 infix 70 _to_
-abbrev pub _to_ : ℕ → ℕ → Range
+abbrev pub _to_ : ℕ → ℕ → ByteRange
 a to b = record { low = a; high = b }
 
 abbrev pub Row : Type 0
-Row = List Range
+Row = List ByteRange
 
 pub record TableRow : Type 0 where
-  pub codes : Range
+  pub codes : ByteRange
   pub bytes : Row
 
-abbrev pub row : Range → Row → TableRow
+abbrev pub row : ByteRange → Row → TableRow
 row c r = record { codes = c; bytes = r }
 
 abbrev pub table : List TableRow
@@ -46,14 +46,14 @@ table =
     ∷ row (0x100000 to 0x10FFFF) (0xF4 to 0xF4 ∷ 0x80 to 0x8F ∷ 0x80 to 0xBF ∷ 0x80 to 0xBF ∷ [])
     ∷ []
 
-abbrev pub bytesOf : List TableRow → List Row
-bytesOf [] = []
-bytesOf (r ∷ rs) = r .bytes ∷ bytesOf rs
+abbrev pub byteColumns : List TableRow → List Row
+byteColumns [] = []
+byteColumns (r ∷ rs) = r .bytes ∷ byteColumns rs
 
 abbrev pub rows : List Row
-rows = bytesOf table
+rows = byteColumns table
 
-abbrev pub inside : Range → ℕ → Bool
+abbrev pub inside : ByteRange → ℕ → Bool
 inside g b = leb (g .low) b && leb b (g .high)
 
 -- one byte for each range

@@ -20,7 +20,7 @@ use Rattle.writer.specs.declared.Written.{Written}
 use Rattle.writer.specs.declared.Written.the-variants as written
 use Rattle.writer.specs.Writable.{
   Shaped,
-  Counted,
+  CountsFit,
   Writable,
   WriteMeans,
   bad-shape,
@@ -51,7 +51,7 @@ module _ (words : List ℕ) (p : Profile) (room : ℕ) where
   unfolding writeRefusalWithin
   past-shape t = simp (eq-eqb (length words % wordsPerRange) 0 t)
 
-  pub past-counts : Counted words p → writeRefusal words p room ≡ afterCounts
+  pub past-counts : CountsFit words p → writeRefusal words p room ≡ afterCounts
   past-counts h = past-shape (h .shaped) ∙ simp (le-leb _ _ (h .few-ranges), le-leb _ _ (h .few-entries))
 
   past-records : Writable words p → writeRefusal words p room ≡ afterRecords
@@ -78,7 +78,7 @@ module _ (version : ℕ) (words : List ℕ) (p : Profile) (out : List ℕ) where
   by-room w true e = is-written w (leb-true _ _ e)
   by-room w false e = lacks-room w (leb-false _ _ e)
 
-  by-records : Counted words p → By (afterCounts words p room)
+  by-records : CountsFit words p → By (afterCounts words p room)
   by-records h =
       records-mean (rangeIn words) (rangesIn words) (pointIn p) (roleIn p) (p .used) (afterRecords words p room) By (λ i f. bad-range h f) (λ g i f. bad-entry h g f)
       (λ g k. by-room (record { counted = h; ranges = g; entries = k }) _ refl)

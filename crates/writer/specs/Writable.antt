@@ -22,14 +22,14 @@ abbrev pub Shaped : List ℕ → Type 0
 Shaped words = length words % wordsPerRange ≡ 0
 
 -- and both counts are within their limits
-pub record Counted (words : List ℕ) (p : Profile) : Type 0 where
+pub record CountsFit (words : List ℕ) (p : Profile) : Type 0 where
   pub shaped : Shaped words
   pub few-ranges : rangesIn words ≤ maxRanges
   pub few-entries : p .used ≤ maxEntries
 
 -- ranges and entries that are good as well
 pub record Writable (words : List ℕ) (p : Profile) : Type 0 where
-  pub counted : Counted words p
+  pub counted : CountsFit words p
   pub ranges : AllGood (GoodRange (rangeIn words)) (rangesIn words)
   pub entries : AllGood (GoodEntry (pointIn p) (roleIn p)) (p .used)
 
@@ -40,10 +40,10 @@ pub data WriteMeans (version : ℕ) (words : List ℕ) (p : Profile) (out : List
   many-ranges : Shaped words → maxRanges < rangesIn words → WriteMeans version words p out (written.Refused refusal.Header) out
   many-entries : Shaped words → maxEntries < p .used → WriteMeans version words p out (written.Refused refusal.Header) out
   bad-range :
-      {i : ℕ} → Counted words p → FirstBad (GoodRange (rangeIn words)) (rangesIn words) i
+      {i : ℕ} → CountsFit words p → FirstBad (GoodRange (rangeIn words)) (rangesIn words) i
       → WriteMeans version words p out (written.Refused (refusal.Range i)) out
   bad-entry :
-      {i : ℕ} → Counted words p → AllGood (GoodRange (rangeIn words)) (rangesIn words) → FirstBad (GoodEntry (pointIn p) (roleIn p)) (p .used) i
+      {i : ℕ} → CountsFit words p → AllGood (GoodRange (rangeIn words)) (rangesIn words) → FirstBad (GoodEntry (pointIn p) (roleIn p)) (p .used) i
       → WriteMeans version words p out (written.Refused (refusal.Entry i)) out
   lacks-room :
       Writable words p → length out < bytesNeeded words p → WriteMeans version words p out (written.Refused (refusal.Buffer (bytesNeeded words p))) out

@@ -194,7 +194,7 @@ fn first_bad_entry<'a>(
 }
 
 // What the writer answers for a buffer of `room` bytes.
-fn judge<'a>(
+fn judge_parts<'a>(
     words: &[u32],
     points: &'a [u32; MAX_ENTRIES],
     roles: &'a [u32; MAX_ENTRIES],
@@ -240,7 +240,7 @@ pub fn write_arrays<'a>(
 ) -> Written
     ensures { λ r. ⌜ (r ≡ writeOf (now (words .entry)) (profileBy (now (points .entry)) (now (roles .entry)) used) (length (now (out .entry)))) × (now (out .exit) ≡ bytesAfter version (now (words .entry)) (profileBy (now (points .entry)) (now (roles .entry)) used) (now (out .entry))) ⌝ }
 {
-    let answer = judge(words, points, roles, used, out.len());
+    let answer = judge_parts(words, points, roles, used, out.len());
     match answer {
         Written::Refused(r) => Written::Refused(r),
         Written::Image { len } => {

@@ -210,7 +210,7 @@ fn kinds() {
 #[test]
 fn hashtags() {
     assert_eq!(constant("image::records", "HASHTAG_ROLE"), Role::Hashtag.number());
-    assert_eq!(constant("hashtag", "HASHTAG"), HASHTAG_KIND);
+    assert_eq!(constant("hashtag", "HASHTAG_KIND"), HASHTAG_KIND);
     assert_eq!((in_c("LUFFINARC_KIND_HASHTAG"), kind::HASHTAG), (HASHTAG_KIND, HASHTAG_KIND));
     assert_eq!(Kind::from_number(HASHTAG_KIND), None);
     assert_eq!(constant("grammar", "RECORD_WORDS") as usize, luffinarc::RECORD_WORDS);

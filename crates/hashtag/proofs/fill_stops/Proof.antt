@@ -4,12 +4,12 @@ use mathlib.Core.Path.{refl}
 use native.Mathlib.Omega.{arith}
 use Rattle.lists.specs.Filled.{Filled}
 use Rattle.lists.proofs.FilledLaws.{filled-none, filled-more, filled-all}
-use Rattle.hashtag.specs.Seek.{stopOf}
+use Rattle.hashtag.specs.Seek.{stopFor}
 use Rattle.hashtag.proofs.fill_stops.Statement.{statement}
 use Rattle.hashtag.proofs.fill_stops.Tie as tie
 
 abbrev Inv-loop : tie.InvT-loop
-Inv-loop known stops₀ i₀ stops i = (i ≤ 256) × Filled 256 (stopOf known) stops i
+Inv-loop known stops₀ i₀ stops i = (i ≤ 256) × Filled 256 (stopFor known) stops i
 
 abbrev μ-loop : tie.MeasureT-loop
 μ-loop known stops₀ i₀ stops i = 256 - i

@@ -3,13 +3,13 @@ use Prim.Native.Nat.{_-_}
 use mathlib.Core.Bool.{Bool}
 use native.Mathlib.Omega.{arith}
 use lib.ListN.{length}
-use Rattle.hashtag.specs.Seek.{StopsOf, Passed}
+use Rattle.hashtag.specs.Seek.{StopsOf, BytesPassed}
 use Rattle.hashtag.proofs.SeekLaws.{passed-begins, passed-more}
 use Rattle.hashtag.proofs.skip.Statement.{statement}
 use Rattle.hashtag.proofs.skip.Tie as tie
 
 abbrev Inv-loop : tie.InvT-loop
-Inv-loop stops text from at₀ at = (known : Bool) → StopsOf known stops → Passed known text from at
+Inv-loop stops text from at₀ at = (known : Bool) → StopsOf known stops → BytesPassed known text from at
 
 abbrev μ-loop : tie.MeasureT-loop
 μ-loop stops text from at₀ at = length text - at

@@ -29,16 +29,16 @@ same-length c = c .before .before .before .before .before .before .loop .inv .lo
 returns : tie.Need-returns Inv-loop μ-loop
 returns c = writing-stops _ _ (c .before .before .before .before .before .before .loop .inv) (c .before .before .before .seek-known .ensures .0) (c .if1 .taken)
 
-find-end-requires : tie.Need-find-end-requires Inv-loop μ-loop
-find-end-requires c κs =
+find-run-end-requires : tie.Need-find-run-end-requires Inv-loop μ-loop
+find-run-end-requires c κs =
     let p = c .before .before .before .before .before .before .before .before .before .before .before .pre in
     (p .0, (p .1 .0, c .before .before .before .seek-known .ensures .0 .within))
 
 -- there is room for one more record where the end of its run was found
-fits : (c : tie.After-find-end Inv-loop μ-loop) → c .before .before .before .before .before .before .before .loop .w + recordSize ≤ length (c .before .before .before .before .before .before .before .before .before .before .before .before .args .out .now)
+fits : (c : tie.After-find-run-end Inv-loop μ-loop) → c .before .before .before .before .before .before .before .loop .w + recordSize ≤ length (c .before .before .before .before .before .before .before .before .before .before .before .before .args .out .now)
 fits c = next-fits _ _ (c .before .before .before .before .before .before .before .loop .inv) (c .before .before .before .before .seek-known .ensures .0) (c .before .if1 .left) (c .before .before .before .before .before .before .before .before .before .before .before .before .pre .1 .1 .1 .1)
 
-room : (c : tie.After-find-end Inv-loop μ-loop) → c .before .before .before .before .before .before .before .loop .w + recordSize ≤ length (c .before .before .before .before .before .before .before .loop .out)
+room : (c : tie.After-find-run-end Inv-loop μ-loop) → c .before .before .before .before .before .before .before .loop .w + recordSize ≤ length (c .before .before .before .before .before .before .before .loop .out)
 room c = next-room _ _ (c .before .before .before .before .before .before .before .loop .inv) (c .before .before .before .before .seek-known .ensures .0) (c .before .if1 .left) (c .before .before .before .before .before .before .before .before .before .before .before .before .pre .1 .1 .1 .1)
 
 mul-put-record : tie.Need-mul-put-record Inv-loop μ-loop
@@ -57,7 +57,7 @@ put-record-requires : tie.Need-put-record-requires Inv-loop μ-loop
 put-record-requires c κs =
     let p = c .before .before .before .before .before .before .before .before .before .before .before .before .before .pre .1 .1 in
     let h = c .before .before .before .before .before .seek-known .ensures .0 in (
-      (omega (arith, h .rises, h .within, p .0), omega (arith, c .before .find-end .ensures .1, p .0)),
+      (omega (arith, h .rises, h .within, p .0), omega (arith, c .before .find-run-end .ensures .1, p .0)),
       next-part _ _ (c .before .before .before .before .before .before .before .before .loop .inv) h (c .before .before .if1 .left) (p .1 .1),
     )
 
@@ -70,7 +70,7 @@ loop-less c = let h = c .before .before .before .before .before .before .before 
 loop-again : tie.Need-loop-again Inv-loop μ-loop
 loop-again c =
     let h = c .before .before .before .before .before .before .before .before .seek-known .ensures in
-    next-put _ _ (c .before .before .before .before .before .before .before .before .before .before .before .loop .inv) (h .0) (c .before .before .before .before .before .if1 .left) (c .before .before .before .before .before .before .before .before .before .before .before .before .before .before .before .before .pre .1 .1 .1 .1) (h .1 .0) (h .1 .1) _ _ (c .before .before .before .before .find-end .ensures .0) (c .before .before .put-record .ensures)
+    next-put _ _ (c .before .before .before .before .before .before .before .before .before .before .before .loop .inv) (h .0) (c .before .before .before .before .before .if1 .left) (c .before .before .before .before .before .before .before .before .before .before .before .before .before .before .before .before .pre .1 .1 .1 .1) (h .1 .0) (h .1 .1) _ _ (c .before .before .before .before .find-run-end .ensures .0) (c .before .before .put-record .ensures)
 
 same-length-2 : tie.Need-same-length-2 Inv-loop μ-loop
 same-length-2 c = c .before .loop .inv .long
@@ -89,7 +89,7 @@ write-hashtags-spec =
     seek-known-requires
     same-length
     returns
-    find-end-requires
+    find-run-end-requires
     mul-put-record
     sub-put-record
     part-put-record-start

@@ -40,8 +40,8 @@ returns-3 c =
     let b = c .before .before .before .before .before .before in
     let a = b .before .before .before .before .before .args in
     let k = accepted-by (a .image .now) _ (b .before .before .judge .ensures) _ _ (b .a2 .given .1) in
-    let fits = rw (k .2) at (c .before .before .before .before .if1 .left) in
-    let w = read-by (a .image .now) (a .out .now) _ (none-refuses _ (a .out .now) (k .0) fits) in (
+    let within-limits = rw (k .2) at (c .before .before .before .before .if1 .left) in
+    let w = read-by (a .image .now) (a .out .now) _ (none-refuses _ (a .out .now) (k .0) within-limits) in (
       (λ d. answer.Accepted (k .1 d) (k .2 d)) ∙ sym (ap (λ (x : Checked). x .answer) (w .0)),
       c .before .before .write-ranges .ensures
           ∙ ap (λ (n : ℕ). laid (a .out .now) 0 (each (λ (i : ℕ). rangeWords (rangeAt (a .image .now) i)) n)) (k .2)

@@ -7,7 +7,7 @@ use native.Mathlib.Omega.{arith}
 use borrow.Author.Needs.{needs}
 use borrow.Author.Tests.{not-true, not-false}
 use Rattle.utf8.specs.declared.Lead.{Lead}
-use Rattle.utf8.specs.Table.{Range, _to_}
+use Rattle.utf8.specs.Table.{ByteRange, _to_}
 use Rattle.utf8.specs.Lead.{packed}
 use Rattle.utf8.proofs.LeadLaws.{Begun, begins, no-lead, next-in, next-out, whole, at-end, lead-le}
 use Rattle.utf8.proofs.pack.Statement.{statement}
@@ -19,13 +19,13 @@ text c = c .before .before .before .before .args .s .now
 abbrev lead : tie.After-read-lead → Lead
 lead c = c .read-lead .result
 
-abbrev range-2 : tie.After-read-lead → Range
+abbrev range-2 : tie.After-read-lead → ByteRange
 range-2 c = lead c .low2 to lead c .high2
 
-abbrev range-3 : tie.After-read-lead → Range
+abbrev range-3 : tie.After-read-lead → ByteRange
 range-3 c = lead c .low3 to lead c .high3
 
-abbrev range-4 : tie.After-read-lead → Range
+abbrev range-4 : tie.After-read-lead → ByteRange
 range-4 c = lead c .low4 to lead c .high4
 
 -- what is known after each byte; `led` is the place where the lead was read

@@ -12,7 +12,7 @@ put-image-requires c κs =
     let d = c .before .before in
     let a = d .before .before .before .before .before .args in
     let p = profileBy (a .points .now) (a .roles .now) (a .used) in
-    let k = written-means (a .version) (a .words .now) p (a .out .now) _ (sym (d .before .before .judge .ensures) ∙ d .answer2 .given .1) in
+    let k = written-means (a .version) (a .words .now) p (a .out .now) _ (sym (d .before .before .judge-parts .ensures) ∙ d .answer2 .given .1) in
     let n = k .0 .counted in
     (n .shaped, n .few-ranges, n .few-entries, omega arith)
 
@@ -20,7 +20,7 @@ returns : tie.Need-returns
 returns c =
     let a = c .before .before .before .before .before .before .args in
     let p = profileBy (a .points .now) (a .roles .now) (a .used) in
-    let e = sym (c .before .before .before .judge .ensures) ∙ c .before .answer .given .1 in
+    let e = sym (c .before .before .before .judge-parts .ensures) ∙ c .before .answer .given .1 in
     (sym e, sym (write-kept (a .version) (a .words .now) p (a .out .now) _ e))
 
 returns-2 : tie.Need-returns-2
@@ -28,7 +28,7 @@ returns-2 c =
     let d = c .before .before .before .before .before in
     let a = d .before .before .before .before .before .args in
     let p = profileBy (a .points .now) (a .roles .now) (a .used) in
-    let e = sym (d .before .before .judge .ensures) ∙ d .answer2 .given .1 in
+    let e = sym (d .before .before .judge-parts .ensures) ∙ d .answer2 .given .1 in
     let k = written-means (a .version) (a .words .now) p (a .out .now) _ e in
     (sym e, c .before .before .put-image .ensures ∙ sym (k .3))
 

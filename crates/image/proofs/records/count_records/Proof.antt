@@ -1,6 +1,6 @@
 -- `image::records::count_records` meets its contract. Assumes nothing.
 use native.Mathlib.Omega.{arith}
-use Rattle.image.proofs.SectionLaws.{fits}
+use Rattle.image.proofs.SectionLaws.{within-limits}
 use borrow.Author.Needs.{needs}
 use Rattle.image.proofs.records.count_records.Statement.{statement}
 use Rattle.image.proofs.records.count_records.Tie as tie
@@ -9,7 +9,7 @@ enum-told : tie.Need-enum-told
 enum-told c = search needs
 
 word-requires : tie.Need-word-requires
-word-requires c κs = let f = fits _ (c .before .before .before .pre) in omega arith
+word-requires c κs = let f = within-limits _ (c .before .before .before .pre) in omega arith
 
 cast-result : tie.Need-cast-result
 cast-result c = search needs
@@ -18,7 +18,7 @@ enum-told-2 : tie.Need-enum-told-2
 enum-told-2 c = search needs
 
 word-requires-2 : tie.Need-word-requires-2
-word-requires-2 c κs = let f = fits _ (c .before .before .before .pre) in omega arith
+word-requires-2 c κs = let f = within-limits _ (c .before .before .before .pre) in omega arith
 
 cast-result-2 : tie.Need-cast-result-2
 cast-result-2 c = search needs

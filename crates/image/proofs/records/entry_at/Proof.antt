@@ -3,13 +3,13 @@ use mathlib.Core.Path.{_∙_, ap}
 use native.Mathlib.Omega.{arith}
 use Rattle.image.specs.Header.{entriesAt}
 use Rattle.image.proofs.ImageLaws.{point-is, role-is}
-use Rattle.image.proofs.SectionLaws.{fits}
+use Rattle.image.proofs.SectionLaws.{within-limits}
 use borrow.Author.Needs.{needs}
 use Rattle.image.proofs.records.entry_at.Statement.{statement}
 use Rattle.image.proofs.records.entry_at.Tie as tie
 
 word-requires : tie.Need-word-requires
-word-requires c κs = let f = fits _ (c .before .pre .0) in omega arith
+word-requires c κs = let f = within-limits _ (c .before .pre .0) in omega arith
 
 cast-n : tie.Need-cast-n
 cast-n c = search needs
@@ -21,19 +21,19 @@ add-at : tie.Need-add-at
 add-at c = search needs
 
 mul-at-2 : tie.Need-mul-at-2
-mul-at-2 c = let f = fits _ (c .before .before .pre .0) in omega (arith, c .before .before .pre .1)
+mul-at-2 c = let f = within-limits _ (c .before .before .pre .0) in omega (arith, c .before .before .pre .1)
 
 add-at-2 : tie.Need-add-at-2
-add-at-2 c = let f = fits _ (c .before .before .pre .0) in omega (arith, c .before .before .pre .1, c .word .ensures)
+add-at-2 c = let f = within-limits _ (c .before .before .pre .0) in omega (arith, c .before .before .pre .1, c .word .ensures)
 
 word-requires-2 : tie.Need-word-requires-2
-word-requires-2 c κs = let f = fits _ (c .before .before .pre .0) in omega (arith, c .before .before .pre .1, c .word .ensures)
+word-requires-2 c κs = let f = within-limits _ (c .before .before .pre .0) in omega (arith, c .before .before .pre .1, c .word .ensures)
 
 add-word : tie.Need-add-word
-add-word c = let f = fits _ (c .before .before .before .pre .0) in omega (arith, c .before .before .before .pre .1, c .before .word .ensures)
+add-word c = let f = within-limits _ (c .before .before .before .pre .0) in omega (arith, c .before .before .before .pre .1, c .before .word .ensures)
 
 word-requires-3 : tie.Need-word-requires-3
-word-requires-3 c κs = let f = fits _ (c .before .before .before .pre .0) in omega (arith, c .before .before .before .pre .1, c .before .word .ensures)
+word-requires-3 c κs = let f = within-limits _ (c .before .before .before .pre .0) in omega (arith, c .before .before .before .pre .1, c .before .word .ensures)
 
 returns : tie.Need-returns
 returns c =

@@ -1,6 +1,6 @@
 -- `image::records::record_at` meets its contract. Assumes nothing.
 use native.Mathlib.Omega.{arith}
-use Rattle.image.proofs.SectionLaws.{fits}
+use Rattle.image.proofs.SectionLaws.{within-limits}
 use borrow.Author.Needs.{needs}
 use Rattle.image.proofs.records.record_at.Statement.{statement}
 use Rattle.image.proofs.records.record_at.Tie as tie
@@ -10,7 +10,7 @@ enum-told c = search needs
 
 range-at-requires : tie.Need-range-at-requires
 range-at-requires c κs =
-    let f = fits _ (c .before .before .before .pre .0) in
+    let f = within-limits _ (c .before .before .before .pre .0) in
     let l = rw (c .enum-told .given .1) at (c .before .before .before .pre .1) in
     omega arith
 

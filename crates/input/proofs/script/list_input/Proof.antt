@@ -1,14 +1,14 @@
 -- `input::script::list_input` meets its contract. Assumes nothing.
 use native.Mathlib.Omega.{arith}
 use lib.ListN.{length-take}
-use Rattle.input.specs.Script.{listedWithin, wordsWithin}
+use Rattle.input.specs.Script.{listedWithin, scriptWordsWithin}
 use Rattle.input.proofs.FrontLaws.{end-within, parts}
 use borrow.Author.Needs.{needs}
 use Rattle.input.proofs.script.list_input.Statement.{statement}
 use Rattle.input.proofs.script.list_input.Tie as tie
 
 returns : tie.Need-returns
-unfolding listedWithin wordsWithin
+unfolding listedWithin scriptWordsWithin
 returns c =
     let l = c .before .before in
     let (p, q) = parts _ (l .before .before .before .before .find-end .ensures) in

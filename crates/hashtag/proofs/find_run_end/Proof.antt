@@ -1,4 +1,4 @@
--- `hashtag::find_end` meets its contract. Assumes nothing.
+-- `hashtag::find_run_end` meets its contract. Assumes nothing.
 use Prim.Native.Nat.{_+_, _-_}
 use mathlib.Core.Path.{sym, _∙_}
 use native.Mathlib.Omega.{arith}
@@ -6,8 +6,8 @@ use lib.ListN.{length}
 use borrow.Author.Tests.{not-true, not-false}
 use Rattle.character.specs.Read.{MemoOf}
 use Rattle.hashtag.proofs.SeekLaws.{Here, read-continues, Running, running-begins, run-ill, run-end, run-stops, run-goes}
-use Rattle.hashtag.proofs.find_end.Statement.{statement}
-use Rattle.hashtag.proofs.find_end.Tie as tie
+use Rattle.hashtag.proofs.find_run_end.Statement.{statement}
+use Rattle.hashtag.proofs.find_run_end.Tie as tie
 
 abbrev Inv-loop : tie.InvT-loop
 Inv-loop image table text from memo₀ at₀ memo at = Running image text from at × MemoOf image memo
@@ -56,8 +56,8 @@ loop-again c = (goes c .1, c .before .before .before .before .read .ensures .mem
 returns-3 : tie.Need-returns-3 Inv-loop μ-loop
 returns-3 c = run-end _ _ (c .before .loop .inv .0) (c .loop-test .left)
 
-pub find-end-spec : {M : Type 1} → statement M
-find-end-spec =
+pub find-run-end-spec : {M : Type 1} → statement M
+find-run-end-spec =
     tie.close
     (tie.spec
     Inv-loop

@@ -1,4 +1,4 @@
--- `writer::judge` meets its contract. Assumes nothing.
+-- `writer::judge_parts` meets its contract. Assumes nothing.
 use Prim.Native.Nat.{ℕ, _≤_, _<_}
 use mathlib.Core.Path.{_≡_, _∙_}
 use mathlib.Core.List.{List}
@@ -14,8 +14,8 @@ use Rattle.writer.specs.Write.{rangesIn, bytesNeeded, writeWithin, write
 use Rattle.writer.specs.Writable.{Shaped}
 use Rattle.writer.proofs.WriteLaws.{afterRecords, afterCounts, past-counts, answer-by}
 use borrow.Author.Needs.{needs}
-use Rattle.writer.proofs.judge.Statement.{statement}
-use Rattle.writer.proofs.judge.Tie as tie
+use Rattle.writer.proofs.judge_parts.Statement.{statement}
+use Rattle.writer.proofs.judge_parts.Tie as tie
 
 -- i is the index of the first bad range, and j that of the first bad entry
 module _
@@ -84,8 +84,8 @@ returns-7 c =
     has-room _ _ _ (a .before .before .if1 .left) (a .before .if2 .left) (a .if3 .left) _
     (b .before .first-bad-range .ensures) (b .if4 .left) _ (d .before .first-bad-entry .ensures) (d .if5 .left) (c .if6 .left)
 
-pub judge-spec : {M : Type 1} → statement M
-judge-spec =
+pub judge-parts-spec : {M : Type 1} → statement M
+judge-parts-spec =
     tie.close
     (tie.spec
     returns
