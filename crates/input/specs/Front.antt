@@ -1,4 +1,4 @@
--- An image at the front of a program's input, and what follows it (docs/RULES.md, "Small image M and its readings" and "What changed").
+-- An image at the front of a program's input, and what follows it (docs/RULES.md, "The programs").
 -- `limit` is how many profile entries an image may have; the names without `Within` have the limit in force.
 use Prim.Native.Nat.{ℕ, _≤_}
 use mathlib.Core.Bool.{Bool, cond, _&&_}

@@ -1,4 +1,4 @@
--- Two images one right after the other, as the change lister reads them (docs/RULES.md, "What changed").
+-- Two images one right after the other, as the change lister reads them (docs/RULES.md, "The programs").
 -- `limit` is how many profile entries an image may have; the names without `Within` have the limit in force.
 use Prim.Native.Nat.{ℕ, _+_, _-_, _*_}
 use mathlib.Core.List.{List}

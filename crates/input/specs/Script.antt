@@ -1,5 +1,14 @@
 -- An image and right after it a text, as the token lister reads them (docs/RULES.md, "The programs").
 -- `limit` is how many profile entries an image may have; the names without `Within` have the limit in force.
+--
+--   maxScript                        the most bytes of the lister's text
+--   scriptWithin, scriptWritten      the tokens of a text under an image, written into a buffer of so many words
+--   writtenFromWithin, writtenFrom   the same of an input: the image at its front, and the text after it
+--   listedWithin, listedFrom         the answer of the lister's call
+--   wordsWithin, wordsAfter          what the lent words then hold
+--   wholeAnswerWithin, wholeAnswer   the program's answer
+--   ScriptMeans                      what each outcome of an image and a text means
+--   ListingMeans                     what each answer of the call means, and what the lent words then hold
 use Prim.Native.Nat.{ℕ, _*_}
 use mathlib.Core.Path.{_≡_}
 use mathlib.Core.List.{List}
@@ -20,7 +29,6 @@ use Rattle.grammar.specs.declared.Counted.{Counted}
 use Rattle.grammar.specs.Counted.{countedBy}
 use Rattle.input.specs.Front.{imageIn, restIn as textIn, frontWithin, afterWithin, ComesWhole}
 
--- the most bytes of the lister's text
 abbrev pub maxScript : ℕ
 maxScript = 8192
 
@@ -32,14 +40,12 @@ scriptWithin limit image text words =
 abbrev pub scriptWritten : List ℕ → List ℕ → ℕ → Outcome (List (Tok Character Kind))
 scriptWritten image text words = scriptWithin maxEntries image text words
 
--- of the image at the front of an input and the text after it
 abbrev pub writtenFromWithin : ℕ → List ℕ → ℕ → Outcome (List (Tok Character Kind))
 writtenFromWithin limit input words = scriptWithin limit (frontWithin limit input) (afterWithin limit input) words
 
 abbrev pub writtenFrom : List ℕ → ℕ → Outcome (List (Tok Character Kind))
 writtenFrom input words = writtenFromWithin maxEntries input words
 
--- the answer, and what the lent words then hold
 unfoldable pub listedWithin : ℕ → List ℕ → ℕ → Outcome ℕ
 listedWithin limit input words = outcomeMap length (writtenFromWithin limit input words)
 
@@ -52,22 +58,21 @@ scriptWordsWithin limit input out = laidBy (listedWords (afterWithin limit input
 abbrev pub scriptWords : List ℕ → List ℕ → List ℕ
 scriptWords input out = scriptWordsWithin maxEntries input out
 
--- the program's answer: there is room for a token at every byte of the longest text
+-- there is room for a token at every byte of the longest text
 unfoldable pub wholeAnswerWithin : ℕ → List ℕ → Counted
 wholeAnswerWithin limit input = countedBy (listedWithin limit input (recordSize * maxScript))
 
 abbrev pub wholeAnswer : List ℕ → Counted
 wholeAnswer input = wholeAnswerWithin maxEntries input
 
--- what the outcome with a buffer of so many words means: 1 to 4 of the image, 5, or what writing the list gives
 pub data ScriptMeans (image text : List ℕ) (words : ℕ) : Outcome (List (Tok Character Kind)) → Type 0 where
   refused-before : {r : Refusal} → BeforeMeans maxScript image text (some r) → ScriptMeans image text words (refused r)
   short-text :
       {o : Outcome (List (Tok Character Kind))} → BeforeMeans maxScript image text none → writtenOf image text words ≡ o
       → ScriptMeans image text words o
 
--- what each answer means, and what the lent words then hold, which were `out`: 1 of an image that doesn't come whole, or a refusal of the
--- image at the front with the text after it, and the words as they were; or the number of tokens, and their words in the front
+-- the lent words were `out`. 1 of an image that doesn't come whole, or a refusal of the image at the front with the text after it, and the
+-- words as they were; or the number of tokens, and their words in the front
 pub data ListingMeans (input out : List ℕ) : Outcome ℕ → List ℕ → Type 0 where
   cut-off : (ComesWhole input → ⊥) → ListingMeans input out (refused refusal.Length) out
   not-listed :
