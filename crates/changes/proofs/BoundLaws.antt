@@ -1,249 +1,188 @@
 -- How many changes there are at most: by the records of the two images, and so by the limits of an image. Assumes nothing.
 use Prim.Native.Nat.{ℕ, zero, suc, _+_, _-_, _*_, _≤_, _<_}
-use mathlib.Core.Path.{_≡_, refl, sym, ap, _∙_, subst}
-use mathlib.Core.List.{List}
+use mathlib.Core.Path.{_≡_, refl, sym, ap, _∙_}
+use mathlib.Core.Bool.{Bool, true, false, cond}
+use mathlib.Core.List.{List, [], _∷_}
 use mathlib.Core.Logic.{_⊎_, inl, inr, ⊎-elim}
 use mathlib.Core.Option.{none}
+use native.Mathlib.Numerals.{add-one}
 use native.Mathlib.Omega.{arith}
-use native.Mathlib.Decide.{decLt, ℕ-discrete}
+use native.Mathlib.Decide.{decLt}
+use lib.Dec.{eqb}
 use lib.ListN.{length}
-use Rattle.image.specs.Limits.{lastCodePoint, maxRanges, maxEntries}
-use Rattle.image.specs.Check.{refusalOf}
+use borrow.Author.Tests.{eqb-true, eqb-false, eq-eqb}
+use Rattle.image.specs.Limits.{maxRanges, maxEntries}
+use Rattle.image.specs.Check.{refusalOf, rangeClass}
+use Rattle.image.specs.declared.Range.{Range}
 use Rattle.image.specs.declared.records.Section.{Section}
 use Rattle.image.specs.declared.records.Section.the-variants.{Ranges, Entries}
-use Rattle.image.specs.Records.{recordAt, recordCount, sectionClass}
-use Rattle.image.proofs.SectionLaws.{within-limits}
-use Rattle.pair.specs.declared.walk.Ahead.{Ahead}
-use Rattle.pair.specs.Walk.{Walk, AheadOf, codePoints}
-use Rattle.pair.proofs.WalkLaws.{walk-begins, ends-ahead, gap-ahead, range-ahead, ready, Least, both-ahead}
-use Rattle.changes.specs.ChangeList.{runsOf, entriesOf}
+use Rattle.image.specs.Records.{recordAt, recordCount, sectionClass, HasClass, held, in-none}
+use Rattle.image.specs.Placed.{Rising}
+use Rattle.image.proofs.RisingLaws.{class-cases, class-held, class-of}
+use Rattle.image.proofs.SectionLaws.{within-limits, records-rise, entry-role}
+use Rattle.pair.specs.Walk.{codePoints}
+use Rattle.changes.specs.Change.{Change}
+use Rattle.changes.specs.ChangeList.{begunAt, goesOn, only, changesFrom, runsOf, entriesOf}
 use Rattle.changes.specs.Answer.{changesOf}
-use Rattle.changes.specs.Walked.{restOf}
-use Rattle.changes.proofs.StepLaws.{whole-list, no-rest, same-step, changed-step}
 
--- the edges of k records: a range has two, where it begins and where it ends; an entry has one code point, and counts once
-abbrev edges : Section → ℕ → ℕ
-edges Ranges k = 2 * k
-edges Entries k = k
+-- how many of n numbers are x or more
+module _ (c : ℕ → ℕ) where
+  abbrev left : ℕ → ℕ → ℕ
+  left zero x = 0
+  left (suc n) x = left n x + (1 - (x - c n))
 
--- one of them is at the end of the gap before a range
-abbrev gapEdge : Section → ℕ
-gapEdge Ranges = 1
-gapEdge Entries = 0
+  left-few : (n x : ℕ) → left n x ≤ n
+  left-few zero x = omega arith
+  left-few (suc n) x = omega (arith, left-few n x)
 
-edges-next : (section : Section) (i n : ℕ) → i < n → edges section (n - i) ≡ edges section (n - (i + 1)) + gapEdge section + 1
-edges-next Ranges i n l = omega arith
-edges-next Entries i n l = omega arith
+  left-falls : (n x : ℕ) → left n (x + 1) ≤ left n x
+  left-falls zero x = omega arith
+  left-falls (suc n) x = omega (arith, left-falls n x)
 
+  -- fewer are above one of them
+  left-less : (n i x : ℕ) → i < n → c i ≡ x → left n (x + 1) < left n x
+  left-less zero i x l e = absurd (omega arith)
+  left-less (suc n) i x l e = go (left-less n i x) (decLt i n)
+    where
+      go : (i < n → c i ≡ x → left n (x + 1) < left n x) → Dec (i < n) → left (suc n) (x + 1) < left (suc n) x
+      go f (yes k) = omega (arith, f k e)
+      go f (no k) = let z : i ≡ n = omega arith in omega (arith, left-falls n x, ap c z)
+
+-- the changes of two functions, by a number that falls where they change
+module _ (f g p : ℕ → ℕ) (falls : (x : ℕ) → p (x + 1) ≤ p x) where
+  -- from x on there are p (x + 1) runs at most; one less where the values of x are the same
+  record FewRuns (x : ℕ) (l : List Change) : Type 0 where
+    most : length l ≤ p (x + 1)
+    same : f x ≡ g x → length l ≤ p (x + 1) - 1
+
+  few-runs : ((x : ℕ) → ((f (x + 1) ≡ f x) × (g (x + 1) ≡ g x)) ⊎ (p (x + 1 + 1) < p (x + 1))) → (k x : ℕ) → FewRuns x (changesFrom f g true k x)
+  unfolding changesFrom goesOn
+  few-runs moves zero x = record { most = omega arith; same = λ e. omega arith }
+  few-runs moves (suc k) x =
+      go (eqb (f x) (g x)) refl (moves x) (rw add-one (few-runs moves k (suc x)))
+    where
+      one-more : (t : Bool) (l : List Change) → length (cond t (begunAt x l) (only f g x ∷ l)) ≤ length l + 1
+      one-more true [] = omega arith
+      one-more true (c ∷ l) = omega arith
+      one-more false l = omega arith
+
+      begun : (l : List Change) → length (begunAt x l) ≡ length l
+      begun [] = refl
+      begun (c ∷ l) = refl
+
+      go : {l : List Change} (t : Bool) → eqb (f x) (g x) ≡ t → ((f (x + 1) ≡ f x) × (g (x + 1) ≡ g x)) ⊎ (p (x + 1 + 1) < p (x + 1))
+          → FewRuns (x + 1) l → FewRuns x (cond t l (cond (goesOn f g x) (begunAt x l) (only f g x ∷ l)))
+      go true e (inl (u, v)) h =
+          let m = h .same (u ∙ eqb-true _ _ e ∙ sym v) in
+          record { most = omega (arith, falls (x + 1)); same = λ _. omega (arith, falls (x + 1)) }
+      go true e (inr u) h = record { most = omega (arith, h .most); same = λ _. omega (arith, h .most) }
+      go {l} false e (inl (u, v)) h =
+          rw (eq-eqb _ _ u, eq-eqb _ _ v)
+          (record { most = omega (arith, begun l, h .most, falls (x + 1)); same = λ z. absurd (eqb-false _ _ e z) })
+      go {l} false e (inr u) h =
+          record { most = omega (arith, one-more (goesOn f g x) l, h .most); same = λ z. absurd (eqb-false _ _ e z) }
+
+  few-singles : ((x : ℕ) → (f x ≡ g x) ⊎ (p (x + 1) < p x)) → (k x : ℕ) → length (changesFrom f g false k x) ≤ p x
+  unfolding changesFrom
+  few-singles differ zero x = omega arith
+  few-singles differ (suc k) x = go _ (eqb (f x) (g x)) refl (differ x) (rw add-one (few-singles differ k (suc x)))
+    where
+      go : (l : List Change) (t : Bool) → eqb (f x) (g x) ≡ t → (f x ≡ g x) ⊎ (p (x + 1) < p x) → length l ≤ p (x + 1)
+          → length (cond t l (only f g x ∷ l)) ≤ p x
+      go l true e d h = omega (arith, falls x)
+      go l false e (inl z) h = absurd (eqb-false _ _ e z)
+      go l false e (inr u) h = omega arith
+
+-- of two numbers each may fall; both do not, or their sum does
+both : {A B : Type 0} {a b c d : ℕ} → A ⊎ (a < b) → B ⊎ (c < d) → a ≤ b → c ≤ d → (A × B) ⊎ (a + c < b + d)
+both (inl x) (inl y) h k = inl (x, y)
+both (inl x) (inr y) h k = inr (omega arith)
+both (inr x) y h k = inr (omega arith)
+
+-- the records of a section: how many begin at x or later, and how many end right before x or later
 module _ (s : List ℕ) (section : Section) where
-  -- the edges of the records from i on
-  abbrev edgesFrom : ℕ → ℕ
-  edgesFrom i = edges section (recordCount s section - i)
+  abbrev n : ℕ
+  n = recordCount s section
 
-  -- r is ahead at x, and at most m edges are; the end of a record is one of them
-  record Left (x : ℕ) (r : Ahead) (m : ℕ) : Type 0 where
-    ahead : AheadOf s section x r
-    after : edgesFrom (r .next) ≤ m
-    ends : (r .class ≡ 0 → ⊥) → edgesFrom (r .next) < m
+  abbrev at : ℕ → Range
+  at = recordAt s section
 
-  -- so at a walk's code point x with the place i; in a record, the gap before it is passed
-  record Looked (i x : ℕ) : Type 0 where
-    ahead : Ahead
-    most : ℕ
-    left : Left x ahead most
-    all : most ≤ edgesFrom i
-    begun : (sectionClass s section x ≡ 0 → ⊥) → most + gapEdge section ≤ edgesFrom i
+  abbrev firsts : ℕ → ℕ
+  firsts = left (λ (i : ℕ). at i .first) n
 
-  -- so after e, where r was ahead with m edges: at the end of r there are fewer
-  record Onward (e : ℕ) (r : Ahead) (m : ℕ) : Type 0 where
-    ahead : Ahead
-    most : ℕ
-    left : Left (e + 1) ahead most
-    all : most ≤ m
-    gap : e ≡ r .last → most + gapEdge section ≤ m
-    ends : e ≡ r .last → (r .class ≡ 0 → ⊥) → most < m
+  abbrev afters : ℕ → ℕ
+  afters = left (λ (i : ℕ). at i .last + 1) n
 
-look : {s : List ℕ} {section : Section} {i x : ℕ} → Walk s section i x → x ≤ lastCodePoint → Looked s section i x
-look {s} {section} {i} {x} w h = go (decLt i (recordCount s section))
-  where
-    in-gap : {r : Ahead} → AheadOf s section x r → r .class ≡ 0 → r .next ≡ i → Looked s section i x
-    in-gap {r} f c e =
-        let z = ap (edgesFrom s section) e in
-        record {
-          ahead = r;
-          most = edgesFrom s section i;
-          left = record { ahead = f; after = omega arith; ends = λ d. absurd (d c) };
-          all = omega arith;
-          begun = λ d. absurd (d (f .same x (omega arith) (f .from) ∙ c));
-        }
+  record Edges (x : ℕ) : Type 0 where
+    few-firsts : firsts x ≤ n
+    few-afters : afters x ≤ n
+    firsts-fall : firsts (x + 1) ≤ firsts x
+    afters-fall : afters (x + 1) ≤ afters x
 
-    go : Dec (i < recordCount s section) → Looked s section i x
-    go (no k) = in-gap (ends-ahead w h (omega arith)) refl refl
-    go (yes k) = here (decLt x (recordAt s section i .first))
-      where
-        here : Dec (x < recordAt s section i .first) → Looked s section i x
-        here (yes l) = in-gap (gap-ahead w h k refl l) refl refl
-        here (no l) =
-            let e = edges-next section i (recordCount s section) k in
-            record {
-              ahead = _;
-              most = edgesFrom s section (i + 1) + 1;
-              left = record { ahead = range-ahead w h k refl (omega arith); after = omega arith; ends = λ d. omega arith };
-              all = omega arith;
-              begun = λ d. omega arith;
-            }
+  edges : (x : ℕ) → Edges x
+  edges x = record { few-firsts = left-few _ n x; few-afters = left-few _ n x; firsts-fall = left-falls _ n x; afters-fall = left-falls _ n x }
 
--- after a gap a range has begun
-gap-falls :
-    {s : List ℕ} (section : Section) {x m : ℕ} {r : Ahead} → Left s section x r m → r .last < lastCodePoint
-    → (d : Looked s section (r .next) (r .last + 1)) → d .most + gapEdge section ≤ m
-gap-falls Ranges {x} {m} {r} f l d = go (ℕ-discrete (r .class) 0)
-  where
-    go : Dec (r .class ≡ 0) → d .most + 1 ≤ m
-    go (yes c) = omega (arith, d .begun (λ z. f .ahead .stops l (z ∙ sym c)), f .after)
-    go (no c) = omega (arith, f .ends c, d .all)
-gap-falls Entries f l d = omega (arith, f .after, d .all)
+  -- fewer after an edge
+  abbrev Less : ℕ → Type 0
+  Less x = firsts (x + 1) + afters (x + 1) < firsts x + afters x
 
-module _ {s : List ℕ} {section : Section} {x m : ℕ} {r : Ahead} (f : Left s section x r m) where
-  past : r .last < lastCodePoint → Onward s section (r .last) r m
-  past l =
-      let d = look (f .ahead .next) (omega arith) in
-      record {
-        ahead = d .ahead;
-        most = d .most;
-        left = d .left;
-        all = omega (arith, f .after, d .all);
-        gap = λ z. gap-falls section f l d;
-        ends = λ z c. omega (arith, f .ends c, d .all);
-      }
+  edge-at : {i x : ℕ} → i < n → (at i .first ≡ x) ⊎ (at i .last + 1 ≡ x) → Less x
+  edge-at {i} {x} l (inl e) = omega (arith, left-less (λ (i : ℕ). at i .first) n i x l e, edges x .afters-fall)
+  edge-at {i} {x} l (inr e) = omega (arith, left-less (λ (i : ℕ). at i .last + 1) n i x l e, edges x .firsts-fall)
 
-  onward : (e : ℕ) → x ≤ e → e ≤ r .last → e < lastCodePoint → Onward s section e r m
-  onward e l u v = go (decLt e (r .last))
+  -- where the class changes there is an edge
+  moves : Rising at n → (x : ℕ) → (sectionClass s section (x + 1) ≡ sectionClass s section x) ⊎ Less (x + 1)
+  moves up x = go _ _ (class-cases at n (x + 1)) (class-cases at n x)
     where
-      go : Dec (e < r .last) → Onward s section e r m
-      go (no k) = subst (λ (y : ℕ). Onward s section y r m) (let z : r .last ≡ e = omega arith in z) (past (omega arith))
-      go (yes k) =
-          record {
-            ahead = r;
-            most = m;
-            left = record { ahead = ready (f .ahead) (e + 1) (omega arith) (omega arith) .within (omega arith); after = f .after; ends = f .ends };
-            all = omega arith;
-            gap = λ z. absurd (omega arith);
-            ends = λ z. absurd (omega arith);
-          }
+      go : (c d : ℕ) → HasClass at n (x + 1) c → HasClass at n x d → (c ≡ d) ⊎ Less (x + 1)
+      go _ d (held i l a b) h = here (decLt x (at i .first))
+        where
+          here : Dec (x < at i .first) → (at i .class ≡ d) ⊎ Less (x + 1)
+          here (yes k) = inr (edge-at l (inl (omega arith)))
+          here (no k) = inl (sym (class-held at n up i x l (omega arith) (omega arith)) ∙ class-of at n up x d h)
+      go _ _ (in-none f) (held i l a b) = inr (edge-at l (inr (here (decLt x (at i .last)))))
+        where
+          here : Dec (x < at i .last) → at i .last + 1 ≡ x + 1
+          here (yes k) = absurd (f i l (omega arith) (omega arith))
+          here (no k) = omega arith
+      go _ _ (in-none f) (in-none g) = inl refl
 
--- of two classes that differ, one is not 0
-some-class : {a b : ℕ} → (a ≡ b → ⊥) → (a ≡ 0 → ⊥) ⊎ (b ≡ 0 → ⊥)
-some-class {a} {b} d = go (ℕ-discrete a 0)
-  where
-    go : Dec (a ≡ 0) → (a ≡ 0 → ⊥) ⊎ (b ≡ 0 → ⊥)
-    go (yes c) = inr (λ z. d (c ∙ sym z))
-    go (no c) = inl c
-
-module _ (older newer : List ℕ) (section : Section) where
-  -- how many changes begin at x or later
-  abbrev count : ℕ → ℕ
-  count x = length (restOf section older newer x)
-
-  -- as many as there are edges ahead, at most; where both images have a gap, the first edge begins none
-  record Few (x m : ℕ) : Type 0 where
-    most : count x ≤ m
-    gap : sectionClass older section x ≡ 0 → sectionClass newer section x ≡ 0 → count x ≤ m - gapEdge section
-
-  -- with k code points left
-  abbrev AllFew : ℕ → Type 0
-  AllFew k = (x : ℕ) (a b : Ahead) (m n : ℕ) → codePoints ≤ x + k → Left older section x a m → Left newer section x b n → Few x (m + n)
-
-module _ {older newer : List ℕ} where
-  -- a step is a change, or it is none
-  stepped :
-      {section : Section} {x e : ℕ} {a b : Ahead} (f : AheadOf older section x a) (g : AheadOf newer section x b) → Least f g e
-      → (m : ℕ) → count older newer section (e + 1) ≤ m - gapEdge section
-      → ((a .class ≡ b .class → ⊥) → count older newer section (e + 1) < m) → Few older newer section x m
-  stepped {section} {x} {e} {a} {b} f g l m u v = go (ℕ-discrete (a .class) (b .class))
+  -- where there is a class a record begins, if none that began before holds the number
+  begun : (x : ℕ) → ((i : ℕ) → at i .first ≤ x → x ≤ at i .last → at i .first ≡ x) → (sectionClass s section x ≡ 0) ⊎ (firsts (x + 1) < firsts x)
+  begun x f = go _ (class-cases at n x)
     where
-      go : Dec (a .class ≡ b .class) → Few older newer section x m
-      go (yes z) = let y = ap length (same-step (both-ahead f g e l) z) in record { most = omega arith; gap = λ c d. omega arith }
-      go (no z) =
-          let y = ap length (changed-step section (both-ahead f g e l) z) in
-          record {
-            most = omega (arith, v z);
-            gap = λ c d. absurd (z (sym (f .same x (omega arith) (f .from)) ∙ c ∙ sym d ∙ g .same x (omega arith) (g .from)));
-          }
-
-  -- after a step of ranges there are fewer edges ahead, and after a change
-  gap-less :
-      {section : Section} {e m n : ℕ} {a b : Ahead} (o : Onward older section e a m) (w : Onward newer section e b n)
-      → (e ≡ a .last) ⊎ (e ≡ b .last) → o .most + w .most + gapEdge section ≤ m + n
-  gap-less o w one = ⊎-elim (λ z. omega (arith, o .gap z, w .all)) (λ z. omega (arith, o .all, w .gap z)) one
-
-  change-less :
-      (section : Section) {x e m n : ℕ} {a b : Ahead} (f : Left older section x a m) (g : Left newer section x b n)
-      → Least (f .ahead) (g .ahead) e → x ≤ e → (o : Onward older section e a m) (w : Onward newer section e b n)
-      → (a .class ≡ b .class → ⊥) → o .most + w .most < m + n
-  change-less Ranges f g l k o w d = omega (arith, gap-less o w (l .one))
-  change-less Entries f g l k o w d =
-      ⊎-elim (λ c. omega (arith, o .ends (omega (arith, f .ahead .stops c, l .older-to)) c, w .all))
-      (λ c. omega (arith, o .all, w .ends (omega (arith, g .ahead .stops c, l .newer-to)) c)) (some-class d)
-
-  module _
-      {section : Section} (k : ℕ) (others : AllFew older newer section k) {x : ℕ} {a b : Ahead} {m n : ℕ} (h : codePoints ≤ x + suc k)
-      (f : Left older section x a m) (g : Left newer section x b n) where
-    step : (e : ℕ) → Least (f .ahead) (g .ahead) e → Few older newer section x (m + n)
-    step e l = go (both-ahead (f .ahead) (g .ahead) e l .from) (decLt e lastCodePoint)
-      where
-        go : x ≤ e → Dec (e < lastCodePoint) → Few older newer section x (m + n)
-        go t (no v) =
-            let z = ap length (no-rest section older newer (e + 1) (omega arith)) in
-            stepped (f .ahead) (g .ahead) l (m + n) (omega arith)
-            (λ d. ⊎-elim (λ c. omega (arith, f .ends c)) (λ c. omega (arith, g .ends c)) (some-class d))
-        go t (yes v) =
-            let o = onward f e t (l .older-to) v in
-            let w = onward g e t (l .newer-to) v in
-            let r = others (e + 1) (o .ahead) (w .ahead) (o .most) (w .most) (omega arith) (o .left) (w .left) .most in
-            stepped (f .ahead) (g .ahead) l (m + n) (omega (arith, gap-less o w (l .one))) (λ d. omega (arith, change-less section f g l t o w d))
-
-    few-next : Few older newer section x (m + n)
-    few-next = go (decLt (a .last) (b .last))
-      where
-        go : Dec (a .last < b .last) → Few older newer section x (m + n)
-        go (yes l) = step (a .last) (record { older-to = omega arith; newer-to = omega arith; one = inl refl })
-        go (no l) = step (b .last) (record { older-to = omega arith; newer-to = omega arith; one = inr refl })
-
-all-few : {older newer : List ℕ} {section : Section} (k : ℕ) → AllFew older newer section k
-all-few zero x a b m n h f g = absurd (omega (arith, f .ahead .from, f .ahead .to))
-all-few (suc k) x a b m n h f g = few-next k (all-few k) h f g
+      go : (c : ℕ) → HasClass at n x c → (c ≡ 0) ⊎ (firsts (x + 1) < firsts x)
+      go _ (held i l a b) = inr (left-less (λ (i : ℕ). at i .first) n i x l (f i a b))
+      go _ (in-none g) = inl refl
 
 module _ (older newer : List ℕ) (oa : refusalOf older ≡ none) (na : refusalOf newer ≡ none) where
-  few-edges :
-      (section : Section) → length (changesOf section older newer) ≤ edgesFrom older section 0 + edgesFrom newer section 0 - gapEdge section
-  few-edges section =
-      let z = ap length (whole-list section older newer) in
-      let h = go (ℕ-discrete (sectionClass older section 0) 0) (ℕ-discrete (sectionClass newer section 0) 0) in
-      omega arith
-    where
-      o : Looked older section 0 0
-      o = look (walk-begins older section oa) (omega arith)
-
-      w : Looked newer section 0 0
-      w = look (walk-begins newer section na) (omega arith)
-
-      few : Few older newer section 0 (o .most + w .most)
-      few = all-few codePoints 0 (o .ahead) (w .ahead) (o .most) (w .most) (omega arith) (o .left) (w .left)
-
-      go :
-          Dec (sectionClass older section 0 ≡ 0) → Dec (sectionClass newer section 0 ≡ 0)
-          → count older newer section 0 ≤ edgesFrom older section 0 + edgesFrom newer section 0 - gapEdge section
-      go (yes c) (yes d) = omega (arith, few .gap c d, o .all, w .all)
-      go (yes c) (no d) = omega (arith, few .most, o .all, w .begun d)
-      go (no c) d = omega (arith, few .most, o .begun c, w .all)
-
   -- by the numbers of records
   pub runs-by-records : length (runsOf older newer) ≤ 2 * (recordCount older Ranges + recordCount newer Ranges) - 1
-  runs-by-records = omega (arith, few-edges Ranges)
+  unfolding runsOf rangeClass
+  runs-by-records =
+      let o = edges older Ranges in
+      let w = edges newer Ranges in
+      let few =
+      few-runs _ _ (λ x. firsts older Ranges x + afters older Ranges x + (firsts newer Ranges x + afters newer Ranges x))
+      (λ x. let p = o x in let q = w x in omega arith)
+      (λ x. both (moves older Ranges (records-rise older oa Ranges) x) (moves newer Ranges (records-rise newer na Ranges) x)
+      (let p = o (x + 1) in omega arith) (let q = w (x + 1) in omega arith)) codePoints 0 in
+      let p = o 0 in
+      let q = w 0 in
+      ⊎-elim (λ (a, b). omega (arith, few .same (a ∙ sym b))) (λ l. omega (arith, few .most))
+      (both (begun older Ranges 0 (λ i a b. omega arith)) (begun newer Ranges 0 (λ i a b. omega arith)) (p .firsts-fall) (q .firsts-fall))
 
   pub entries-by-records : length (entriesOf older newer) ≤ recordCount older Entries + recordCount newer Entries
-  entries-by-records = omega (arith, few-edges Entries)
+  unfolding entriesOf
+  entries-by-records =
+      let o = edges older Entries in
+      let w = edges newer Entries in
+      let few =
+      few-singles _ _ (λ x. firsts older Entries x + firsts newer Entries x) (λ x. let p = o x in let q = w x in omega arith)
+      (λ x. ⊎-elim (λ (a, b). inl (entry-role older x ∙ a ∙ sym b ∙ sym (entry-role newer x))) inr
+      (both (begun older Entries x (λ i a b. omega arith)) (begun newer Entries x (λ i a b. omega arith)) (o x .firsts-fall) (w x .firsts-fall)))
+      codePoints 0 in
+      omega (arith, few, o 0 .few-firsts, w 0 .few-firsts)
 
   -- by the limits
   pub runs-by-limits : length (runsOf older newer) ≤ 2 * (maxRanges + maxRanges) - 1
@@ -256,5 +195,5 @@ module _ (older newer : List ℕ) (oa : refusalOf older ≡ none) (na : refusalO
 pub few-changes :
     (section : Section) (older newer : List ℕ) → refusalOf older ≡ none → refusalOf newer ≡ none
     → length (changesOf section older newer) ≤ 2 * (recordCount older section + recordCount newer section) - 1
-few-changes Ranges older newer oa na = omega (arith, runs-by-records older newer oa na)
+few-changes Ranges older newer oa na = runs-by-records older newer oa na
 few-changes Entries older newer oa na = omega (arith, entries-by-records older newer oa na)

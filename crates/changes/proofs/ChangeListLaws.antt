@@ -90,7 +90,7 @@ module _ (f g : ℕ → ℕ) where
   abbrev Covered : List Change → ℕ → Type 0
   Covered l x = (f x ≡ g x → ⊥) → (c : Change) × List·Memᴰ c l × Holds c x
 
-  record Rest (runs : Bool) (x : ℕ) (l : List Change) : Type 0 where
+  pub record Rest (runs : Bool) (x : ℕ) (l : List Change) : Type 0 where
     told : Each (Changed f g) l
     covered : (y : ℕ) → x ≤ y → Covered l y
     begins : Each (λ (c : Change). x ≤ c .first) l
@@ -148,7 +148,7 @@ module _ {f g : ℕ → ℕ} where
         (held-by (c .last + 1) (omega (arith, own .some, each-head (r .begins))) (λ e. own .differ (sym o ∙ e ∙ n)))
 
   -- one more change at the front
-  rest-cons :
+  pub rest-cons :
       {runs : Bool} {c : Change} {l : List Change} → Changed f g c → (runs ≡ true → Has f g c (c .last + 1) → ⊥) → (runs ≡ false → Alone c)
       → Rest f g runs (c .last + 1) l → Rest f g runs (c .first) (c ∷ l)
   rest-cons {c = c} {l = l} h w a r =
@@ -166,6 +166,22 @@ module _ {f g : ℕ → ℕ} where
       go : (y : ℕ) → c .first ≤ y → (f y ≡ g y → ⊥) → Dec (c .last < y) → (d : Change) × List·Memᴰ d (c ∷ l) × Holds d y
       go y u d (yes k) = let (b, m, h) = r .covered y (omega arith) d in (b, List·Memᴰ·tail m, h)
       go y u d (no k) = (c, List·Memᴰ·head refl, record { from = u; to = omega arith })
+
+  -- numbers before x whose two values are equal are in no change
+  pub rest-before : {runs : Bool} {w x : ℕ} {l : List Change} → w ≤ x → ((y : ℕ) → w ≤ y → y < x → f y ≡ g y) → Rest f g runs x l → Rest f g runs w l
+  rest-before {w = w} {x = x} {l = l} u e r =
+      record {
+        told = r .told;
+        covered = λ y v d. go y v d (decLt y x);
+        begins = λ c m. omega (arith, r .begins c m);
+        rises = r .rises;
+        whole = r .whole;
+        alone = r .alone;
+      }
+    where
+      go : (y : ℕ) → w ≤ y → (f y ≡ g y → ⊥) → Dec (y < x) → (c : Change) × List·Memᴰ c l × Holds c y
+      go y v d (yes k) = absurd (d (e y v k))
+      go y v d (no k) = r .covered y (omega arith) d
 
   -- there is one first change, and so one list
   module _ {runs : Bool} where
@@ -192,7 +208,7 @@ module _ {f g : ℕ → ℕ} where
         let v = values-same r s e in
         λ i. record { first = e i; last = u i; older = v .0 i; newer = v .1 i }
 
-    rest-one : {x : ℕ} (l m : List Change) → Rest f g runs x l → Rest f g runs x m → l ≡ m
+    pub rest-one : {x : ℕ} (l m : List Change) → Rest f g runs x l → Rest f g runs x m → l ≡ m
     rest-one [] [] r s = refl
     rest-one [] (d ∷ m) r s = absurd (List·Memᴰ·not-nil (r .covered _ (each-head (s .begins)) (differs (own s)) .1))
     rest-one (c ∷ l) [] r s = absurd (List·Memᴰ·not-nil (s .covered _ (each-head (r .begins)) (differs (own r)) .1))
@@ -209,7 +225,7 @@ module _
     changes-scalar x d true e = refl
     changes-scalar x d false e = absurd (d (f-none x e ∙ sym (g-none x e)))
 
-    is-changed : {c : Change} → c .first ≤ c .last → ((x : ℕ) → Holds c x → Has f g c x) → (c .older ≡ c .newer → ⊥) → Changed f g c
+    pub is-changed : {c : Change} → c .first ≤ c .last → ((x : ℕ) → Holds c x → Has f g c x) → (c .older ≡ c .newer → ⊥) → Changed f g c
     is-changed l h d =
         record {
           some = l;
@@ -232,17 +248,6 @@ module _
 
     -- one more number: its values are the same; or it is a change by itself; or it begins the first change, which has its values
     module _ {runs : Bool} {x : ℕ} where
-      earlier : {l : List Change} → f x ≡ g x → Rest f g runs (x + 1) l → Rest f g runs x l
-      earlier {l} e r =
-          record {
-            told = r .told;
-            covered = λ y u. or-later (Covered f g l) (λ d. absurd (d e)) y u (λ k. r .covered y (omega arith));
-            begins = λ c m. omega (arith, r .begins c m);
-            rises = r .rises;
-            whole = r .whole;
-            alone = r .alone;
-          }
-
       module _ (d : f x ≡ g x → ⊥) where
         added : {l : List Change} → (runs && goesOn f g x) ≡ false → Rest f g runs (x + 1) l → Rest f g runs x (only f g x ∷ l)
         unfolding goesOn
@@ -265,13 +270,14 @@ module _
           {l : List Change} → Rest f g runs (x + 1) l → (t : Bool) → eqb (f x) (g x) ≡ t → (u : Bool) → (runs && goesOn f g x) ≡ u
           → Rest f g runs x (cond t l (cond u (begunAt x l) (only f g x ∷ l)))
       unfolding goesOn
-      with-number r true e u z = earlier (eqb-true _ _ e) r
+      with-number r true e u z =
+          rest-before (omega arith) (λ y l k. let i : x ≡ y = omega arith in rw (← i) (eqb-true _ _ e)) r
       with-number {l} r false e true z =
           let (t, (p, q)) = split runs (eqb (f (x + 1)) (f x) ∷ eqb (g (x + 1)) (g x) ∷ []) z in
           begun (eqb-false _ _ e) l t (eqb-true _ _ p) (eqb-true _ _ q) r
       with-number r false e false z = added (eqb-false _ _ e) z r
 
-    listed : (runs : Bool) (k x : ℕ) → codePoints ≤ x + k → Rest f g runs x (changesFrom f g runs k x)
+    pub listed : (runs : Bool) (k x : ℕ) → codePoints ≤ x + k → Rest f g runs x (changesFrom f g runs k x)
     unfolding changesFrom
     listed runs zero x h = past-all (omega arith)
     listed runs (suc k) x h = with-number (rw add-one (listed runs k (suc x) (omega arith))) _ refl _ refl

@@ -1,11 +1,9 @@
 // The list of what changed between two class images: runs of scalar values whose class in the ranges differs, and profile
 // entries that were added, removed or given another role.
 ghost use mathlib.Core.Path.{_≡_};
-ghost use mathlib.Core.Bool.{not};
 ghost use mathlib.Core.Option.{none};
 ghost use Prim.Native.Nat.{_*_, _≤_};
-ghost use lib.Dec.{eqb};
-ghost use lib.ListN.{length};
+ghost use lib.ListN.{length, take};
 ghost use Rattle.lists.specs.Laid.{laid};
 ghost use Rattle.image.specs.Check.{refusalOf};
 ghost use Rattle.image.specs.declared.records.Section.the-variants.{Ranges, Entries};
@@ -14,7 +12,7 @@ ghost use Rattle.changes.specs.Walked.{changeOf, neededOf};
 use image::records::Section;
 use pair::Judged;
 use pair::walk::CODE_POINTS;
-use pair::walk::Step;
+use pair::walk::Overlap;
 use refusal::Refusal;
 
 // The words of a run and of an entry in their lists.
@@ -40,83 +38,47 @@ fn size_of(section: Section) -> usize
     }
 }
 
-// Whether two classes, or two roles, are a change.
-fn is_change(older: u32, newer: u32) -> bool
-    ensures { λ r. ⌜ r ≡ not (eqb older newer) ⌝ }
-{
-    older != newer
-}
-
-// Writes the change that begins at code point x at the front of a buffer.
-fn put_change(out: &mut [u32], section: Section, x: u32, t: Step)
+// Writes a change at the front of a buffer.
+fn put_change(out: &mut [u32], section: Section, t: Overlap)
     requires { ⌜ changeSize section ≤ length (now out) ⌝ }
-    ensures { λ _. ⌜ now (out .exit) ≡ laid (now (out .entry)) 0 (changeWords section (changeOf x t)) ⌝ }
+    ensures { λ _. ⌜ now (out .exit) ≡ laid (now (out .entry)) 0 (changeWords section (changeOf t)) ⌝ }
 {
     match section {
         Section::Ranges => {
-            out[0] = x;
+            out[0] = t.first;
             out[1] = t.last;
             out[2] = t.older.class;
             out[3] = t.newer.class;
         }
         Section::Entries => {
-            out[0] = x;
+            out[0] = t.first;
             out[1] = t.older.class;
             out[2] = t.newer.class;
         }
     }
 }
 
-// The number of changes in a section of two accepted images.
-fn count_changes(older: &[u8], newer: &[u8], section: Section) -> usize
+// The number of changes in a section of two accepted images. The first `room` of them are written at the front of a buffer.
+fn list_section(older: &[u8], newer: &[u8], section: Section, room: usize, out: &mut [u32]) -> usize
     requires { ⌜ refusalOf (now older) ≡ none ⌝ }
     requires { ⌜ refusalOf (now newer) ≡ none ⌝ }
+    requires { ⌜ changeSize section * room ≤ length (now out) ⌝ }
     ensures { λ r. ⌜ r ≡ length (changesOf section (now (older .entry)) (now (newer .entry))) ⌝ }
+    ensures { λ _. ⌜ now (out .exit) ≡ laid (now (out .entry)) 0 (listWords section (take room (changesOf section (now (older .entry)) (now (newer .entry))))) ⌝ }
 {
-    let n = image::records::count_records(older, section);
-    let m = image::records::count_records(newer, section);
-    let mut x: u32 = 0;
-    let mut a = pair::walk::look_ahead(older, section, n, 0, 0);
-    let mut b = pair::walk::look_ahead(newer, section, m, 0, 0);
-    let mut count: usize = 0;
-    while x < CODE_POINTS {
-        let t = pair::walk::walk_step(older, newer, section, n, m, a, b, x);
-        if is_change(t.older.class, t.newer.class) {
-            count += 1;
-        }
-        a = t.older;
-        b = t.newer;
-        x = t.last + 1;
-    }
-    count
-}
-
-// Writes the list of the changes in a section of two accepted images at the front of a buffer, and gives their number.
-fn write_changes(older: &[u8], newer: &[u8], section: Section, out: &mut [u32]) -> usize
-    requires { ⌜ refusalOf (now older) ≡ none ⌝ }
-    requires { ⌜ refusalOf (now newer) ≡ none ⌝ }
-    requires { ⌜ changeSize section * length (changesOf section (now older) (now newer)) ≤ length (now out) ⌝ }
-    ensures { λ r. ⌜ r ≡ length (changesOf section (now (older .entry)) (now (newer .entry))) ⌝ }
-    ensures { λ _. ⌜ now (out .exit) ≡ laid (now (out .entry)) 0 (listWords section (changesOf section (now (older .entry)) (now (newer .entry)))) ⌝ }
-{
-    let n = image::records::count_records(older, section);
-    let m = image::records::count_records(newer, section);
     let size = size_of(section);
-    let mut x: u32 = 0;
-    let mut a = pair::walk::look_ahead(older, section, n, 0, 0);
-    let mut b = pair::walk::look_ahead(newer, section, m, 0, 0);
+    let mut t = pair::walk::first_overlap(older, newer, section);
     let mut count: usize = 0;
     let mut at: usize = 0;
-    while x < CODE_POINTS {
-        let t = pair::walk::walk_step(older, newer, section, n, m, a, b, x);
-        if is_change(t.older.class, t.newer.class) {
-            put_change(&mut out[at..], section, x, t);
+    while t.first < CODE_POINTS {
+        if t.older.class != t.newer.class {
+            if count < room {
+                put_change(&mut out[at..], section, t);
+                at += size;
+            }
             count += 1;
-            at += size;
         }
-        a = t.older;
-        b = t.newer;
-        x = t.last + 1;
+        t = pair::walk::next_overlap(older, newer, section, t);
     }
     count
 }
@@ -133,7 +95,8 @@ fn count_needed(older: &[u8], newer: &[u8], section: Section, room: usize) -> us
     if n + m <= room / 2 + room % 2 {
         return 0;
     }
-    let count = count_changes(older, newer, section);
+    let mut none: [u32; 0] = [0; 0];
+    let count = list_section(older, newer, section, 0, &mut none);
     if room < count {
         return count;
     }
@@ -156,8 +119,14 @@ fn list_accepted(older: &[u8], newer: &[u8], runs: &mut [u32], entries: &mut [u3
     if entries_needed != 0 {
         return Changes::Refused(Refusal::Room(entries_needed));
     }
-    let r = write_changes(older, newer, Section::Ranges, runs);
-    let e = write_changes(older, newer, Section::Entries, entries);
+    let r = list_section(older, newer, Section::Ranges, runs.len() / RUN_WORDS, runs);
+    let e = list_section(
+        older,
+        newer,
+        Section::Entries,
+        entries.len() / ENTRY_WORDS,
+        entries,
+    );
     Changes::Listed {
         runs: r,
         entries: e,

@@ -1,7 +1,7 @@
 pub mod WalkLaws
 pub mod JudgedLaws
 pub mod ChangeLaws
-pub mod ForbidLaws
+pub mod OverlapLaws
 pub mod RequiredLaws
 pub mod ProfileLaws
 pub mod PairLaws

@@ -1,4 +1,5 @@
--- The permitted changes as a test on class numbers. `proofs/ChangeLaws.antt` joins it to `Permitted` of crate image.
+-- The permitted changes as a test on class numbers (docs/RULES.md, "Permitted changes"). `proofs/ChangeLaws.antt` joins it to `Permitted`
+-- of crate image.
 use Prim.Native.Nat.{ℕ}
 use mathlib.Core.Bool.{Bool, true, false, _||_, cond}
 use lib.Dec.{eqb}

@@ -1,6 +1,6 @@
-pub mod Walk
 pub mod Judged
 pub mod Change
+pub mod Walk
 pub mod Pair
 pub mod Required
 pub mod Means

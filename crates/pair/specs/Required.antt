@@ -1,4 +1,5 @@
--- What the inner functions of the pair check require: two accepted images, and where their profile entries stand.
+-- What the inner functions of the pair check require (docs/RULES.md, "Permitted changes"): two accepted images, and where their profile
+-- entries stand.
 use Prim.Native.Nat.{ℕ, _+_, _*_, _≤_}
 use mathlib.Core.Path.{_≡_}
 use mathlib.Core.List.{List}

@@ -74,25 +74,21 @@ pub fn is_permitted(older: u32, newer: u32) -> bool
     false
 }
 
-// The smallest code point with a forbidden change, or `CODE_POINTS`. The images have n and m ranges.
-fn first_forbidden(older: &[u8], newer: &[u8], n: usize, m: usize) -> u32
-    requires { ⌜ BothAccepted (now older) (now newer) n m ⌝ }
+// The smallest code point with a forbidden change, or `CODE_POINTS`.
+fn first_forbidden(older: &[u8], newer: &[u8]) -> u32
+    requires { ⌜ refusalOf (now older) ≡ none ⌝ }
+    requires { ⌜ refusalOf (now newer) ≡ none ⌝ }
     ensures { λ r. ⌜ r ≡ firstForbidden (now (older .entry)) (now (newer .entry)) ⌝ }
 {
-    let mut x: u32 = 0;
-    let mut a = walk::look_ahead(older, Section::Ranges, n, 0, 0);
-    let mut b = walk::look_ahead(newer, Section::Ranges, m, 0, 0);
-    while x < CODE_POINTS {
-        let t = walk::walk_step(older, newer, Section::Ranges, n, m, a, b, x);
+    let mut t = walk::first_overlap(older, newer, Section::Ranges);
+    while t.first < CODE_POINTS {
         if is_permitted(t.older.class, t.newer.class) {
-            a = t.older;
-            b = t.newer;
-            x = t.last + 1;
+            t = walk::next_overlap(older, newer, Section::Ranges, t);
         } else {
-            return x;
+            return t.first;
         }
     }
-    x
+    t.first
 }
 
 // Whether the profile entries at byte a of one image and at byte b of the other differ.
@@ -149,7 +145,7 @@ fn compare_accepted(older: &[u8], newer: &[u8]) -> Pair
     let n = image::records::count_records(older, Section::Ranges);
     let m = image::records::count_records(newer, Section::Ranges);
     if has_same_profile(older, newer, n, m) {
-        let x = first_forbidden(older, newer, n, m);
+        let x = first_forbidden(older, newer);
         if x < CODE_POINTS {
             return Pair::Refused(Refusal::Change(x as usize));
         }
@@ -165,17 +161,11 @@ pub fn judge_both(older: &[u8], newer: &[u8]) -> Judged
     let first = image::judge(older);
     match first {
         Answer::Refused(r) => Judged::Older(r),
-        Answer::Accepted {
-            version: _,
-            ranges: _,
-        } => {
+        Answer::Accepted { .. } => {
             let second = image::judge(newer);
             match second {
                 Answer::Refused(r) => Judged::Newer(r),
-                Answer::Accepted {
-                    version: _,
-                    ranges: _,
-                } => Judged::Accepted,
+                Answer::Accepted { .. } => Judged::Accepted,
             }
         }
     }

@@ -1,5 +1,5 @@
 -- `changes::count_needed` meets its contract. Assumes nothing.
-use Prim.Native.Nat.{ℕ, _≤_}
+use Prim.Native.Nat.{ℕ}
 use mathlib.Core.Path.{_∙_}
 use native.Mathlib.Omega.{arith}
 use borrow.Author.Needs.{needs}
@@ -15,37 +15,33 @@ use Rattle.changes.proofs.count_needed.Tie as tie
 abbrev changes : tie.Start → ℕ
 changes s = length (changesOf (s .args .section) (s .args .older .now) (s .args .newer .now))
 
--- both counts are small
-few : (c : tie.After-count-records2) → (c .before .count-records .result ≤ 4096) × (c .count-records2 .result ≤ 4096)
-few c =
-    let s = c .before .before .before .before in (
-      omega (arith, c .before .count-records .ensures, few-records _ (s .pre .0) (s .args .section)),
-      omega (arith, c .count-records2 .ensures, few-records _ (s .pre .1) (s .args .section)),
-    )
-
 add-if1 : tie.Need-add-if1
-add-if1 c = let f = few c in omega arith
+add-if1 c =
+    let n = c .before in
+    let s = n .before .before .before in
+    let f = few-records _ (s .pre .0) (s .args .section) in
+    let g = few-records _ (s .pre .1) (s .args .section) in
+    omega (arith, n .count-records .ensures, c .count-records2 .ensures)
 
 returns : tie.Need-returns
 returns c =
     let b = c .before in
     let s = b .before .before .before .before in
     let l = few-changes (s .args .section) _ _ (s .pre .0) (s .pre .1) in
-    let n = b .before .count-records .ensures in
-    let m = b .count-records2 .ensures in
-    let h = c .if1 .taken in
-    needed-none (s .args .room) (changes s) (omega arith)
+    needed-none (s .args .room) (changes s) (omega (arith, b .before .count-records .ensures, b .count-records2 .ensures, c .if1 .taken))
 
 returns-2 : tie.Need-returns-2
 returns-2 c =
-    let s = c .before .before .before .before .before .before .before in
-    let e = c .before .count-changes .ensures in
+    let b = c .before .before in
+    let s = b .before .before .before .before .before .before .before in
+    let e = b .list-section .ensures .0 in
     e ∙ all-needed (s .args .room) (changes s) (omega (arith, c .if2 .taken))
 
 returns-3 : tie.Need-returns-3
 returns-3 c =
-    let s = c .before .before .before .before .before .before .before in
-    let e = c .before .count-changes .ensures in
+    let b = c .before .before in
+    let s = b .before .before .before .before .before .before .before in
+    let e = b .list-section .ensures .0 in
     needed-none (s .args .room) (changes s) (omega (arith, c .if2 .left))
 
 pub count-needed-spec : {M : Type 1} → statement M
@@ -57,6 +53,7 @@ count-needed-spec =
     add-if1
     (λ c. search needs)
     returns
+    (λ c. search needs)
     (λ c κs. search needs)
     returns-2
     returns-3)

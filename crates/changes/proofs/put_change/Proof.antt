@@ -17,12 +17,12 @@ entry-fits c = rw (c .enum-told2 .given .1) at (c .before .before .pre)
 returns : tie.Need-returns
 returns c =
     let a = c .before .before .args in
-    rw (c .enum-told .given .1) (set-four (a .out .now) (a .x) (a .t .last) (a .t .older .class) (a .t .newer .class) (run-fits c))
+    rw (c .enum-told .given .1) (set-four (a .out .now) (a .t .first) (a .t .last) (a .t .older .class) (a .t .newer .class) (run-fits c))
 
 returns-2 : tie.Need-returns-2
 returns-2 c =
     let a = c .before .before .args in
-    rw (c .enum-told2 .given .1) (set-three (a .out .now) (a .x) (a .t .older .class) (a .t .newer .class) (entry-fits c))
+    rw (c .enum-told2 .given .1) (set-three (a .out .now) (a .t .first) (a .t .older .class) (a .t .newer .class) (entry-fits c))
 
 pub put-change-spec : {M : Type 1} → statement M
 put-change-spec =
