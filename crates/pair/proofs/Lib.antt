@@ -2,7 +2,6 @@ pub mod WalkLaws
 pub mod JudgedLaws
 pub mod ChangeLaws
 pub mod OverlapLaws
-pub mod RequiredLaws
 pub mod ProfileLaws
 pub mod PairLaws
 pub mod LimitLaws

@@ -2,5 +2,4 @@ pub mod Judged
 pub mod Change
 pub mod Walk
 pub mod Pair
-pub mod Required
 pub mod Means

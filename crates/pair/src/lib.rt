@@ -1,22 +1,13 @@
 // The pair check of two class images: whether the newer differs from the older only by permitted changes.
 ghost use mathlib.Core.Path.{_≡_};
 ghost use mathlib.Core.Option.{none};
-ghost use Prim.Native.Nat.{_+_, _≤_};
-ghost use lib.ListN.{length};
-ghost use Rattle.image.specs.Limits.{entryBytes};
 ghost use Rattle.image.specs.Check.{refusalOf};
 ghost use Rattle.pair.specs.Change.{isContinueClass, permitted};
-ghost use Rattle.pair.specs.Pair.{firstForbidden, sameEntries, sameProfile, comparedOf, pairOf};
+ghost use Rattle.pair.specs.Pair.{firstForbidden, sameProfile, comparedOf, pairOf};
 ghost use Rattle.pair.specs.Judged.{judgedBy};
-ghost use Rattle.pair.specs.Required.{BothAccepted, EntriesFrom, wordsDiffer};
 use image::Answer;
-use image::ENTRY_BYTES;
-use image::ENTRY_COUNT_AT;
-use image::HEADER_BYTES;
 use image::NONSTART;
 use image::OTHER;
-use image::RANGE_BYTES;
-use image::ROLE_AT;
 use image::START;
 use image::UNASSIGNED;
 use image::records::Section;
@@ -91,49 +82,29 @@ fn first_forbidden(older: &[u8], newer: &[u8]) -> u32
     t.first
 }
 
-// Whether the profile entries at byte a of one image and at byte b of the other differ.
-fn entries_differ(older: &[u8], newer: &[u8], a: usize, b: usize) -> bool
-    requires { ⌜ (a + entryBytes ≤ length (now older)) × (b + entryBytes ≤ length (now newer)) ⌝ }
-    ensures { λ r. ⌜ r ≡ wordsDiffer (now (older .entry)) (now (newer .entry)) a b ⌝ }
+// Whether the profile sections of two accepted images are the same.
+fn has_same_profile(older: &[u8], newer: &[u8]) -> bool
+    requires { ⌜ refusalOf (now older) ≡ none ⌝ }
+    requires { ⌜ refusalOf (now newer) ≡ none ⌝ }
+    ensures { λ r. ⌜ r ≡ sameProfile (now (older .entry)) (now (newer .entry)) ⌝ }
 {
-    if image::word(older, a) != image::word(newer, b) {
-        return true;
+    let count = image::records::count_records(older, Section::Entries);
+    if image::records::count_records(newer, Section::Entries) != count {
+        return false;
     }
-    image::word(older, a + ROLE_AT) != image::word(newer, b + ROLE_AT)
-}
-
-// Whether the profile entries, `count` from byte a of one image and from byte b of the other, are the same.
-fn are_entries_same(older: &[u8], newer: &[u8], a: usize, b: usize, count: usize) -> bool
-    requires { ⌜ EntriesFrom (now older) a count ⌝ }
-    requires { ⌜ EntriesFrom (now newer) b count ⌝ }
-    ensures { λ r. ⌜ r ≡ sameEntries (now (older .entry)) (now (newer .entry)) count ⌝ }
-{
     let mut i: usize = 0;
     while i < count {
-        if entries_differ(older, newer, a + ENTRY_BYTES * i, b + ENTRY_BYTES * i) {
+        let p = image::records::record_at(older, Section::Entries, i);
+        let q = image::records::record_at(newer, Section::Entries, i);
+        if p.first != q.first {
+            return false;
+        }
+        if p.class != q.class {
             return false;
         }
         i += 1;
     }
     true
-}
-
-// Whether the profile sections are the same, in images with n and m ranges.
-fn has_same_profile(older: &[u8], newer: &[u8], n: usize, m: usize) -> bool
-    requires { ⌜ BothAccepted (now older) (now newer) n m ⌝ }
-    ensures { λ r. ⌜ r ≡ sameProfile (now (older .entry)) (now (newer .entry)) ⌝ }
-{
-    let count = image::word(older, ENTRY_COUNT_AT) as usize;
-    if image::word(newer, ENTRY_COUNT_AT) as usize != count {
-        return false;
-    }
-    are_entries_same(
-        older,
-        newer,
-        HEADER_BYTES + RANGE_BYTES * n,
-        HEADER_BYTES + RANGE_BYTES * m,
-        count,
-    )
 }
 
 // The pair check of two accepted images.
@@ -142,9 +113,7 @@ fn compare_accepted(older: &[u8], newer: &[u8]) -> Pair
     requires { ⌜ refusalOf (now newer) ≡ none ⌝ }
     ensures { λ r. ⌜ r ≡ comparedOf (now (older .entry)) (now (newer .entry)) ⌝ }
 {
-    let n = image::records::count_records(older, Section::Ranges);
-    let m = image::records::count_records(newer, Section::Ranges);
-    if has_same_profile(older, newer, n, m) {
+    if has_same_profile(older, newer) {
         let x = first_forbidden(older, newer);
         if x < CODE_POINTS {
             return Pair::Refused(Refusal::Change(x as usize));

@@ -25,12 +25,4 @@ returns-3 c = simp (sym (c .before .has-same-profile .ensures) ∙ c .if1 .left)
 pub compare-accepted-spec : {M : Type 1} → statement M
 compare-accepted-spec =
     tie.close
-    (tie.spec
-    (λ c κs. search needs)
-    (λ c κs. search needs)
-    (λ c κs. search needs)
-    (λ c κs. search needs)
-    (λ c. search needs)
-    returns
-    returns-2
-    returns-3)
+    (tie.spec (λ c κs. search needs) (λ c κs. search needs) (λ c. search needs) returns returns-2 returns-3)

@@ -1,60 +1,78 @@
--- `pair::has_same_profile` meets its contract. Assumes nothing.
+-- `pair::has_same_profile` meets its contract. The invariant: the entries before i are the same. Assumes nothing.
+use Prim.Native.Nat.{_-_}
 use mathlib.Core.Path.{sym, _∙_}
 use native.Mathlib.Omega.{arith}
-use borrow.Author.Tests.{eq-eqb, ne-eqb}
-use Rattle.pair.specs.Pair.{sameProfile}
-use Rattle.pair.proofs.RequiredLaws.{fill, entries-begin}
 use borrow.Author.Needs.{needs}
+use borrow.Author.Tests.{ne-eqb}
+use Rattle.pair.specs.Pair.{sameProfile}
+use Rattle.pair.proofs.ProfileLaws.{SameTo, all-same, point-differs, role-differs, same-next}
 use Rattle.pair.proofs.has_same_profile.Statement.{statement}
 use Rattle.pair.proofs.has_same_profile.Tie as tie
 
-word-requires : tie.Need-word-requires
-word-requires c κs = let h = fill (c .before .before .pre) in omega arith
+abbrev Inv-loop : tie.InvT-loop
+Inv-loop older newer count i₀ i = SameTo older newer count i
 
-word-requires-2 : tie.Need-word-requires-2
-word-requires-2 c κs = let h = fill (c .before .before .before .pre) in omega arith
+abbrev μ-loop : tie.MeasureT-loop
+μ-loop older newer count i₀ i = count - i
 
-returns : tie.Need-returns
+returns : tie.Need-returns Inv-loop μ-loop
 unfolding sameProfile
-returns c = simp (← c .before .before .word .ensures, ← c .before .word2 .ensures, ne-eqb _ _ (c .if1 .taken))
+returns c = sym (simp (← c .before .before .count-records .ensures, ← c .before .count-records2 .ensures, ne-eqb _ _ (c .if1 .taken)))
 
-mul-are-entries-same : tie.Need-mul-are-entries-same
-mul-are-entries-same c = let h = fill (c .before .before .before .before .before .pre) in omega arith
+loop-holds : tie.Need-loop-holds Inv-loop μ-loop
+loop-holds c =
+    record {
+      older-count = c .before .before .count-records .ensures;
+      newer-count = sym (c .if1 .left) ∙ c .before .count-records2 .ensures;
+      within = omega arith;
+      same = λ k l. absurd (omega arith);
+    }
 
-add-are-entries-same : tie.Need-add-are-entries-same
-add-are-entries-same c = let h = fill (c .before .before .before .before .before .pre) in omega arith
+record-at-requires : tie.Need-record-at-requires Inv-loop μ-loop
+record-at-requires c κs = (c .before .before .before .before .before .before .before .pre .0, omega arith)
 
-mul-are-entries-same-2 : tie.Need-mul-are-entries-same-2
-mul-are-entries-same-2 c = let h = fill (c .before .before .before .before .before .pre) in omega arith
+record-at-requires-2 : tie.Need-record-at-requires-2 Inv-loop μ-loop
+record-at-requires-2 c κs = (c .before .before .before .before .before .before .before .before .pre .1, omega arith)
 
-add-are-entries-same-2 : tie.Need-add-are-entries-same-2
-add-are-entries-same-2 c = let h = fill (c .before .before .before .before .before .pre) in omega arith
-
-are-entries-same-requires : tie.Need-are-entries-same-requires
-are-entries-same-requires c κs =
-    let h = c .before .before .before .before .before .pre in (
-      entries-begin _ _ _ (h .older-accepted) (h .older-ranges) (c .before .before .word .ensures),
-      entries-begin _ _ _ (h .newer-accepted) (h .newer-ranges) (sym (c .if1 .left) ∙ c .before .word2 .ensures),
-    )
-
-returns-2 : tie.Need-returns-2
-unfolding sameProfile
+returns-2 : tie.Need-returns-2 Inv-loop μ-loop
 returns-2 c =
-    let b = c .before .before in
-    c .are-entries-same .ensures ∙ simp (← b .before .word .ensures, ← b .word2 .ensures, eq-eqb _ _ (c .before .if1 .left))
+    let q = c .before .before .before in
+    let p = q .before in
+    let h = p .before in
+    point-differs (h .before .loop .inv) (p .record-at .ensures) (q .record-at2 .ensures) (h .loop-test .taken) (c .if2 .taken)
+
+returns-3 : tie.Need-returns-3 Inv-loop μ-loop
+returns-3 c =
+    let q = c .before .before .before .before .before .before in
+    let p = q .before in
+    let h = p .before in
+    role-differs (h .before .loop .inv) (p .record-at .ensures) (q .record-at2 .ensures) (h .loop-test .taken) (c .if3 .taken)
+
+loop-again : tie.Need-loop-again Inv-loop μ-loop
+loop-again c =
+    let q = c .before .before .before .before .before .before in
+    let p = q .before in
+    let h = p .before in
+    same-next (h .before .loop .inv) (p .record-at .ensures) (q .record-at2 .ensures) (h .loop-test .taken) (c .before .before .before .if2 .left) (c .if3 .left)
+
+returns-4 : tie.Need-returns-4 Inv-loop μ-loop
+returns-4 c = all-same (c .before .loop .inv) (c .loop-test .left)
 
 pub has-same-profile-spec : {M : Type 1} → statement M
 has-same-profile-spec =
     tie.close
     (tie.spec
-    word-requires
-    (λ c. search needs)
-    word-requires-2
-    (λ c. search needs)
+    Inv-loop
+    μ-loop
+    (λ c κs. search needs)
+    (λ c κs. search needs)
     returns
-    mul-are-entries-same
-    add-are-entries-same
-    mul-are-entries-same-2
-    add-are-entries-same-2
-    are-entries-same-requires
-    returns-2)
+    loop-holds
+    record-at-requires
+    record-at-requires-2
+    returns-2
+    returns-3
+    (λ c. omega arith)
+    (λ c. omega arith)
+    loop-again
+    returns-4)
