@@ -26,7 +26,7 @@ fn show(name: &[u8], k: Checked) {
 }
 
 fn run_m() {
-    let mut image = build::m();
+    let mut image = build::changed(build::ZERO, 0);
     show(b"M", image::check(&image));
     build::put(&mut image, 3, 357913942);
     show(b"12n = 2^32 + 8, total length 100", image::check(&image));

@@ -1,6 +1,7 @@
-// Runs the calls on the cases of docs/CASES.md and at the edges of the rules.
+// Runs the calls on the cases of docs/CASES.md and at the edges of its rules, and prints answers as the listers do.
 ghost use Prim.Native.Nat.{_≤_};
 
+mod answers;
 mod build;
 mod checks;
 mod encodings;
@@ -34,6 +35,16 @@ pub(crate) fn print_bytes(s: &[u8], columns: usize)
     }
 }
 
+// Words in hex of four digits or more, `columns` to a line.
+pub(crate) fn print_words(s: &[u32], columns: usize)
+    requires { ⌜ 1 ≤ columns ⌝ }
+{
+    for i in 0..s.len() {
+        printing::print_hex(s[i], 4);
+        print_gap(i, columns);
+    }
+}
+
 fn main() {
     sequences::run();
     encodings::run();
@@ -41,4 +52,5 @@ fn main() {
     lookups::run();
     writes::run();
     pairs::run();
+    answers::run();
 }

@@ -1,14 +1,12 @@
 // Runs the pair check on images M and M2 of docs/CASES.md, and on images made of them by changing a byte.
-use crate::build::changed;
-use crate::build::changed2;
-use crate::build::m;
-use crate::build::m2;
-use crate::build::short_m;
+ghost use Prim.Native.Nat.{_<_, _≤_};
+use crate::build::M;
+use crate::build::M2;
+use crate::build::ZERO;
 use pair::Pair;
 
-// Prints the answer of the pair check.
-fn show(older: &[u8], newer: &[u8]) {
-    match pair::check_pair(older, newer) {
+fn print_pair(p: Pair) {
+    match p {
         Pair::Older(r) => {
             printing::print_text(b"older ");
             printing::print_refusal(r);
@@ -25,39 +23,37 @@ fn show(older: &[u8], newer: &[u8]) {
     printing::print_text(b"\n");
 }
 
-// M and M2; another version; E9 Other instead of Start; 30 to 39 Start instead of Nonstart; 20 Syntax instead of White.
-fn show_changes() {
-    show(&m(), &m2());
-    show(&m2(), &m());
-    show(&m(), &changed(4, 1));
-    show(&m(), &changed2(100, 5));
-    show(&changed2(100, 5), &m());
-    show(&changed2(100, 5), &m2());
-    show(&m2(), &changed2(100, 5));
-    show(&m(), &changed(64, 1));
-    show(&changed(64, 1), &m());
-    show(&m2(), &changed(40, 3));
-}
-
-// Another role, and another code point, of the profile entry.
-fn show_profiles() {
-    show(&m(), &changed(96, 1));
-    show(&changed(92, 45), &m2());
-    show(&changed(92, 45), &changed2(104, 45));
-}
-
-// A bad length, header, range and profile entry, of the older image and of the newer.
-fn show_refused() {
-    show(&short_m(), &changed(0, 2));
-    show(&changed(52, 6), &short_m());
-    show(&m(), &changed(0, 2));
-    show(&m(), &changed(52, 6));
-    show(&m2(), &changed(96, 6));
-    show(&m2(), &short_m());
+// The answer for the first `size` bytes of M or M2 with a byte at a place, and those of another such image.
+fn show(size: usize, at: usize, byte: u8, size2: usize, at2: usize, byte2: u8)
+    requires { ⌜ (size ≤ 112) × (at < 112) ⌝ }
+    requires { ⌜ (size2 ≤ 112) × (at2 < 112) ⌝ }
+{
+    let older = crate::build::made(size, at, byte);
+    let newer = crate::build::made(size2, at2, byte2);
+    print_pair(pair::check_pair(&older[..size], &newer[..size2]));
 }
 
 pub fn run() {
-    show_changes();
-    show_profiles();
-    show_refused();
+    // M and M2; another version; E9 Other instead of Start; 30 to 39 Start instead of Nonstart; 20 Syntax instead of White.
+    show(M, ZERO, 0, M2, ZERO, 0);
+    show(M2, ZERO, 0, M, ZERO, 0);
+    show(M, ZERO, 0, M, 4, 1);
+    show(M, ZERO, 0, M2, 100, 5);
+    show(M2, 100, 5, M, ZERO, 0);
+    show(M2, 100, 5, M2, ZERO, 0);
+    show(M2, ZERO, 0, M2, 100, 5);
+    show(M, ZERO, 0, M, 64, 1);
+    show(M, 64, 1, M, ZERO, 0);
+    show(M2, ZERO, 0, M, 40, 3);
+    // Another role, and another code point, of the profile entry.
+    show(M, ZERO, 0, M, 96, 1);
+    show(M, 92, 45, M2, ZERO, 0);
+    show(M, 92, 45, M2, 104, 45);
+    // A bad length, header, range and profile entry, of the older image and of the newer.
+    show(M - 1, ZERO, 0, M, 0, 2);
+    show(M, 52, 6, M - 1, ZERO, 0);
+    show(M, ZERO, 0, M, 0, 2);
+    show(M, ZERO, 0, M, 52, 6);
+    show(M2, ZERO, 0, M, 96, 6);
+    show(M2, ZERO, 0, M - 1, ZERO, 0);
 }

@@ -31,91 +31,43 @@ fn show(s: &[u8]) {
     }
 }
 
-// Rows of one and two bytes, and just outside them.
-fn short_rows() {
-    show(b"");
-    show(b"\x00");
-    show(b"\x7F");
-    show(b"\x80");
-    show(b"\xC0\x80");
-    show(b"\xC1\xBF");
-    show(b"\xC2\x7F");
-    show(b"\xC2\x80");
-    show(b"\xDF\xBF");
-    show(b"\xDF\xC0");
-    show(b"\xC2");
-}
-
-// Rows of three bytes, and just outside them.
-fn rows_of_three() {
-    show(b"\xE0\x9F\xBF");
-    show(b"\xE0\xA0\x7F");
-    show(b"\xE0\xA0\x80");
-    show(b"\xE0\xBF\xBF");
-    show(b"\xE0\xBF\xC0");
-    show(b"\xE1\x7F\x80");
-    show(b"\xE1\x80\x80");
-    show(b"\xEC\xBF\xBF");
-    show(b"\xEC\xC0\x80");
-    show(b"\xED\x7F\x80");
-    show(b"\xED\x80\x80");
-    show(b"\xED\x9F\xBF");
-    show(b"\xED\xA0\x80");
-    show(b"\xEE\x7F\xBF");
-    show(b"\xEE\x80\x80");
-    show(b"\xEF\xBF\xBF");
-    show(b"\xEF\xC0\x80");
-    show(b"\xE2\x82");
-}
-
-// Rows of four bytes, and just outside them.
-fn rows_of_four() {
-    show(b"\xF0\x8F\xBF\xBF");
-    show(b"\xF0\x90\x80\x80");
-    show(b"\xF0\xBF\xBF\xBF");
-    show(b"\xF0\xC0\x80\x80");
-    show(b"\xF1\x7F\x80\x80");
-    show(b"\xF1\x80\x80\x80");
-    show(b"\xF1\x80\x7F\x80");
-    show(b"\xF3\xBF\xBF\xBF");
-    show(b"\xF3\xBF\xBF\xC0");
-    show(b"\xF4\x80\x80\x80");
-    show(b"\xF4\x8F\xBF\xBF");
-    show(b"\xF4\x90\x80\x80");
-    show(b"\xF5\x80\x80\x80");
-    show(b"\xFF\xBF\xBF\xBF");
-    show(b"\xF0\x90\x80");
-}
-
-// Maximal subparts of one, two and three bytes, at the end and before a byte that does not go on.
-fn subparts() {
-    show(b"\xC0");
-    show(b"\xC0\xA9");
-    show(b"\xFF");
-    show(b"\xE0\x80");
-    show(b"\xED\xA0");
-    show(b"\xF0\x8F");
-    show(b"\xF4\x90");
-    show(b"\xE2\x82A");
-    show(b"\xE1\x80\xE1");
-    show(b"\xF0\x9F");
-    show(b"\xF0\x9F\x98");
-    show(b"\xF0\x9F\x98A");
-}
-
-// Texts whose ill-formed place is not the first.
-fn texts() {
-    show(b"setting");
-    show(b"a\xC3\xA9\xE2\x82");
-    show(b"a\xED\xA0\x80");
-    show(b"\xF0\x9E\xA4\x80\xC4\x85\xFFb");
-    show(b"0123456789abcdef\xC0\x80");
+// Each sequence of a list, in which a space stands after each.
+fn show_each(list: &[u8]) {
+    let mut start = 0;
+    for i in 0..list.len() {
+        if list[i] == b' ' {
+            show(&list[start..i]);
+            start = i + 1;
+        }
+    }
 }
 
 pub fn run() {
-    short_rows();
-    rows_of_three();
-    rows_of_four();
-    subparts();
-    texts();
+    // Rows of one and two bytes, and just outside them.
+    show_each(b" \x00 \x7F \x80 \xC0\x80 \xC1\xBF \xC2\x7F \xC2\x80 \xDF\xBF \xDF\xC0 \xC2 ");
+    // Rows of three bytes, and just outside them.
+    show_each(
+        b"\xE0\x9F\xBF \xE0\xA0\x7F \xE0\xA0\x80 \xE0\xBF\xBF \xE0\xBF\xC0 \xE1\x7F\x80 \xE1\x80\x80 ",
+    );
+    show_each(
+        b"\xEC\xBF\xBF \xEC\xC0\x80 \xED\x7F\x80 \xED\x80\x80 \xED\x9F\xBF \xED\xA0\x80 \xEE\x7F\xBF ",
+    );
+    show_each(b"\xEE\x80\x80 \xEF\xBF\xBF \xEF\xC0\x80 \xE2\x82 ");
+    // Rows of four bytes, and just outside them.
+    show_each(
+        b"\xF0\x8F\xBF\xBF \xF0\x90\x80\x80 \xF0\xBF\xBF\xBF \xF0\xC0\x80\x80 \xF1\x7F\x80\x80 ",
+    );
+    show_each(
+        b"\xF1\x80\x80\x80 \xF1\x80\x7F\x80 \xF3\xBF\xBF\xBF \xF3\xBF\xBF\xC0 \xF4\x80\x80\x80 ",
+    );
+    show_each(b"\xF4\x8F\xBF\xBF \xF4\x90\x80\x80 \xF5\x80\x80\x80 \xFF\xBF\xBF\xBF \xF0\x90\x80 ");
+    // Maximal subparts of one, two and three bytes, at the end and before a byte that does not go on.
+    show_each(
+        b"\xC0 \xC0\xA9 \xFF \xE0\x80 \xED\xA0 \xF0\x8F \xF4\x90 \xE2\x82A \xE1\x80\xE1 \xF0\x9F ",
+    );
+    show_each(b"\xF0\x9F\x98 \xF0\x9F\x98A ");
+    // Texts whose ill-formed place is not the first.
+    show_each(
+        b"setting a\xC3\xA9\xE2\x82 a\xED\xA0\x80 \xF0\x9E\xA4\x80\xC4\x85\xFFb 0123456789abcdef\xC0\x80 ",
+    );
 }

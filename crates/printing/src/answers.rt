@@ -1,12 +1,10 @@
 // What the two listers print: the lines of an answer, by the words that it comes with.
-ghost use mathlib.Core.Path.{_≡_};
-ghost use Prim.Native.Nat.{ℕ, _+_, _*_, _≤_};
+ghost use Prim.Native.Nat.{_+_, _*_, _≤_};
 ghost use lib.ListN.{length};
 ghost use Rattle.grammar.specs.Record.{recordSize};
-ghost use Rattle.grammar.specs.declared.Counted.the-variants.{Records};
 ghost use Rattle.image.specs.declared.records.Section.the-variants.{Ranges, Entries};
 ghost use Rattle.changes.specs.Answer.{changeSize};
-ghost use Rattle.changes.specs.declared.Changes.the-variants.{Listed};
+ghost use Rattle.printing.specs.Fits.{TokensFit, ChangesFit};
 use changes::Changes;
 use changes::ENTRY_WORDS;
 use changes::RUN_WORDS;
@@ -74,7 +72,7 @@ fn print_tokens(words: &[u32], count: usize)
 
 // The token lister's answer.
 pub fn print_listing(answer: Counted, words: &[u32])
-    requires { ⌜ ((n : ℕ) → answer ≡ Records n → recordSize * n ≤ length (now words)) ⌝ }
+    requires { ⌜ TokensFit answer (now words) ⌝ }
 {
     match answer {
         Counted::Refused(r) => print_refused(b"", r),
@@ -112,7 +110,7 @@ fn print_changes(runs: &[u32], n: usize, entries: &[u32], m: usize)
 
 // The change lister's answer.
 pub fn print_change_listing(answer: Changes, runs: &[u32], entries: &[u32])
-    requires { ⌜ ((n m : ℕ) → answer ≡ Listed n m → (changeSize Ranges * n ≤ length (now runs)) × (changeSize Entries * m ≤ length (now entries))) ⌝ }
+    requires { ⌜ ChangesFit answer (now runs) (now entries) ⌝ }
 {
     match answer {
         Changes::Older(r) => print_refused(b" older", r),

@@ -2,12 +2,15 @@
 use mathlib.Core.Path.{sym, _∙_}
 use native.Mathlib.Omega.{arith}
 use Rattle.input.proofs.ScriptLaws.{listing-fits}
+use Rattle.printing.proofs.FitsLaws.{tokens-fit}
 use borrow.Author.Needs.{needs}
 use Rattle.lister.proofs.main.Statement.{statement}
 use Rattle.lister.proofs.main.Tie as tie
 
 print-listing-requires : tie.Need-print-listing-requires
-print-listing-requires c κs = λ n e. omega (arith, listing-fits _ _ n (sym e ∙ c .before .before .list-read .ensures .0))
+print-listing-requires c κs =
+    let l = c .before .before .list-read .ensures in
+    tokens-fit _ _ (λ n e. let f = listing-fits _ _ n (sym e ∙ l .0) in omega arith)
 
 pub main-spec : {M : Type 1} → statement M
 main-spec =

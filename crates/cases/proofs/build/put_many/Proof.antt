@@ -7,34 +7,10 @@ use Rattle.cases.proofs.build.put_many.Statement.{statement}
 use Rattle.cases.proofs.build.put_many.Tie as tie
 
 abbrev Inv-loop : tie.InvT-loop
-Inv-loop image₀ n i₀ image i = (i ≤ n) × (length image ≡ length image₀)
+Inv-loop image₀ n size i₀ image i = (i ≤ n) × (length image ≡ length image₀)
 
 abbrev μ-loop : tie.MeasureT-loop
-μ-loop image₀ n i₀ image i = n - i
-
-put-header-requires : tie.Need-put-header-requires Inv-loop μ-loop
-put-header-requires c κs = search needs
-
-loop-holds : tie.Need-loop-holds Inv-loop μ-loop
-loop-holds c = search needs
-
-put-point-requires : tie.Need-put-point-requires Inv-loop μ-loop
-put-point-requires c κs = search needs
-
-add-i : tie.Need-add-i Inv-loop μ-loop
-add-i c = search needs
-
-loop-less : tie.Need-loop-less Inv-loop μ-loop
-loop-less c = search needs
-
-loop-again : tie.Need-loop-again Inv-loop μ-loop
-loop-again c = search needs
-
-same-length : tie.Need-same-length Inv-loop μ-loop
-same-length c = search needs
-
-returns : tie.Need-returns Inv-loop μ-loop
-returns c = search needs
+μ-loop image₀ n size i₀ image i = n - i
 
 pub put-many-spec : {M : Type 1} → statement M
 put-many-spec =
@@ -42,11 +18,21 @@ put-many-spec =
     (tie.spec
     Inv-loop
     μ-loop
-    put-header-requires
-    loop-holds
-    put-point-requires
-    add-i
-    loop-less
-    loop-again
-    same-length
-    returns)
+    (λ c. search needs)
+    (λ c. search needs)
+    (λ c. search needs)
+    (λ c κs. search needs)
+    (λ c. search needs)
+    (λ c. search needs)
+    (λ c. search needs)
+    (λ c. search needs)
+    (λ c. search needs)
+    (λ c. search needs)
+    (λ c. search needs)
+    (λ c. search needs)
+    (λ c κs. search needs)
+    (λ c. search needs)
+    (λ c. search needs)
+    (λ c. search needs)
+    (λ c. search needs)
+    (λ c. search needs))

@@ -17,7 +17,7 @@ print-change-listing-spec =
     (λ c. search needs)
     (λ c κs. search needs)
     (λ c. search needs)
-    (λ c κs. c .before .before .before .before .before .pre _ _ (c .before .answer4 .given .1))
+    (λ c κs. rw (c .before .answer4 .given .1) at (c .before .before .before .before .before .pre))
     (λ c. search needs)
     (λ c. search needs)
     (λ c. search needs)

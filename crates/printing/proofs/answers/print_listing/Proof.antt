@@ -11,6 +11,6 @@ print-listing-spec =
     (λ c. search needs)
     (λ c κs. search needs)
     (λ c. search needs)
-    (λ c κs. c .before .before .before .before .pre _ (c .before .answer2 .given .1))
+    (λ c κs. rw (c .before .answer2 .given .1) at (c .before .before .before .before .pre))
     (λ c. search needs)
     (λ c. search needs))
