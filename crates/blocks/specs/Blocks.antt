@@ -1,3 +1,4 @@
+-- Inner: no public statement cites this file.
 -- What is known of the code points that a text has: blocks of 64 code points below U+40000, each with a row of cells. No public
 -- contract cites these definitions: the readers of long texts do.
 use Prim.Native.Nat.{ℕ, _+_, _*_, _/_, _%_, _≤_, _<_}

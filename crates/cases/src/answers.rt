@@ -10,7 +10,10 @@ fn show_tokens() {
     print_listing(Counted::Records(0), &[]);
     print_listing(Counted::Records(2), &[1, 0, 5, 1, 2, 5, 6, 1]);
     print_listing(Counted::Records(2), &[3, 6, 8, 1, 4, 8, 10, 1]);
-    print_listing(Counted::Records(1), &[5, 4294967293, 4294967294, 4294967295]);
+    print_listing(
+        Counted::Records(1),
+        &[5, 4294967293, 4294967294, 4294967295],
+    );
 }
 
 fn show(r: Refusal) {

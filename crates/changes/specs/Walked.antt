@@ -1,3 +1,4 @@
+-- Inner: no public statement cites this file.
 -- A change as the walk over two images finds it, and the room that changes need, for the inner functions (docs/RULES.md, "What changed").
 use Prim.Native.Nat.{ℕ}
 use mathlib.Core.Bool.{cond}

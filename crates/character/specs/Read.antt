@@ -1,3 +1,4 @@
+-- Inner: no public statement cites this file.
 -- The traits of characters (docs/RULES.md, "The class image" and "Tokens") without a search for each: a memo, a table for ASCII, and what
 -- reading a character gives.
 use Prim.Native.Nat.{ℕ, _/_, _%_, _≤_, _<_}

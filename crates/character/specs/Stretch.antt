@@ -1,3 +1,4 @@
+-- Inner: no public statement cites this file.
 -- Stretches of code points that have one class in the ranges, or one role in the profile (docs/RULES.md, "The class image"), or one
 -- kind of White ("Tokens").
 use Prim.Native.Nat.{ℕ, _≤_}

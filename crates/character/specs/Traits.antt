@@ -1,3 +1,4 @@
+-- Inner: no public statement cites this file.
 -- What is known of a code point, as one number (docs/RULES.md, "The class image", roles, and "Tokens").
 use Prim.Native.Nat.{ℕ, _+_}
 use mathlib.Core.Bool.{Bool, true, false, cond}

@@ -1,3 +1,4 @@
+-- Inner: no public statement cites this file.
 -- How far a count has come, and what its parts give. No public contract of a call cites these definitions: those of the readers of
 -- texts do.
 use Prim.Native.Nat.{ℕ, _+_, _≤_, _<_}

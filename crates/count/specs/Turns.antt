@@ -1,3 +1,4 @@
+-- Inner: no public statement cites this file.
 -- The states and turns of counting on numbers (docs/RULES.md, "Tokens" and "Direction marks"). `proofs/BesideTurnLaws.antt` and
 -- `proofs/CountLaws.antt` join them to the steps of `grammar` and to its local test of marks.
 use Prim.Native.Nat.{ℕ, zero, suc, _+_}

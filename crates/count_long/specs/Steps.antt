@@ -1,3 +1,4 @@
+-- Inner: no public statement cites this file.
 -- Counting by the character before: what a character does after another, by the traits of both. A row stands for the traits of the last
 -- character. `proofs/StepLaws.antt` joins the steps to the turns of `count`.
 use Prim.Native.Nat.{ℕ, zero, suc}

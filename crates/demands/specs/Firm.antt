@@ -1,3 +1,4 @@
+-- Inner: no public statement cites this file.
 -- Where a newer meaning of the units may end a reading elsewhere than the older one does (demand 3; docs/RULES.md, "The words of demand 3").
 use mathlib.Core.Path.{_≡_}
 use mathlib.Core.Bool.{true}

@@ -1,3 +1,4 @@
+-- Inner: no public statement cites this file.
 -- What is judged before a text is read or a number looked up (docs/RULES.md, "Named refusals").
 use mathlib.Core.List.{List}
 use mathlib.Core.Option.{Option, none, some}

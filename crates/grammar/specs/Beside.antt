@@ -1,3 +1,4 @@
+-- Inner: no public statement cites this file.
 -- The local test of refusal 14 (docs/RULES.md, "Direction marks"): what a reader keeps of the tokens before a place, to know at the next
 -- token whether a mark is refused. `proofs/BesideLaws.antt` shows that it is the second reading's answer.
 --

@@ -1,3 +1,4 @@
+-- Inner: no public statement cites this file.
 -- Looking for the next hashtag of a text, from a byte place on (docs/RULES.md, "Hashtags" and "Lines").
 --
 --   hashtagsAt                     the hashtags of the characters from a place on

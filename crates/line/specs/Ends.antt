@@ -1,3 +1,4 @@
+-- Inner: no public statement cites this file.
 -- What the first byte of a character tells of line ends (docs/RULES.md, "Lines").
 use Prim.Native.Nat.{ℕ, _+_}
 use mathlib.Core.Bool.{cond}

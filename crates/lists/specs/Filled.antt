@@ -1,3 +1,4 @@
+-- Inner: no public statement cites this file.
 -- A table that is filled place by place.
 use Prim.Native.Nat.{ℕ, _<_}
 use mathlib.Core.Path.{_≡_}

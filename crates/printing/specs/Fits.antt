@@ -1,3 +1,4 @@
+-- Inner: no public statement cites this file.
 -- The words that an answer of a lister comes with lie in the buffers.
 use Prim.Native.Nat.{ℕ, _*_, _≤_}
 use mathlib.Core.List.{List}

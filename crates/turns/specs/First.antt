@@ -1,3 +1,4 @@
+-- Inner: no public statement cites this file.
 -- The first token of a text (docs/RULES.md, "Tokens", one token at a place).
 use Prim.Native.Nat.{ℕ}
 use mathlib.Core.List.{List, [], _∷_}

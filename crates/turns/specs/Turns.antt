@@ -1,3 +1,4 @@
+-- Inner: no public statement cites this file.
 -- The reader's state and turns on numbers (docs/RULES.md, "Tokens"). `proofs/TurnLaws.antt` joins them to the steps of `grammar`.
 --
 --   numberBy                   the number of a kind; 0 is none

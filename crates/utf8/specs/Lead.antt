@@ -1,3 +1,4 @@
+-- Inner: no public statement cites this file.
 -- What the first byte of a sequence decides (docs/RULES.md, "UTF-8 by its first byte"): the reader's form of Table 3-7.
 -- `proofs/LeadLaws.antt` joins the two.
 --

@@ -1,3 +1,4 @@
+-- Inner: no public statement cites this file.
 -- How far the records of a text's tokens are written, where each character is written as if a token began with it. The words that stand
 -- are those of the whole list. No public contract but those of `write` and of the readers of long texts cites these definitions.
 use Prim.Native.Nat.{ℕ, _+_, _-_, _*_, _≤_, _<_}

@@ -1,3 +1,4 @@
+-- Inner: no public statement cites this file.
 -- What the hot loop for long texts goes by: rows, which are the traits of the last character, and the steps from row to row. A step says
 -- by how many words the place of writing moves, or that it is not known here. No public contract cites these definitions.
 use Prim.Native.Nat.{ℕ, zero, suc, _<_}
