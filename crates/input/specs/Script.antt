@@ -5,7 +5,7 @@
 --   scriptWithin, scriptWritten      the tokens of a text under an image, written into a buffer of so many words
 --   writtenFromWithin, writtenFrom   the same of an input: the image at its front, and the text after it
 --   listedWithin, listedFrom         the answer of the lister's call
---   wordsWithin, wordsAfter          what the lent words then hold
+--   scriptWordsWithin, scriptWords   what the lent words then hold
 --   wholeAnswerWithin, wholeAnswer   the program's answer
 --   ScriptMeans                      what each outcome of an image and a text means
 --   ListingMeans                     what each answer of the call means, and what the lent words then hold

@@ -34,6 +34,8 @@ use Rattle.pair.specs.Change.{isContinueClass, permitted}
 use Rattle.grammar.specs.White.{WhiteKind, isMark, whiteOf}
 use Rattle.grammar.specs.Before.{lengthRefusal, beforeWithin}
 use Rattle.grammar.specs.Reading.{readThrough, outcomeWithin, writtenWithin}
+use Rattle.token.specs.Taken.{takenWithin}
+use Rattle.hashtag.specs.Listed.{foundWithin}
 use Rattle.hashtag.specs.Sign.{isSign, isHashtagContinue}
 use Rattle.input.specs.Script.{scriptWithin}
 use Rattle.demands.specs.Cases.{M, P, N}
@@ -75,9 +77,9 @@ computed = record {}
 pub limits : Limits
 limits = (refl, refl, refl, refl, refl, refl, refl, refl)
 
-pub text-limits : (text : List ℕ) → TextLimits text
-unfolding computed
-text-limits text = (refl, refl, refl)
+pub text-limits : (text : List ℕ) (place : ℕ) → TextLimits text place
+unfolding computed foundWithin takenWithin
+text-limits text place = (refl, refl, refl, refl, refl)
 
 pub sizes : (n m : ℕ) → Sizes n m
 sizes n m = (refl, refl, refl, refl, refl, refl, refl, refl, refl, refl)

@@ -24,7 +24,7 @@ use lib.Dec.{ltb}
 use Rattle.refusal.specs.declared.Refusal.{Refusal}
 use Rattle.refusal.specs.declared.Refusal.the-variants as refusal
 use Rattle.refusal.specs.Refusal.{numberOf, carriedBy}
-use Rattle.refusal.specs.Outcome.{given, refused, refusedIf}
+use Rattle.refusal.specs.Outcome.{given, refused, unless, refusedIf}
 use Rattle.utf8.specs.Scalar.{isScalar}
 use Rattle.utf8.specs.declared.Step.the-variants as step
 use Rattle.utf8.specs.Head.{stepOf}
@@ -87,12 +87,13 @@ use Rattle.grammar.specs.Meaning.{Meaning}
 use Rattle.grammar.specs.Grammar.{Kind, identifier, syntax, whitespace}
 use Rattle.grammar.specs.Kinds.{kindNumber, isContinue, isWhite, kindBy, goesWith, linksWith}
 use Rattle.grammar.specs.Record.{recordWords, recordSize, roomOf}
-use Rattle.grammar.specs.Before.{maxText, lengthRefusal}
-use Rattle.grammar.specs.Reading.{roomRefusal}
+use Rattle.grammar.specs.Before.{maxText}
+use Rattle.grammar.specs.Reading.{readThrough, outcomeOf, roomRefusal}
 use Rattle.grammar.specs.declared.Counted.the-variants as counted
 use Rattle.token.specs.declared.Taken.the-variants as taken
+use Rattle.token.specs.Taken.{unlessTaken, placeRefusal, tokenAt, takenOf}
 use Rattle.hashtag.specs.Sign.{isSign, isHashtagContinue}
-use Rattle.hashtag.specs.Listed.{hashtagKind, spanWords}
+use Rattle.hashtag.specs.Listed.{hashtagKind, spanWords, hashtagsThrough, hashtagsFound}
 use Rattle.input.specs.Script.{maxScript, scriptWritten}
 use Rattle.input.specs.Images.{maxRunWords, maxEntryWords}
 use Rattle.reply.specs.Reply.{Reply}
@@ -135,10 +136,16 @@ Limits =
     × (maxEntryWords ≡ 3 * 1024)
     × (codePoints ≡ 0x110000)
 
--- 5 by these limits, of a call and of the token lister: it comes before 6, and not a byte sooner
-abbrev pub TextLimits : List ℕ → Type 0
-TextLimits text =
-    (lengthRefusal maxText text ≡ refusedIf (ltb 1048576 (length text)) refusal.TextLength)
+-- 5 by these limits: of counting and listing, of hashtags and of one token, before anything else of the text; of the token lister, which
+-- gives it before 6, and not a byte sooner
+abbrev tooLong : List ℕ → Option Refusal
+tooLong text = refusedIf (ltb 1048576 (length text)) refusal.TextLength
+
+abbrev pub TextLimits : List ℕ → ℕ → Type 0
+TextLimits text place =
+    (outcomeOf M text ≡ unless (tooLong text) (readThrough M text))
+    × (hashtagsFound M text ≡ unless (tooLong text) (hashtagsThrough M text))
+    × (takenOf M text place ≡ unlessTaken (tooLong text) (unlessTaken (placeRefusal text place) (tokenAt M text place)))
     × (scriptWritten M (0xFF ∷ replicate 8191 0) 0 ≡ refused (refusal.IllFormed 0 1))
     × (scriptWritten M (0xFF ∷ replicate 8192 0) 0 ≡ refused refusal.TextLength)
 
