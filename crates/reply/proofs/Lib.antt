@@ -1,3 +1,3 @@
-pub mod ReplyLaws
+mod ReplyLaws
 pub mod CheckedLaws
 mod PartLaws
