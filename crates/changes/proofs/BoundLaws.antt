@@ -55,8 +55,7 @@ module _ (f g p : ℕ → ℕ) (falls : (x : ℕ) → p (x + 1) ≤ p x) where
     most : length l ≤ p (x + 1)
     same : f x ≡ g x → length l ≤ p (x + 1) - 1
 
-  few-runs :
-      ((x : ℕ) → ((f (x + 1) ≡ f x) × (g (x + 1) ≡ g x)) ⊎ (p (x + 1 + 1) < p (x + 1))) → (k x : ℕ) → FewRuns x (changesFrom f g true k x)
+  few-runs : ((x : ℕ) → ((f (x + 1) ≡ f x) × (g (x + 1) ≡ g x)) ⊎ (p (x + 1 + 1) < p (x + 1))) → (k x : ℕ) → FewRuns x (changesFrom f g true k x)
   unfolding changesFrom goesOn
   few-runs moves zero x = record { most = omega arith; same = λ e. omega arith }
   few-runs moves (suc k) x =
@@ -121,8 +120,7 @@ module _ (s : List ℕ) (section : Section) where
     afters-fall : afters (x + 1) ≤ afters x
 
   edges : (x : ℕ) → Edges x
-  edges x =
-      record { few-firsts = left-few _ n x; few-afters = left-few _ n x; firsts-fall = left-falls _ n x; afters-fall = left-falls _ n x }
+  edges x = record { few-firsts = left-few _ n x; few-afters = left-few _ n x; firsts-fall = left-falls _ n x; afters-fall = left-falls _ n x }
 
   -- fewer after an edge
   abbrev Less : ℕ → Type 0
@@ -150,8 +148,7 @@ module _ (s : List ℕ) (section : Section) where
       go _ _ (in-none f) (in-none g) = inl refl
 
   -- where there is a class a record begins, if none that began before holds the number
-  begun :
-      (x : ℕ) → ((i : ℕ) → at i .first ≤ x → x ≤ at i .last → at i .first ≡ x) → (sectionClass s section x ≡ 0) ⊎ (firsts (x + 1) < firsts x)
+  begun : (x : ℕ) → ((i : ℕ) → at i .first ≤ x → x ≤ at i .last → at i .first ≡ x) → (sectionClass s section x ≡ 0) ⊎ (firsts (x + 1) < firsts x)
   begun x f = go _ (class-cases at n x)
     where
       go : (c : ℕ) → HasClass at n x c → (c ≡ 0) ⊎ (firsts (x + 1) < firsts x)
@@ -183,8 +180,7 @@ module _ (older newer : List ℕ) (oa : refusalOf older ≡ none) (na : refusalO
       let few =
       few-singles _ _ (λ x. firsts older Entries x + firsts newer Entries x) (λ x. let p = o x in let q = w x in omega arith)
       (λ x. ⊎-elim (λ (a, b). inl (entry-role older x ∙ a ∙ sym b ∙ sym (entry-role newer x))) inr
-      (both (begun older Entries x (λ i a b. omega arith)) (begun newer Entries x (λ i a b. omega arith))
-      (o x .firsts-fall) (w x .firsts-fall)))
+      (both (begun older Entries x (λ i a b. omega arith)) (begun newer Entries x (λ i a b. omega arith)) (o x .firsts-fall) (w x .firsts-fall)))
       codePoints 0 in
       omega (arith, few, o 0 .few-firsts, w 0 .few-firsts)
 

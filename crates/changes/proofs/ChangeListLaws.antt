@@ -168,8 +168,7 @@ module _ {f g : ℕ → ℕ} where
       go y u d (no k) = (c, List·Memᴰ·head refl, record { from = u; to = omega arith })
 
   -- numbers before x whose two values are equal are in no change
-  pub rest-before :
-      {runs : Bool} {w x : ℕ} {l : List Change} → w ≤ x → ((y : ℕ) → w ≤ y → y < x → f y ≡ g y) → Rest f g runs x l → Rest f g runs w l
+  pub rest-before : {runs : Bool} {w x : ℕ} {l : List Change} → w ≤ x → ((y : ℕ) → w ≤ y → y < x → f y ≡ g y) → Rest f g runs x l → Rest f g runs w l
   rest-before {w = w} {x = x} {l = l} u e r =
       record {
         told = r .told;

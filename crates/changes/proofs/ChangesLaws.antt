@@ -13,17 +13,18 @@ use Rattle.utf8.specs.Scalar.{isScalar}
 use Rattle.refusal.specs.declared.Refusal.the-variants as refusal
 use Rattle.image.specs.Class.{classNamed}
 use Rattle.image.specs.Permitted.{Permitted, same}
+use Rattle.image.specs.Profile.{pointAt}
 use Rattle.image.specs.Same.{SameProfile}
 use Rattle.image.specs.Accepted.{Accepted}
 use Rattle.image.specs.Check.{rangeClass, entryRole}
 use Rattle.image.proofs.ImageLaws.{refused-none, means-refusal}
-use Rattle.image.specs.declared.records.Section.the-variants.{Ranges, Entries}
+use Rattle.image.proofs.ClassLaws.{class-scalar}
+use Rattle.image.proofs.RisingLaws.{class-none}
 use Rattle.image.proofs.SectionLaws.{range-class, entry-role}
 use Rattle.pair.specs.declared.Pair.{Pair}
 use Rattle.pair.specs.declared.Pair.the-variants as pair
 use Rattle.pair.specs.Means.{OnlyPermitted, FirstChange, PermittedAt, PairMeans, bad-older, bad-newer, other-profile, bad-change, all-permitted}
 use Rattle.pair.specs.Pair.{pairOf}
-use Rattle.pair.proofs.WalkLaws.{none-scalar}
 use Rattle.pair.proofs.PairLaws.{pair-means, means-pair, permitted-means}
 use Rattle.changes.specs.Change.{Change, Holds, Each, Neighbours, Before, Changed, AllChanges, Runs, Singles}
 use Rattle.changes.specs.ChangeList.{runsOf, entriesOf}
@@ -48,10 +49,12 @@ use Rattle.changes.proofs.ChangeListLaws.{
 -- no number but a scalar value has a class in the ranges or a role in the profile
 module _ (s : List ℕ) (a : Accepted s) (x : ℕ) (e : isScalar x ≡ false) where
   class-zero : rangeClass s x ≡ 0
-  class-zero = range-class s x ∙ none-scalar s (refused-none s a) Ranges x e
+  class-zero = range-class s x ∙ class-scalar _ _ (a .ranges) x e
 
   role-zero : entryRole s x ≡ 0
-  role-zero = entry-role s x ∙ none-scalar s (refused-none s a) Entries x e
+  role-zero =
+      entry-role s x
+      ∙ class-none _ _ x (λ i l p q. let z : pointAt s i ≡ x = omega arith in true≢false (sym (a .entries i l .scalar) ∙ ap isScalar z ∙ e))
 
 -- numbers are equal where it can't be that they differ
 stable : {a b : ℕ} → ((a ≡ b → ⊥) → ⊥) → a ≡ b

@@ -1,4 +1,4 @@
--- The list of changes as the walk over two images finds it, overlap by overlap; and the loop that counts and writes it. Assumes nothing.
+-- The list of changes as the walk over two images finds it, from overlap to overlap; and the loop that counts and writes it. Assumes nothing.
 use Prim.Native.Nat.{ℕ, suc, _+_, _-_, _*_, _≤_, _<_}
 use mathlib.Core.Path.{_≡_, refl, sym, ap, _∙_}
 use mathlib.Core.Bool.{Bool, true, false, true≢false, false≢true}
@@ -18,7 +18,7 @@ use Rattle.image.specs.Records.{sectionClass}
 use Rattle.image.proofs.SectionLaws.{range-class, entry-role}
 use Rattle.pair.specs.declared.walk.Overlap.{Overlap}
 use Rattle.pair.specs.Walk.{codePoints, StopsBoth, OverlapOf}
-use Rattle.pair.proofs.WalkLaws.{none-scalar}
+use Rattle.pair.proofs.OverlapLaws.{none-scalar}
 use Rattle.changes.specs.Change.{Change, Alone}
 use Rattle.changes.specs.ChangeList.{changesFrom, runsOf, entriesOf}
 use Rattle.changes.specs.Answer.{changesOf, changeWords, changeSize, listWords}
@@ -64,13 +64,11 @@ module _ (section : Section) (older newer : List ℕ) (a : refusalOf older ≡ n
     pub rest-same : r .older .class ≡ r .newer .class → restOf section older newer (r .first) ≡ restOf section older newer (r .last + 1)
     rest-same e =
         rest-one _ _ (is-rest (r .first))
-        (rest-before (omega (arith, o .from)) (λ y l u. o .older-same y l (omega arith) ∙ e ∙ sym (o .newer-same y l (omega arith)))
-        (is-rest (r .last + 1)))
+        (rest-before (omega (arith, o .from)) (λ y l u. o .older-same y l (omega arith) ∙ e ∙ sym (o .newer-same y l (omega arith))) (is-rest (r .last + 1)))
 
     -- where they differ, the overlap is a change
     pub rest-change :
-        (r .older .class ≡ r .newer .class → ⊥)
-        → restOf section older newer (r .first) ≡ changeOf r ∷ restOf section older newer (r .last + 1)
+        (r .older .class ≡ r .newer .class → ⊥) → restOf section older newer (r .first) ≡ changeOf r ∷ restOf section older newer (r .last + 1)
     rest-change d =
         rest-one _ _ (is-rest (r .first))
         (rest-cons {c = changeOf r}
@@ -79,8 +77,7 @@ module _ (section : Section) (older newer : List ℕ) (a : refusalOf older ≡ n
         (whole section (o .stops d)) (alone section (o .stops d)) (is-rest (r .last + 1)))
       where
         whole : (section : Section) → StopsBoth older newer section r → areRuns section ≡ true
-            → (sectionClass older section (r .last + 1) ≡ r .older .class) × (sectionClass newer section (r .last + 1) ≡ r .newer .class)
-            → ⊥
+            → (sectionClass older section (r .last + 1) ≡ r .older .class) × (sectionClass newer section (r .last + 1) ≡ r .newer .class) → ⊥
         whole Ranges s e (p, q) = s p q
         whole Entries s e h = false≢true e
 

@@ -1,11 +1,9 @@
 // The pair check of two class images: whether the newer differs from the older only by permitted changes.
 ghost use mathlib.Core.Path.{_≡_};
 ghost use mathlib.Core.Option.{none};
-ghost use Prim.Native.Nat.{_<_};
-ghost use Rattle.image.specs.Header.{entryCount};
 ghost use Rattle.image.specs.Check.{refusalOf};
 ghost use Rattle.pair.specs.Change.{isContinueClass, permitted};
-ghost use Rattle.pair.specs.Pair.{firstForbidden, differsAt, sameProfile, comparedOf, pairOf};
+ghost use Rattle.pair.specs.Pair.{firstForbidden, sameProfile, comparedOf, pairOf};
 ghost use Rattle.pair.specs.Judged.{judgedBy};
 use image::Answer;
 use image::NONSTART;
@@ -84,21 +82,6 @@ fn first_forbidden(older: &[u8], newer: &[u8]) -> u32
     t.first
 }
 
-// Whether profile entry i differs between two accepted images.
-fn entries_differ(older: &[u8], newer: &[u8], i: usize) -> bool
-    requires { ⌜ refusalOf (now older) ≡ none ⌝ }
-    requires { ⌜ refusalOf (now newer) ≡ none ⌝ }
-    requires { ⌜ (i < entryCount (now older)) × (i < entryCount (now newer)) ⌝ }
-    ensures { λ r. ⌜ r ≡ differsAt (now (older .entry)) (now (newer .entry)) i ⌝ }
-{
-    let p = image::records::record_at(older, Section::Entries, i);
-    let q = image::records::record_at(newer, Section::Entries, i);
-    if p.first != q.first {
-        return true;
-    }
-    p.class != q.class
-}
-
 // Whether the profile sections of two accepted images are the same.
 fn has_same_profile(older: &[u8], newer: &[u8]) -> bool
     requires { ⌜ refusalOf (now older) ≡ none ⌝ }
@@ -111,7 +94,12 @@ fn has_same_profile(older: &[u8], newer: &[u8]) -> bool
     }
     let mut i: usize = 0;
     while i < count {
-        if entries_differ(older, newer, i) {
+        let p = image::records::record_at(older, Section::Entries, i);
+        let q = image::records::record_at(newer, Section::Entries, i);
+        if p.first != q.first {
+            return false;
+        }
+        if p.class != q.class {
             return false;
         }
         i += 1;

@@ -12,15 +12,25 @@ use Rattle.pair.specs.Walk.{codePoints, OverlapAt}
 use Rattle.changes.specs.Answer.{changesOf, changeSize}
 use Rattle.changes.specs.Walked.{changeOf}
 use Rattle.changes.proofs.BoundLaws.{few-changes}
-use Rattle.changes.proofs.LoopLaws.{restOf, rest-begins, rest-none, rest-same, rest-change, Listing, listing-begins, listing-ends}
-use Rattle.changes.proofs.LoopLaws.{listing-passed, change-fits, listing-next}
+use Rattle.changes.proofs.LoopLaws.{
+  restOf,
+  rest-begins,
+  rest-none,
+  rest-same,
+  rest-change,
+  Listing,
+  listing-begins,
+  listing-ends,
+  listing-passed,
+  change-fits,
+  listing-next,
+}
 use Rattle.changes.proofs.list_section.Statement.{statement}
 use Rattle.changes.proofs.list_section.Tie as tie
 
 abbrev Inv-loop : tie.InvT-loop
 Inv-loop older newer section room out₀ size t₀ count₀ at₀ out t count at =
-    OverlapAt older newer section t
-    × Listing section room (changesOf section older newer) out₀ (restOf section older newer (t .first)) out count at
+    OverlapAt older newer section t × Listing section room (changesOf section older newer) out₀ (restOf section older newer (t .first)) out count at
 
 abbrev μ-loop : tie.MeasureT-loop
 μ-loop older newer section room out₀ size t₀ count₀ at₀ out t count at = codePoints - t .first
@@ -96,8 +106,7 @@ loop-again c =
           (let e = first (record { before = c .before .before; if2 = k .0 }) in
           ⊎-elim (λ j. rw (j .5, j .6) (rw size (listing-next w e (j .0 .taken) _ (j .2 .ensures))))
           (λ j. rw (j .1, j .2) (listing-passed w e (j .0 .left))) (k .1 .came)))
-          (λ k. rw (k .1, k .2, k .3) (rw (rest-same _ _ _ (p .0) (p .1 .0) (l .loop .inv .0 .found (h .if1 .taken)) (k .0 .left)) at w))
-          (c .before .if2 .came)),
+          (λ k. rw (k .1, k .2, k .3) (rw (rest-same _ _ _ (p .0) (p .1 .0) (l .loop .inv .0 .found (h .if1 .taken)) (k .0 .left)) at w)) (c .before .if2 .came)),
     )
 
 same-length : tie.Need-same-length Inv-loop μ-loop

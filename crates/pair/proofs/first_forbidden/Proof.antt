@@ -4,7 +4,7 @@ use mathlib.Core.Path.{sym, _∙_}
 use native.Mathlib.Omega.{arith}
 use borrow.Author.Needs.{needs}
 use Rattle.pair.specs.Walk.{codePoints}
-use Rattle.pair.proofs.WalkLaws.{Clear, clear-next, clear-here, clear-ends}
+use Rattle.pair.proofs.OverlapLaws.{Clear, clear-next, clear-here, clear-ends}
 use Rattle.pair.proofs.first_forbidden.Statement.{statement}
 use Rattle.pair.proofs.first_forbidden.Tie as tie
 
@@ -29,8 +29,7 @@ loop-again : tie.Need-loop-again Inv-loop μ-loop
 loop-again c =
     let p = c .before .before in
     let o = c .next-overlap .ensures in
-    clear-next (p .before .before .before .loop .inv) (p .before .if1 .taken) (sym (p .is-permitted .ensures) ∙ c .before .if2 .taken)
-    (o .0) (o .1)
+    clear-next (p .before .before .before .loop .inv) (p .before .if1 .taken) (sym (p .is-permitted .ensures) ∙ c .before .if2 .taken) (o .0) (o .1)
 
 returns : tie.Need-returns Inv-loop μ-loop
 returns c =
@@ -45,14 +44,4 @@ returns-2 c = clear-ends (c .before .before .loop .inv) (c .if1 .left)
 pub first-forbidden-spec : {M : Type 1} → statement M
 first-forbidden-spec =
     tie.close
-    (tie.spec
-    Inv-loop
-    μ-loop
-    (λ c κs. search needs)
-    loop-holds
-    (λ c κs. search needs)
-    next-overlap-requires
-    loop-less
-    loop-again
-    returns
-    returns-2)
+    (tie.spec Inv-loop μ-loop (λ c κs. search needs) loop-holds (λ c κs. search needs) next-overlap-requires loop-less loop-again returns returns-2)

@@ -1,37 +1,13 @@
 -- `pair::has_same_profile` meets its contract. The invariant: the entries before i are the same. Assumes nothing.
-use Prim.Native.Nat.{ℕ, _-_, _≤_, _<_}
-use mathlib.Core.Path.{_≡_, refl, sym, _∙_}
-use mathlib.Core.List.{List}
-use mathlib.Core.Bool.{true, false}
+use Prim.Native.Nat.{_-_}
+use mathlib.Core.Path.{sym, _∙_}
 use native.Mathlib.Omega.{arith}
 use borrow.Author.Needs.{needs}
-use borrow.Author.Count.{below-more}
-use borrow.Author.Tests.{eq-eqb, ne-eqb}
-use Rattle.lists.proofs.FirstLaws.{first-is, first-none}
-use Rattle.image.specs.Header.{entryCount}
-use Rattle.pair.specs.Pair.{differsAt, sameEntries, sameProfile}
+use borrow.Author.Tests.{ne-eqb}
+use Rattle.pair.specs.Pair.{sameProfile}
+use Rattle.pair.proofs.ProfileLaws.{SameTo, all-same, point-differs, role-differs, same-next}
 use Rattle.pair.proofs.has_same_profile.Statement.{statement}
 use Rattle.pair.proofs.has_same_profile.Tie as tie
-
--- both profiles have n entries, and those before i are the same
-record SameTo (older newer : List ℕ) (n i : ℕ) : Type 0 where
-  older-count : n ≡ entryCount older
-  newer-count : n ≡ entryCount newer
-  within : i ≤ n
-  same : (k : ℕ) → k < i → differsAt older newer k ≡ false
-
-module _ {older newer : List ℕ} {n i : ℕ} (s : SameTo older newer n i) where
-  all-same : n ≤ i → true ≡ sameProfile older newer
-  unfolding sameProfile sameEntries
-  all-same l =
-      let f = first-none (differsAt older newer) n (λ k u. s .same k (omega arith)) in
-      sym (simp (← s .older-count, ← s .newer-count, f, eq-eqb n n refl))
-
-  here-differs : i < n → differsAt older newer i ≡ true → false ≡ sameProfile older newer
-  unfolding sameProfile sameEntries
-  here-differs l d =
-      let f = first-is (differsAt older newer) n i l d (s .same) in
-      sym (simp (← s .older-count, ← s .newer-count, eq-eqb n n refl, f, ne-eqb i n (λ z. omega arith)))
 
 abbrev Inv-loop : tie.InvT-loop
 Inv-loop older newer count i₀ i = SameTo older newer count i
@@ -52,27 +28,35 @@ loop-holds c =
       same = λ k l. absurd (omega arith);
     }
 
-entries-differ-requires : tie.Need-entries-differ-requires Inv-loop μ-loop
-entries-differ-requires c κs =
-    let p = c .before .before .before .before .before .before .before .pre in (p .0, (p .1, (omega arith, omega arith)))
+record-at-requires : tie.Need-record-at-requires Inv-loop μ-loop
+record-at-requires c κs = (c .before .before .before .before .before .before .before .pre .0, omega arith)
+
+record-at-requires-2 : tie.Need-record-at-requires-2 Inv-loop μ-loop
+record-at-requires-2 c κs = (c .before .before .before .before .before .before .before .before .pre .1, omega arith)
 
 returns-2 : tie.Need-returns-2 Inv-loop μ-loop
 returns-2 c =
-    let h = c .before .before in
-    here-differs (h .before .loop .inv) (h .loop-test .taken) (sym (c .before .entries-differ .ensures) ∙ c .if2 .taken)
+    let q = c .before .before .before in
+    let p = q .before in
+    let h = p .before in
+    point-differs (h .before .loop .inv) (p .record-at .ensures) (q .record-at2 .ensures) (h .loop-test .taken) (c .if2 .taken)
+
+returns-3 : tie.Need-returns-3 Inv-loop μ-loop
+returns-3 c =
+    let q = c .before .before .before .before .before .before in
+    let p = q .before in
+    let h = p .before in
+    role-differs (h .before .loop .inv) (p .record-at .ensures) (q .record-at2 .ensures) (h .loop-test .taken) (c .if3 .taken)
 
 loop-again : tie.Need-loop-again Inv-loop μ-loop
 loop-again c =
-    let s = c .before .before .before .loop .inv in
-    record {
-      older-count = s .older-count;
-      newer-count = s .newer-count;
-      within = omega arith;
-      same = below-more _ _ (s .same) (sym (c .before .entries-differ .ensures) ∙ c .if2 .left);
-    }
+    let q = c .before .before .before .before .before .before in
+    let p = q .before in
+    let h = p .before in
+    same-next (h .before .loop .inv) (p .record-at .ensures) (q .record-at2 .ensures) (h .loop-test .taken) (c .before .before .before .if2 .left) (c .if3 .left)
 
-returns-3 : tie.Need-returns-3 Inv-loop μ-loop
-returns-3 c = all-same (c .before .loop .inv) (c .loop-test .left)
+returns-4 : tie.Need-returns-4 Inv-loop μ-loop
+returns-4 c = all-same (c .before .loop .inv) (c .loop-test .left)
 
 pub has-same-profile-spec : {M : Type 1} → statement M
 has-same-profile-spec =
@@ -84,9 +68,11 @@ has-same-profile-spec =
     (λ c κs. search needs)
     returns
     loop-holds
-    entries-differ-requires
+    record-at-requires
+    record-at-requires-2
     returns-2
+    returns-3
     (λ c. omega arith)
     (λ c. omega arith)
     loop-again
-    returns-3)
+    returns-4)

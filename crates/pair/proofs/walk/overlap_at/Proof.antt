@@ -3,7 +3,7 @@ use mathlib.Core.Path.{refl}
 use mathlib.Core.Logic.{inl, inr}
 use native.Mathlib.Omega.{arith}
 use borrow.Author.Needs.{needs}
-use Rattle.pair.proofs.WalkLaws.{both-ahead}
+use Rattle.pair.proofs.OverlapLaws.{both-ahead}
 use Rattle.pair.proofs.walk.overlap_at.Statement.{statement}
 use Rattle.pair.proofs.walk.overlap_at.Tie as tie
 
