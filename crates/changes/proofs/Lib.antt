@@ -1,3 +1,4 @@
+pub mod StepLaws
 pub mod LoopLaws
 pub mod BoundLaws
 pub mod RoomLaws

@@ -1,7 +1,6 @@
--- The list of changes as the walk over two images finds it, from overlap to overlap; and the loop that counts and writes it. Assumes nothing.
+-- The loop over a section of two images: how many changes it passed, and what it wrote. Assumes nothing.
 use Prim.Native.Nat.{ℕ, suc, _+_, _-_, _*_, _≤_, _<_}
 use mathlib.Core.Path.{_≡_, refl, sym, ap, _∙_}
-use mathlib.Core.Bool.{Bool, true, false, true≢false, false≢true}
 use mathlib.Core.List.{List, [], _∷_, _++_}
 use mathlib.Core.Option.{none}
 use native.Mathlib.Nat.{mul-suc, mul-zero}
@@ -14,76 +13,14 @@ use Rattle.lists.proofs.LaidLaws.{laid-none, laid-step, length-laid, lent}
 use Rattle.image.specs.Check.{refusalOf}
 use Rattle.image.specs.declared.records.Section.{Section}
 use Rattle.image.specs.declared.records.Section.the-variants.{Ranges, Entries}
-use Rattle.image.specs.Records.{sectionClass}
-use Rattle.image.proofs.SectionLaws.{range-class, entry-role}
+use Rattle.image.proofs.SectionLaws.{few-records}
 use Rattle.pair.specs.declared.walk.Overlap.{Overlap}
-use Rattle.pair.specs.Walk.{codePoints, StopsBoth, OverlapOf}
-use Rattle.pair.proofs.OverlapLaws.{none-scalar}
-use Rattle.changes.specs.Change.{Change, Alone}
-use Rattle.changes.specs.ChangeList.{changesFrom, runsOf, entriesOf}
+use Rattle.pair.specs.Walk.{codePoints, OverlapAt}
+use Rattle.changes.specs.Change.{Change}
 use Rattle.changes.specs.Answer.{changesOf, changeWords, changeSize, listWords}
 use Rattle.changes.specs.Walked.{changeOf}
-use Rattle.changes.proofs.ChangeListLaws.{Rest, rest-cons, rest-before, rest-one, is-changed, listed}
-
--- whether neighbours with the same two values are one change: in the ranges they are, in the entries not
-abbrev areRuns : Section → Bool
-areRuns Ranges = true
-areRuns Entries = false
-
--- the changes of the code points from x on
-unfoldable pub restOf : Section → List ℕ → List ℕ → ℕ → List Change
-restOf section older newer x = changesFrom (sectionClass older section) (sectionClass newer section) (areRuns section) (codePoints - x) x
-
--- the whole list
-whole-list : (section : Section) (older newer : List ℕ) → restOf section older newer 0 ≡ changesOf section older newer
-unfolding restOf runsOf entriesOf
-whole-list Ranges older newer =
-    let z : codePoints - 0 ≡ codePoints = omega arith in
-    λ i. changesFrom (λ x. sym (range-class older x) i) (λ x. sym (range-class newer x) i) true (z i) 0
-whole-list Entries older newer =
-    let z : codePoints - 0 ≡ codePoints = omega arith in
-    λ i. changesFrom (λ x. sym (entry-role older x) i) (λ x. sym (entry-role newer x) i) false (z i) 0
-
-pub rest-begins : (section : Section) (older newer : List ℕ) {x : ℕ} → x ≡ 0 → changesOf section older newer ≡ restOf section older newer x
-rest-begins section older newer e = sym (whole-list section older newer) ∙ ap (restOf section older newer) (sym e)
-
--- past the last code point there is nothing
-pub rest-none : (section : Section) (older newer : List ℕ) (x : ℕ) → codePoints ≤ x → restOf section older newer x ≡ []
-unfolding restOf changesFrom
-rest-none section older newer x l =
-    let z : codePoints - x ≡ 0 = omega arith in
-    ap (λ (k : ℕ). changesFrom (sectionClass older section) (sectionClass newer section) (areRuns section) k x) z
-
-module _ (section : Section) (older newer : List ℕ) (a : refusalOf older ≡ none) (b : refusalOf newer ≡ none) where
-  is-rest : (x : ℕ) → Rest (sectionClass older section) (sectionClass newer section) (areRuns section) x (restOf section older newer x)
-  unfolding restOf
-  is-rest x = listed _ _ (none-scalar older a section) (none-scalar newer b section) (areRuns section) (codePoints - x) x (omega arith)
-
-  module _ {r : Overlap} (o : OverlapOf older newer section r) where
-    -- where the two classes are the same, nothing is listed
-    pub rest-same : r .older .class ≡ r .newer .class → restOf section older newer (r .first) ≡ restOf section older newer (r .last + 1)
-    rest-same e =
-        rest-one _ _ (is-rest (r .first))
-        (rest-before (omega (arith, o .from)) (λ y l u. o .older-same y l (omega arith) ∙ e ∙ sym (o .newer-same y l (omega arith))) (is-rest (r .last + 1)))
-
-    -- where they differ, the overlap is a change
-    pub rest-change :
-        (r .older .class ≡ r .newer .class → ⊥) → restOf section older newer (r .first) ≡ changeOf r ∷ restOf section older newer (r .last + 1)
-    rest-change d =
-        rest-one _ _ (is-rest (r .first))
-        (rest-cons {c = changeOf r}
-        (is-changed _ _ (none-scalar older a section) (none-scalar newer b section) (o .from)
-        (λ x k. (o .older-same x (k .from) (k .to), o .newer-same x (k .from) (k .to))) d)
-        (whole section (o .stops d)) (alone section (o .stops d)) (is-rest (r .last + 1)))
-      where
-        whole : (section : Section) → StopsBoth older newer section r → areRuns section ≡ true
-            → (sectionClass older section (r .last + 1) ≡ r .older .class) × (sectionClass newer section (r .last + 1) ≡ r .newer .class) → ⊥
-        whole Ranges s e (p, q) = s p q
-        whole Entries s e h = false≢true e
-
-        alone : (section : Section) → StopsBoth older newer section r → areRuns section ≡ false → Alone (changeOf r)
-        alone Ranges s e = absurd (true≢false e)
-        alone Entries s e = sym s
+use Rattle.changes.proofs.StepLaws.{restOf, whole-list, rest-none, rest-same, rest-change}
+use Rattle.changes.proofs.BoundLaws.{few-changes}
 
 -- a change's words are as many as its section says
 words-size : (section : Section) (c : Change) → length (changeWords section c) ≡ changeSize section
@@ -121,10 +58,7 @@ module _ (section : Section) (room : ℕ) (all : List Change) (before : List ℕ
         written = rw z;
       })
 
-module _
-    {section : Section} {room : ℕ} {all : List Change} {before : List ℕ} {rest : List Change} {out : List ℕ} {count at : ℕ}
-    (w : Listing section room all before rest out count at)
-  where
+  module _ {rest : List Change} {out : List ℕ} {count at : ℕ} (w : Listing rest out count at) where
     pub listing-ends : rest ≡ [] → (count ≡ length all) × (out ≡ laid before 0 (listWords section (take room all)))
     listing-ends e =
         let z : listWords section (take (room - count) rest) ≡ [] = rw (e, take-nil) in
@@ -135,7 +69,7 @@ module _
       number-next = omega (arith, w .number, ap length e)
 
       -- no room for the change
-      pub listing-passed : room ≤ count → Listing section room all before others out (count + 1) at
+      pub listing-passed : room ≤ count → Listing others out (count + 1) at
       listing-passed l =
           let z : room - count ≡ 0 = omega arith in
           let y : room - (count + 1) ≡ 0 = omega arith in
@@ -157,7 +91,7 @@ module _
         -- the call was lent the part `&mut out[at..]`, and wrote the change at that part's front
         pub listing-next :
             (ys : List ℕ) → ys ≡ laid (take (length out - at) (drop at out)) 0 (changeWords section c)
-            → Listing section room all before others (putMid at (length out - at) out ys) (count + 1) (at + changeSize section)
+            → Listing others (putMid at (length out - at) out ys) (count + 1) (at + changeSize section)
         listing-next ys f =
             let s = words-size section c in
             let fits : at + length (changeWords section c) ≤ length out = omega (arith, all-fit) in
@@ -173,3 +107,63 @@ module _
                   ∙ ap (laid out at) (sym split)
                   ∙ w .written;
             }
+
+-- a turn of the loop is at t: `count` changes begin before it
+module _ (older newer : List ℕ) (section : Section) (room : ℕ) where
+  pub record Turn (before out : List ℕ) (t : Overlap) (count at : ℕ) : Type 0 where
+    pub older-accepted : refusalOf older ≡ none
+    pub newer-accepted : refusalOf newer ≡ none
+    pub here : OverlapAt older newer section t
+    pub listing : Listing section room (changesOf section older newer) before (restOf section older newer (t .first)) out count at
+
+module _ {older newer : List ℕ} {section : Section} {room : ℕ} {before : List ℕ} where
+  pub turn-begins :
+      {t : Overlap} → refusalOf older ≡ none → refusalOf newer ≡ none → changeSize section * room ≤ length before → t .first ≡ 0
+      → OverlapAt older newer section t → Turn older newer section room before before t 0 0
+  turn-begins a b l e o =
+      record {
+        older-accepted = a;
+        newer-accepted = b;
+        here = o;
+        listing = listing-begins section room _ before l (sym (whole-list section older newer) ∙ ap (restOf section older newer) (sym e));
+      }
+
+  module _ {out : List ℕ} {t : Overlap} {count at : ℕ} (w : Turn older newer section room before out t count at) where
+    pub turn-ends :
+        codePoints ≤ t .first
+        → (count ≡ length (changesOf section older newer)) × (out ≡ laid before 0 (listWords section (take room (changesOf section older newer))))
+    turn-ends l = listing-ends _ _ _ _ (w .listing) (rest-none section older newer _ l)
+
+    module _ (h : t .first < codePoints) where
+      -- the overlap after t
+      next : {u : Overlap} → u .first ≡ t .last + 1 → OverlapAt older newer section u → {words : List ℕ} {k at : ℕ}
+          → Listing section room (changesOf section older newer) before (restOf section older newer (t .last + 1)) words k at
+          → Turn older newer section room before words u k at
+      next e o l = record { older-accepted = w .older-accepted; newer-accepted = w .newer-accepted; here = o; listing = rw e l }
+
+      pub turn-same :
+          t .older .class ≡ t .newer .class → {u : Overlap} → u .first ≡ t .last + 1 → OverlapAt older newer section u
+          → Turn older newer section room before out u count at
+      turn-same s e o = next e o (rw (rest-same section older newer (w .older-accepted) (w .newer-accepted) (w .here .found h) s) at (w .listing))
+
+      module _ (d : t .older .class ≡ t .newer .class → ⊥) where
+        first : restOf section older newer (t .first) ≡ changeOf t ∷ restOf section older newer (t .last + 1)
+        first = rest-change section older newer (w .older-accepted) (w .newer-accepted) (w .here .found h) d
+
+        pub turn-few : count < 16384
+        turn-few =
+            let a = w .older-accepted in
+            let b = w .newer-accepted in
+            omega (arith, w .listing .number, ap length first, few-changes section older newer a b, few-records older a section, few-records newer b section)
+
+        pub turn-fits : count < room → at + changeSize section ≤ length out
+        turn-fits l = change-fits _ _ _ _ (w .listing) first l
+
+        module _ {u : Overlap} (e : u .first ≡ t .last + 1) (o : OverlapAt older newer section u) where
+          pub turn-passed : room ≤ count → Turn older newer section room before out u (count + 1) at
+          turn-passed l = next e o (listing-passed _ _ _ _ (w .listing) first l)
+
+          pub turn-written :
+              count < room → (ys : List ℕ) → ys ≡ laid (take (length out - at) (drop at out)) 0 (changeWords section (changeOf t))
+              → Turn older newer section room before (putMid at (length out - at) out ys) u (count + 1) (at + changeSize section)
+          turn-written l ys f = next e o (listing-next _ _ _ _ (w .listing) first l ys f)

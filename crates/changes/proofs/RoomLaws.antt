@@ -17,8 +17,42 @@ use Rattle.pair.specs.declared.Judged.{Judged}
 use Rattle.pair.specs.Judged.{judgedBy}
 use Rattle.changes.specs.ChangeList.{runsOf, entriesOf}
 use Rattle.changes.specs.Answer.{changeSize, listedOf, changesBy, bufferAfter, answerWithin, answerOf, runsAfterWithin, runsAfter, entriesAfterWithin, entriesAfter}
+use Rattle.changes.specs.Walked.{neededOf}
 use Rattle.changes.specs.declared.Changes.{Changes}
 use Rattle.changes.specs.declared.Changes.the-variants as changes
+
+-- where the number needed is not 0, it is the number of changes, and there is room for fewer
+pub record Needed (room count k : ℕ) : Type 0 where
+  pub above : room < count
+  pub all : k ≡ count
+
+pub needed : (room count : ℕ) {k : ℕ} → k ≡ neededOf room count → (k ≡ 0 → ⊥) → Needed room count k
+needed room count {k} e f = go (ltb room count) refl
+  where
+    go : (b : Bool) → ltb room count ≡ b → Needed room count k
+    go true t = record { above = ltb-true _ _ t; all = e ∙ simp t }
+    go false t = absurd (f (e ∙ simp t))
+
+-- where it is 0 there is room for all
+pub none-needed : (room count : ℕ) {k : ℕ} → k ≡ neededOf room count → k ≡ 0 → count ≤ room
+none-needed room count {k} e f = go (ltb room count) refl
+  where
+    go : (b : Bool) → ltb room count ≡ b → count ≤ room
+    go true t = let z : k ≡ count = e ∙ simp t in omega (arith, ltb-true room count t)
+    go false t = ltb-false _ _ t
+
+-- and the words suffice
+pub words-suffice :
+    (section : Section) (words count : ℕ) {k : ℕ} → k ≡ neededOf (words / changeSize section) count → k ≡ 0 → changeSize section * count ≤ words
+words-suffice Ranges words count e f = let l = none-needed (words / 4) count e f in omega arith
+words-suffice Entries words count e f = let l = none-needed (words / 3) count e f in omega arith
+
+-- and back
+pub all-needed : (room count : ℕ) → room < count → count ≡ neededOf room count
+all-needed room count l = sym (simp (lt-ltb room count l))
+
+pub needed-none : (room count : ℕ) → count ≤ room → 0 ≡ neededOf room count
+needed-none room count l = sym (simp (le-ltb room count l))
 
 -- the answers for two accepted images
 module _ (older newer : List ℕ) (words more : ℕ) where

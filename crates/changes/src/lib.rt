@@ -8,7 +8,7 @@ ghost use Rattle.lists.specs.Laid.{laid};
 ghost use Rattle.image.specs.Check.{refusalOf};
 ghost use Rattle.image.specs.declared.records.Section.the-variants.{Ranges, Entries};
 ghost use Rattle.changes.specs.Answer.{changesOf, changeWords, changeSize, listWords, listedOf, bufferAfter, answerOf, runsAfter, entriesAfter};
-ghost use Rattle.changes.specs.Walked.{changeOf, Needed};
+ghost use Rattle.changes.specs.Walked.{changeOf, neededOf};
 use image::records::Section;
 use pair::Judged;
 use pair::walk::CODE_POINTS;
@@ -88,7 +88,7 @@ fn list_section(older: &[u8], newer: &[u8], section: Section, room: usize, out: 
 fn count_needed(older: &[u8], newer: &[u8], section: Section, room: usize) -> usize
     requires { ⌜ refusalOf (now older) ≡ none ⌝ }
     requires { ⌜ refusalOf (now newer) ≡ none ⌝ }
-    ensures { λ r. ⌜ Needed room (length (changesOf section (now (older .entry)) (now (newer .entry)))) r ⌝ }
+    ensures { λ r. ⌜ r ≡ neededOf room (length (changesOf section (now (older .entry)) (now (newer .entry)))) ⌝ }
 {
     let n = image::records::count_records(older, section);
     let m = image::records::count_records(newer, section);

@@ -6,21 +6,21 @@ use lib.Seq.{take-all}
 use borrow.Author.Needs.{needs}
 use Rattle.refusal.specs.declared.Refusal.the-variants as refusal
 use Rattle.changes.specs.declared.Changes.the-variants as changes
-use Rattle.changes.proofs.RoomLaws.{lacks-runs, lacks-entries, lists-both}
+use Rattle.changes.proofs.RoomLaws.{needed, none-needed, lacks-runs, lacks-entries, lists-both}
 use Rattle.changes.proofs.list_accepted.Statement.{statement}
 use Rattle.changes.proofs.list_accepted.Tie as tie
 
 returns : tie.Need-returns
 returns c =
-    let (l, e) = c .before .count-needed .ensures .lacks (c .if1 .taken) in
-    (ap (λ (k : ℕ). changes.Refused (refusal.Room k)) e ∙ sym (lacks-runs _ _ _ _ l), (refl, refl))
+    let m = needed _ _ (c .before .count-needed .ensures) (c .if1 .taken) in
+    (ap (λ (k : ℕ). changes.Refused (refusal.Room k)) (m .all) ∙ sym (lacks-runs _ _ _ _ (m .above)), (refl, refl))
 
 returns-2 : tie.Need-returns-2
 returns-2 c =
     let b = c .before .before in
-    let n = b .before .count-needed .ensures .suffices (b .if1 .left) in
-    let (l, e) = c .before .count-needed2 .ensures .lacks (c .if2 .taken) in
-    (ap (λ (k : ℕ). changes.Refused (refusal.Room k)) e ∙ sym (lacks-entries _ _ _ _ n l), (refl, refl))
+    let n = none-needed _ _ (b .before .count-needed .ensures) (b .if1 .left) in
+    let m = needed _ _ (c .before .count-needed2 .ensures) (c .if2 .taken) in
+    (ap (λ (k : ℕ). changes.Refused (refusal.Room k)) (m .all) ∙ sym (lacks-entries _ _ _ _ n (m .above)), (refl, refl))
 
 list-section-requires : tie.Need-list-section-requires
 list-section-requires c κs =
@@ -38,8 +38,8 @@ returns-3 c =
     let b = w .before .before in
     let r = w .list-section .ensures in
     let e = c .before .before .list-section2 .ensures in
-    let n = b .before .before .before .count-needed .ensures .suffices (b .before .before .if1 .left) in
-    let m = b .before .count-needed2 .ensures .suffices (b .if2 .left) in
+    let n = none-needed _ _ (b .before .before .before .count-needed .ensures) (b .before .before .if1 .left) in
+    let m = none-needed _ _ (b .before .count-needed2 .ensures) (b .if2 .left) in
     ((λ i. changes.Listed (r .0 i) (e .0 i)) ∙ sym (lists-both _ _ _ _ n m), (rw (take-all _ _ n) at (r .1), rw (take-all _ _ m) at (e .1)))
 
 pub list-accepted-spec : {M : Type 1} → statement M
