@@ -3,10 +3,12 @@
 // refusal carries, go into `answer`, with zeros past them. A function whose name ends in `_checked` is given an image that
 // `luffinarc_check` or `luffinarc_read` accepted, with the same bytes.
 ghost use mathlib.Core.Path.{_≡_};
+ghost use mathlib.Core.List.{[], _∷_};
 ghost use mathlib.Core.Option.{none};
 ghost use lib.ListN.{length};
 ghost use Rattle.image.specs.Profile.{profileBy};
-ghost use Rattle.image.specs.Check.{refusalOf, checkOf, readOf, wordsAfter};
+ghost use Rattle.image.specs.Header.{versionOf, rangeCount};
+ghost use Rattle.image.specs.Check.{refusalOf, acceptedOf, checkOf, readOf, wordsAfter};
 ghost use Rattle.writer.specs.Write.{writeOf, bytesAfter};
 ghost use Rattle.lookup.specs.Lookup.{lookupOf};
 ghost use Rattle.pair.specs.Pair.{pairOf};
@@ -16,10 +18,18 @@ ghost use Rattle.grammar.specs.Counted.{countedBy};
 ghost use Rattle.token.specs.Taken.{takenOf};
 ghost use Rattle.hashtag.specs.Listed.{hashtagListOf, hashtagListWords};
 ghost use Rattle.part.specs.Part.{partOf, partBytes};
-ghost use Rattle.reply.specs.Reply.{Tells};
+ghost use Rattle.reply.specs.Reply.{Tells, refusesOf};
 ghost use Rattle.reply.specs.ImageReply.{TellsChecked, foundReply, writtenReply, pairReply, changesReply};
 ghost use Rattle.reply.specs.TokenReply.{countedReply, takenReply, partReply, toldPart};
+use changes::Changes;
+use grammar::Counted;
+use image::Answer;
 use image::MAX_ENTRIES;
+use lookup::Found;
+use pair::Pair;
+use refusal::Refusal;
+use token::Taken;
+use writer::Written;
 
 // Checks an image. Answer: version, number of ranges, number of profile entries.
 #[no_mangle]
@@ -31,8 +41,13 @@ pub extern "C" fn luffinarc_check(
 ) -> u32
     ensures { λ n. ⌜ TellsChecked (checkOf (now (image .entry))) (now (points .entry)) (now (roles .entry)) n (now (answer .exit)) (now (points .exit)) (now (roles .exit)) ⌝ }
 {
-    let given = image::judge(image);
-    reply::tell_checked(image, given, points, roles, answer)
+    let a = image::judge(image);
+    match a {
+        Answer::Refused(r) => reply::refuse(r, 0, answer),
+        Answer::Accepted { version, ranges } => {
+            reply::tell_profile(image, version, ranges, points, roles, answer)
+        }
+    }
 }
 
 // Reads an image: its ranges go into `words`. Answer: version, number of ranges, number of profile entries.
@@ -47,8 +62,13 @@ pub extern "C" fn luffinarc_read(
     ensures { λ n. ⌜ TellsChecked (readOf (now (image .entry)) (length (now (words .entry)))) (now (points .entry)) (now (roles .entry)) n (now (answer .exit)) (now (points .exit)) (now (roles .exit)) ⌝ }
     ensures { λ _. ⌜ now (words .exit) ≡ wordsAfter (now (image .entry)) (now (words .entry)) ⌝ }
 {
-    let given = image::read_ranges(image, words);
-    reply::tell_checked(image, given, points, roles, answer)
+    let a = image::read_ranges(image, words);
+    match a {
+        Answer::Refused(r) => reply::refuse(r, 0, answer),
+        Answer::Accepted { version, ranges } => {
+            reply::tell_profile(image, version, ranges, points, roles, answer)
+        }
+    }
 }
 
 // Writes the image with this version, these ranges and this profile. Answer: bytes of the image.

@@ -1,3 +1,3 @@
-mod ReplyLaws
+pub mod ReplyLaws
 pub mod CheckedLaws
 mod PartLaws

@@ -1,8 +1,7 @@
--- What a refusal tells, and that a result tells a refusal from the other answers. Assumes nothing.
+-- A reply of equal answers is the same, and a result tells whether the answer is a refusal. Assumes nothing.
 use Prim.Native.Nat.{ℕ, _≤_}
-use mathlib.Core.Path.{_≡_, refl}
-use mathlib.Core.List.{List, [], _∷_}
-use lib.ListN.{getD}
+use mathlib.Core.Path.{_≡_, subst, sym, ap}
+use mathlib.Core.List.{List}
 use native.Mathlib.Omega.{arith}
 use Rattle.refusal.specs.Refusal.{numberOf}
 use Rattle.refusal.specs.declared.Refusal.{Refusal}
@@ -22,14 +21,15 @@ use Rattle.refusal.specs.declared.Refusal.the-variants.{
   Shape,
   Mark,
 }
-use Rattle.reply.specs.Reply.{beside}
+use Rattle.image.specs.declared.Answer.{Answer}
+use Rattle.image.specs.declared.Answer.the-variants as answer
+use Rattle.image.specs.declared.Checked.{Checked}
+use Rattle.reply.specs.Reply.{Reply, Tells, refuses}
 use Rattle.reply.specs.TokenReply.{done}
+use Rattle.reply.specs.ImageReply.{checkedBy, arrayBy, TellsChecked}
 
--- what is carried by its places
-pub beside-is : (which : ℕ) (xs : List ℕ) → beside which xs ≡ getD xs 0 0 ∷ getD xs 1 0 ∷ which ∷ 0 ∷ []
-beside-is which [] = refl
-beside-is which (a ∷ []) = refl
-beside-is which (a ∷ b ∷ more) = refl
+pub told : {T : Type 0} (reply : T → Reply) {x y : T} {n : ℕ} {a : List ℕ} → x ≡ y → Tells (reply y) n a → Tells (reply x) n a
+told reply {n = n} {a} e h = subst (λ z. Tells (reply z) n a) (sym e) h
 
 -- a refusal has a number of 1 to 14
 pub known : (r : Refusal) → (1 ≤ numberOf r) × (numberOf r ≤ 14)
@@ -51,3 +51,15 @@ known (Mark p) = (omega arith, omega arith)
 -- so the result tells a refusal from the other answers
 pub apart : (r : Refusal) → (numberOf r ≡ 0 → ⊥) × (numberOf r ≡ done → ⊥)
 apart r = (λ e. omega (arith, known r), λ e. omega (arith, known r))
+
+-- a refused check or read, told: the arrays stay
+module _ (k : Checked) {ps rs a : List ℕ} where
+  pub told-refused : {r : Refusal} {n : ℕ} → k .answer ≡ answer.Refused r → Tells (refuses r) n a → TellsChecked k ps rs n a ps rs
+  told-refused e h = record {
+    told = told (λ (x : Answer). checkedBy x (k .profile .used)) e h;
+    pointsKept = ap (λ (x : Answer). arrayBy x (k .profile .points) ps) (sym e);
+    rolesKept = ap (λ (x : Answer). arrayBy x (k .profile .roles) rs) (sym e);
+  }
+
+pub told-checked : {k l : Checked} {ps rs : List ℕ} {n : ℕ} {a ps' rs' : List ℕ} → k ≡ l → TellsChecked k ps rs n a ps' rs' → TellsChecked l ps rs n a ps' rs'
+told-checked {ps = ps} {rs} {n} {a} {ps'} {rs'} e h = subst (λ (x : Checked). TellsChecked x ps rs n a ps' rs') e h

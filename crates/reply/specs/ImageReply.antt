@@ -1,13 +1,10 @@
 -- The replies of the calls on images, and what the arrays lent for a profile then hold (docs/RULES.md, "The calls").
 use Prim.Native.Nat.{ℕ}
 use mathlib.Core.Path.{_≡_}
-use mathlib.Core.List.{List}
-use mathlib.Core.Option.{none}
-use Rattle.image.specs.Check.{refusalOf}
+use mathlib.Core.List.{List, [], _∷_}
 use Rattle.image.specs.declared.Answer.{Answer}
 use Rattle.image.specs.declared.Answer.the-variants as answer
 use Rattle.image.specs.declared.Checked.{Checked}
-use Rattle.image.specs.declared.Profile.{Profile}
 use Rattle.lookup.specs.declared.Found.{Found}
 use Rattle.lookup.specs.declared.Found.the-variants as found
 use Rattle.writer.specs.declared.Written.{Written}
@@ -36,13 +33,6 @@ pub record TellsChecked (k : Checked) (points roles : List ℕ) (n : ℕ) (answe
   pub told : Tells (checkReply k) n answer
   pub pointsKept : newPoints ≡ arrayBy (k .answer) (k .profile .points) points
   pub rolesKept : newRoles ≡ arrayBy (k .answer) (k .profile .roles) roles
-
--- an answer that accepts is that of an image that is not refused
-abbrev pub AcceptsRightly : Answer → List ℕ → Type 0
-AcceptsRightly a s = (version n : ℕ) → a ≡ answer.Accepted version n → refusalOf s ≡ none
-
-abbrev pub checkedWith : Answer → Profile → Checked
-checkedWith a p = record { answer = a; profile = p }
 
 -- looking up: the class after the profile, and how many ranges were looked at
 abbrev pub foundReply : Found → Reply

@@ -2,6 +2,7 @@
 use Prim.Native.Nat.{ℕ}
 use mathlib.Core.Path.{_≡_}
 use mathlib.Core.List.{List, [], _∷_}
+use lib.ListN.{getD}
 use Rattle.refusal.specs.declared.Refusal.{Refusal}
 use Rattle.refusal.specs.Refusal.{numberOf, carriedBy}
 
@@ -19,13 +20,11 @@ abbrev pub gives : ℕ → ℕ → ℕ → Reply
 gives a b c = record { number = 0; values = a ∷ b ∷ c ∷ 0 ∷ [] }
 
 -- what a refusal carries, with zeros past it, and which image it is of, where a call has two
-abbrev pub beside : ℕ → List ℕ → List ℕ
-beside which [] = 0 ∷ 0 ∷ which ∷ 0 ∷ []
-beside which (a ∷ []) = a ∷ 0 ∷ which ∷ 0 ∷ []
-beside which (a ∷ b ∷ more) = a ∷ b ∷ which ∷ 0 ∷ []
+abbrev pub carriedOf : ℕ → Refusal → List ℕ
+carriedOf which r = getD (carriedBy r) 0 0 ∷ getD (carriedBy r) 1 0 ∷ which ∷ 0 ∷ []
 
 abbrev pub refusesOf : ℕ → Refusal → Reply
-refusesOf which r = record { number = numberOf r; values = beside which (carriedBy r) }
+refusesOf which r = record { number = numberOf r; values = carriedOf which r }
 
 abbrev pub refuses : Refusal → Reply
 refuses r = refusesOf 0 r

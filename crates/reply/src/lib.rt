@@ -3,10 +3,12 @@
 // refusal carries, go into `answer`, with zeros past them.
 ghost use mathlib.Core.Path.{_≡_};
 ghost use mathlib.Core.List.{[], _∷_};
-ghost use Rattle.image.specs.Profile.{profileOf};
+ghost use mathlib.Core.Option.{none};
+ghost use Rattle.image.specs.Header.{versionOf, rangeCount};
+ghost use Rattle.image.specs.Check.{refusalOf, acceptedOf};
 ghost use Rattle.part.specs.Part.{partOf, partBytes};
-ghost use Rattle.reply.specs.Reply.{Tells, gives, refuses, refusesOf};
-ghost use Rattle.reply.specs.ImageReply.{TellsChecked, AcceptsRightly, checkedWith, foundReply, writtenReply, pairReply, changesReply};
+ghost use Rattle.reply.specs.Reply.{Tells, gives, refusesOf};
+ghost use Rattle.reply.specs.ImageReply.{TellsChecked, foundReply, writtenReply, pairReply, changesReply};
 ghost use Rattle.reply.specs.TokenReply.{countedReply, takenReply, partReply, toldPart};
 use changes::Changes;
 use grammar::Counted;
@@ -22,22 +24,22 @@ use writer::Written;
 const DONE: u32 = 255;
 
 // Fills the answer array.
-fn put(answer: &mut [u64; 4], a: u64, b: u64, c: u64, d: u64)
+pub fn put(answer: &mut [u64; 4], a: u64, b: u64, c: u64, d: u64)
     ensures { λ _. ⌜ now (answer .exit) ≡ a ∷ b ∷ c ∷ d ∷ [] ⌝ }
 {
     *answer = [a, b, c, d];
 }
 
 // Tells an answer of these values, 0 where there is none.
-fn give(a: u64, b: u64, c: u64, answer: &mut [u64; 4]) -> u32
+pub fn give(a: u64, b: u64, c: u64, answer: &mut [u64; 4]) -> u32
     ensures { λ n. ⌜ Tells (gives a b c) n (now (answer .exit)) ⌝ }
 {
     put(answer, a, b, c, 0);
     0
 }
 
-// Tells a refusal, and which image it is of.
-fn refuse_of(r: Refusal, which: u64, answer: &mut [u64; 4]) -> u32
+// Tells a refusal, and which image it is of, where a call has two.
+pub fn refuse(r: Refusal, which: u64, answer: &mut [u64; 4]) -> u32
     ensures { λ n. ⌜ Tells (refusesOf which r) n (now (answer .exit)) ⌝ }
 {
     let c = refusal::carry(r);
@@ -45,45 +47,20 @@ fn refuse_of(r: Refusal, which: u64, answer: &mut [u64; 4]) -> u32
     refusal::number(r)
 }
 
-// Tells a refusal of a call with one image or none, or of a pair of images.
-fn refuse(r: Refusal, answer: &mut [u64; 4]) -> u32
-    ensures { λ n. ⌜ Tells (refuses r) n (now (answer .exit)) ⌝ }
-{
-    refuse_of(r, 0, answer)
-}
-
-// Tells a refusal of the older image.
-fn refuse_older(r: Refusal, answer: &mut [u64; 4]) -> u32
-    ensures { λ n. ⌜ Tells (refusesOf 1 r) n (now (answer .exit)) ⌝ }
-{
-    refuse_of(r, 1, answer)
-}
-
-// Tells a refusal of the newer image.
-fn refuse_newer(r: Refusal, answer: &mut [u64; 4]) -> u32
-    ensures { λ n. ⌜ Tells (refusesOf 2 r) n (now (answer .exit)) ⌝ }
-{
-    refuse_of(r, 2, answer)
-}
-
-// Tells what checking or reading an image gave; the profile of an accepted image goes into `points` and `roles`.
-pub fn tell_checked(
+// Tells the version, the number of ranges and the profile of an accepted image.
+pub fn tell_profile(
     image: &[u8],
-    given: Answer,
+    version: u32,
+    ranges: usize,
     points: &mut [u32; MAX_ENTRIES],
     roles: &mut [u32; MAX_ENTRIES],
     answer: &mut [u64; 4],
 ) -> u32
-    requires { ⌜ AcceptsRightly given (now image) ⌝ }
-    ensures { λ n. ⌜ TellsChecked (checkedWith given (profileOf (now (image .entry)))) (now (points .entry)) (now (roles .entry)) n (now (answer .exit)) (now (points .exit)) (now (roles .exit)) ⌝ }
+    requires { ⌜ (refusalOf (now image) ≡ none) × (version ≡ versionOf (now image)) × (ranges ≡ rangeCount (now image)) ⌝ }
+    ensures { λ n. ⌜ TellsChecked (acceptedOf (now (image .entry))) (now (points .entry)) (now (roles .entry)) n (now (answer .exit)) (now (points .exit)) (now (roles .exit)) ⌝ }
 {
-    match given {
-        Answer::Refused(r) => refuse(r, answer),
-        Answer::Accepted { version, ranges } => {
-            let used = image::put_profile(image, points, roles);
-            give(version as u64, ranges as u64, used as u64, answer)
-        }
-    }
+    let used = image::put_profile(image, points, roles);
+    give(version as u64, ranges as u64, used as u64, answer)
 }
 
 // Tells what a lookup gave.
@@ -91,7 +68,7 @@ pub fn tell_found(f: Found, answer: &mut [u64; 4]) -> u32
     ensures { λ n. ⌜ Tells (foundReply f) n (now (answer .exit)) ⌝ }
 {
     match f {
-        Found::Refused(r) => refuse(r, answer),
+        Found::Refused(r) => refuse(r, 0, answer),
         Found::Class { class, count } => give(class as u64, count as u64, 0, answer),
     }
 }
@@ -101,7 +78,7 @@ pub fn tell_written(w: Written, answer: &mut [u64; 4]) -> u32
     ensures { λ n. ⌜ Tells (writtenReply w) n (now (answer .exit)) ⌝ }
 {
     match w {
-        Written::Refused(r) => refuse(r, answer),
+        Written::Refused(r) => refuse(r, 0, answer),
         Written::Image { len } => give(len as u64, 0, 0, answer),
     }
 }
@@ -111,9 +88,9 @@ pub fn tell_pair(p: Pair, answer: &mut [u64; 4]) -> u32
     ensures { λ n. ⌜ Tells (pairReply p) n (now (answer .exit)) ⌝ }
 {
     match p {
-        Pair::Older(r) => refuse_older(r, answer),
-        Pair::Newer(r) => refuse_newer(r, answer),
-        Pair::Refused(r) => refuse(r, answer),
+        Pair::Older(r) => refuse(r, 1, answer),
+        Pair::Newer(r) => refuse(r, 2, answer),
+        Pair::Refused(r) => refuse(r, 0, answer),
         Pair::Permitted => give(0, 0, 0, answer),
     }
 }
@@ -123,9 +100,9 @@ pub fn tell_changes(c: Changes, answer: &mut [u64; 4]) -> u32
     ensures { λ n. ⌜ Tells (changesReply c) n (now (answer .exit)) ⌝ }
 {
     match c {
-        Changes::Older(r) => refuse_older(r, answer),
-        Changes::Newer(r) => refuse_newer(r, answer),
-        Changes::Refused(r) => refuse(r, answer),
+        Changes::Older(r) => refuse(r, 1, answer),
+        Changes::Newer(r) => refuse(r, 2, answer),
+        Changes::Refused(r) => refuse(r, 0, answer),
         Changes::Listed { runs, entries } => give(runs as u64, entries as u64, 0, answer),
     }
 }
@@ -135,7 +112,7 @@ pub fn tell_counted(counted: Counted, answer: &mut [u64; 4]) -> u32
     ensures { λ n. ⌜ Tells (countedReply counted) n (now (answer .exit)) ⌝ }
 {
     match counted {
-        Counted::Refused(r) => refuse(r, answer),
+        Counted::Refused(r) => refuse(r, 0, answer),
         Counted::Records(count) => give(count as u64, 0, 0, answer),
     }
 }
@@ -145,7 +122,7 @@ pub fn tell_taken(taken: Taken, answer: &mut [u64; 4]) -> u32
     ensures { λ n. ⌜ Tells (takenReply taken) n (now (answer .exit)) ⌝ }
 {
     match taken {
-        Taken::Refused(r) => refuse(r, answer),
+        Taken::Refused(r) => refuse(r, 0, answer),
         Taken::Done => {
             put(answer, 0, 0, 0, 0);
             DONE
@@ -154,7 +131,7 @@ pub fn tell_taken(taken: Taken, answer: &mut [u64; 4]) -> u32
     }
 }
 
-// Tells the part of a text from `start` to `end`: its first byte and its number of bytes.
+// Tells the part of a text from `start` to `end`: its first byte, and its number of bytes.
 pub fn tell_part(text: &[u8], start: usize, end: usize, answer: &mut [u64; 4]) -> u32
     ensures { λ n. ⌜ Tells (partReply (partOf (now (text .entry)) start end) start) n (now (answer .exit)) ⌝ }
     ensures { λ _. ⌜ toldPart (now (text .entry)) (now (answer .exit)) ≡ partBytes (now (text .entry)) start end ⌝ }
@@ -164,5 +141,6 @@ pub fn tell_part(text: &[u8], start: usize, end: usize, answer: &mut [u64; 4]) -
         put(answer, 0, 0, 0, 0);
         return refused;
     }
-    give(start as u64, (end - start) as u64, 0, answer)
+    put(answer, start as u64, (end - start) as u64, 0, 0);
+    0
 }
