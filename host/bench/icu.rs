@@ -1,13 +1,9 @@
 //! The reader over ICU, if `LUFFINARC_ICU` names the file that holds it.
 
+use crate::shared;
 use luffinarc::RECORD_WORDS;
-use std::ffi::{c_void, CStr, CString};
+use std::ffi::{c_void, CStr};
 use std::os::raw::c_char;
-
-extern "C" {
-    fn dlopen(file: *const c_char, flags: i32) -> *mut c_void;
-    fn dlsym(library: *mut c_void, name: *const c_char) -> *mut c_void;
-}
 
 type Tokens = unsafe extern "C" fn(*const u8, i32, *const c_char, *mut u32) -> i64;
 
@@ -16,17 +12,9 @@ pub struct Icu(Tokens);
 
 impl Icu {
     pub fn load() -> Option<Icu> {
-        let file = CString::new(std::env::var("LUFFINARC_ICU").ok()?).unwrap();
-        let name = CString::new("icu_tokens").unwrap();
-        const NOW: i32 = 2;
+        let [tokens] = shared::functions("LUFFINARC_ICU", ["icu_tokens"])?;
         // Safety: the file is made of `icu.c`, whose function has this type.
-        unsafe {
-            let library = dlopen(file.as_ptr(), NOW);
-            assert!(!library.is_null(), "{file:?} cannot be loaded");
-            let symbol = dlsym(library, name.as_ptr());
-            assert!(!symbol.is_null(), "{file:?} has no icu_tokens");
-            Some(Icu(std::mem::transmute::<*mut c_void, Tokens>(symbol)))
-        }
+        Some(Icu(unsafe { std::mem::transmute::<*mut c_void, Tokens>(tokens) }))
     }
 
     /// Counts the text's tokens with these medials; -1 where it has none.

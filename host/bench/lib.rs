@@ -3,6 +3,8 @@
 #![forbid(unsafe_code)]
 
 pub mod changes;
+pub mod pieces;
 pub mod prose;
+pub mod real;
 pub mod rival;
 pub mod texts;

@@ -1,7 +1,11 @@
-//! Times the library against the hand-written rival and ICU, all in one process: two take turns, and the least time of
-//! each counts. Prints ratios only, below 1 where the library is faster: the least and the greatest of three runs.
+//! Times the library against the hand-written rival, ICU and a reader made by re2c, all in one process: they take turns,
+//! and the least time of each counts. Prints ratios only, below 1 where the library is faster: the least and the greatest
+//! of three runs, or that of one run.
 
 mod icu;
+mod lengths;
+mod re2c;
+mod shared;
 
 use icu::Icu;
 use luffinarc::calls::{self, Answer};
@@ -14,6 +18,7 @@ use luffinarc_bench::prose;
 use luffinarc_bench::rival::{self, Tables};
 use luffinarc_bench::texts::{self, Sample};
 use luffinarc_reader::cases::{image_of, most_changes};
+use re2c::Re2c;
 use std::ffi::CString;
 use std::fmt;
 use std::io::Write;
@@ -179,6 +184,39 @@ impl<'a> Subject<'a> {
             _ = black_box(icu.list(black_box(text), &self.medials, &mut list))
         })
     }
+
+    /// The text with a NUL after it, which re2c's reader asks for; nothing under a profile, which it doesn't know.
+    fn with_nul(&self) -> Option<Vec<u8>> {
+        let plain = self.sample.profile.is_empty();
+        plain.then(|| [self.sample.text.as_bytes(), &[0]].concat())
+    }
+
+    /// Counting, against re2c.
+    fn count_re2c(&self, re2c: &Re2c) -> Option<Spread> {
+        let (text, with_nul) = (self.sample.text.as_bytes(), self.with_nul()?);
+        Some(race(1, &mut || _ = black_box(self.image.count(black_box(text))), &mut || {
+            _ = black_box(re2c.count(black_box(&with_nul)))
+        }))
+    }
+
+    /// Listing, against re2c.
+    fn list_re2c(&self, re2c: &Re2c) -> Option<Spread> {
+        let (text, with_nul) = (self.sample.text.as_bytes(), self.with_nul()?);
+        let (mut words, mut list) = (self.words(), self.words());
+        let count = self.image.list(text, &mut words).unwrap() as i64;
+        assert_eq!([re2c.count(&with_nul), re2c.list(&with_nul, &mut list)], [count; 2]);
+        assert!(words == list, "{}: the lists differ", self.sample.name);
+        Some(race(
+            1,
+            &mut || _ = black_box(self.image.list(black_box(text), &mut words)),
+            &mut || _ = black_box(re2c.list(black_box(&with_nul), &mut list)),
+        ))
+    }
+}
+
+/// A ratio, or nothing.
+fn shown(spread: Option<Spread>) -> String {
+    spread.map_or(String::new(), |spread| spread.to_string())
 }
 
 /// Prints a row of the table.
@@ -202,14 +240,21 @@ fn tokens(subjects: &[Subject]) {
     head(subjects);
     row("count / hand-written", subjects, |subject| subject.count().to_string());
     row("list / hand-written", subjects, |subject| subject.list().to_string());
-    match Icu::load() {
-        None => println!(
-            "\nNo ICU to compare with: Debian's packages pkg-config and libicu-dev have it."
-        ),
-        Some(icu) => {
-            row("count / ICU", subjects, |subject| subject.count_icu(&icu).to_string());
-            row("list / ICU", subjects, |subject| subject.list_icu(&icu).to_string());
-        }
+    let (icu, re2c) = (Icu::load(), Re2c::load());
+    if let Some(icu) = &icu {
+        row("count / ICU", subjects, |subject| subject.count_icu(icu).to_string());
+        row("list / ICU", subjects, |subject| subject.list_icu(icu).to_string());
+    }
+    if let Some(re2c) = &re2c {
+        re2c.check(&subjects[0].image);
+        row("count / re2c", subjects, |subject| shown(subject.count_re2c(re2c)));
+        row("list / re2c", subjects, |subject| shown(subject.list_re2c(re2c)));
+    }
+    if icu.is_none() {
+        println!("\nNo ICU to compare with: Debian's packages pkg-config and libicu-dev have it.");
+    }
+    if re2c.is_none() {
+        println!("\nre2c: not installed, skipped");
     }
 }
 
@@ -360,7 +405,8 @@ fn main() {
     // ICU may not know the letters of later versions.
     let older = std::fs::read(OLDER).unwrap();
     let letters = Image::check(&older).unwrap().ranges();
-    with_subjects(&image, &texts::all(&letters), tokens);
+    let samples = texts::all(&letters);
+    with_subjects(&image, &samples, tokens);
     large_profile(&image);
     with_subjects(&image, &prose::all(), hashtags);
     let tables = Tables::new(&ranges, &[]);
@@ -372,4 +418,7 @@ fn main() {
     let of_mixed = lookup(&image, &tables, &mixed);
     println!("lookup of the characters of mixed scripts / hand-written: {of_mixed}");
     of_images(&bytes);
+    // ASCII, Polish, Adlam and mixed scripts.
+    lengths::curve(&image, &samples[..4], Re2c::load().as_ref());
+    lengths::real_texts();
 }

@@ -36,7 +36,7 @@ extern "C" {
 #define LUFFINARC_VERSION_MAJOR 0
 #define LUFFINARC_VERSION_MINOR 8
 #define LUFFINARC_VERSION_PATCH 1
-#define LUFFINARC_VERSION "0.8.1"
+#define LUFFINARC_VERSION "0.8.2"
 
 /* The version word of an image built from Unicode a.b.c, and the three numbers of a word. b and c are at most 255, a at
  * most 65535; all are of type uint32_t. */

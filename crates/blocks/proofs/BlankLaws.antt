@@ -3,7 +3,7 @@ use Prim.Native.Nat.{ℕ, zero, suc}
 use mathlib.Core.Path.{_≡_, refl}
 use mathlib.Core.Bool.{Bool, true, _&&_}
 use mathlib.Core.List.{List, [], _∷_}
-use lib.ListN.{length, getD}
+use lib.ListN.{getD}
 use lib.Dec.{eqb}
 use borrow.Author.Tests.{eqb-true}
 use Rattle.lists.proofs.BoolLaws.{and-left, and-right}
@@ -18,5 +18,5 @@ all-zero [] e i = refl
 all-zero (x ∷ xs) e zero = eqb-true x 0 (and-left (eqb x 0) (allZero xs) e)
 all-zero (x ∷ xs) e (suc i) = all-zero xs (and-right (eqb x 0) (allZero xs) e) i
 
-pub blank : (size : ℕ) (xs : List ℕ) → length xs ≡ size → allZero xs ≡ true → Blank size xs
-blank size xs l e = record { long = l; each = λ i h. all-zero xs e i }
+pub blank : (xs : List ℕ) → allZero xs ≡ true → Blank xs
+blank xs e = record { each = all-zero xs e }

@@ -1,4 +1,4 @@
-pub mod BlockLaws
 pub mod ByteLaws
 pub mod LearnLaws
 pub mod BlankLaws
+pub mod DoneLaws

@@ -1,34 +1,39 @@
-// What is known of the code points that a text has, for readers of long texts: a search in the image for each block of 64 code points,
-// then two loads for each character. A block has a row of 64 cells, four bits each: the blocks below U+10000 the lower half of a cell,
-// the others the upper half. Which row, the index says; row 0 says nothing. Code points from U+40000 on are not held.
+// What is known of the code points that a text has: what the memo of a search in the image tells is kept, then two loads are enough for each
+// character. A block of 64 code points has a row of 64 cells, and the index says which; a cell is 16 times the length of the code point's
+// sequence, and what the token rules know of it; 0: nothing. The first two rows are ASCII, with no length: so a block with row 0 says nothing.
+// A sequence is known to be well-formed since one was decoded, by the rows of Table 3-7, when its block was learned; only its last byte may
+// be another.
 ghost use mathlib.Core.Path.{_≡_};
 ghost use mathlib.Core.Option.{none};
-ghost use mathlib.Core.Bool.{true, false};
-ghost use mathlib.Core.Logic.{_⊎_};
-ghost use Prim.Native.Nat.{_+_, _*_, _/_, _%_, _≤_, _<_};
+ghost use mathlib.Core.Bool.{true};
+ghost use mathlib.Core.List.{List};
+ghost use Prim.Native.Nat.{ℕ, _+_, _-_, _*_, _%_, _≤_, _<_};
 ghost use lib.ListN.{length, getD};
-ghost use Rattle.line.specs.Line.{isLineEnd};
 ghost use Rattle.image.specs.Check.{refusalOf};
-ghost use Rattle.blocks.specs.Blocks.{blockSize, blockCount, rowCount, upperBlock, Fits, Learning, Blank, FoundAt, StandsAt, BlockOf, ScalarBlock, PutIn, SmallBlock, StartBlock, Begins};
+ghost use Rattle.character.specs.Read.{MemoOf};
+ghost use Rattle.blocks.specs.Blocks.{blockSize, blockCount, Fits, Learning, Blank, HeldAt, FoundAt, BlockLong, Meets, Put, RowPut, Learns};
+use character::Memo;
 
-// Line ends of the class White, in traits.
-const LINE_ENDS: u8 = 6;
+// The code points of a block.
+const BLOCK: usize = 64;
 
-// The class Start, in traits; the row of blocks that are all Start has that number too.
-const START: u8 = 1;
-
-// Start in both halves of a cell.
-const BOTH_START: u8 = 17;
-
-// The first row that is given out.
-const FIRST_ROW: usize = 2;
-
-const ROWS: usize = 136;
-
-// The first block that has the upper half.
-const UPPER: usize = 1024;
-
+// The blocks of an index for all code points below U+40000.
 pub const BLOCKS: usize = 4096;
+
+// The cells of ASCII.
+const ASCII: usize = 128;
+
+// A byte of the index tells one of so many rows.
+const ROWS: usize = 256;
+
+// The rows of ASCII, and of blocks that are all Start, whose row is the length of their sequences, come first; this one is free.
+const FIRST_ROW: usize = 5;
+
+// Start, in what the token rules know.
+const START: usize = 1;
+
+// What a cell has more for each byte of a sequence.
+const LENGTH: usize = 16;
 
 // What a byte that follows others has beside its six bits of the code point.
 const TRAIL: usize = 0x80;
@@ -42,20 +47,6 @@ const THREE_BYTES: usize = 0xE0 * 64 + TRAIL;
 // the second and third of four, where the first is 0xF0.
 const FOUR_BYTES: usize = TRAIL * 64 + TRAIL;
 
-pub const CELLS: usize = 8704;
-
-// The first free row of each half.
-pub struct Rows {
-    pub lower: usize,
-    pub upper: usize,
-}
-
-// What is known of a character, and its length; traits 0: nothing is.
-pub struct Known {
-    pub traits: usize,
-    pub len: usize,
-}
-
 // A byte as a number, which is below 256.
 fn widen(x: u8) -> usize
     ensures { λ r. ⌜ (r ≡ x) × (r < 256) ⌝ }
@@ -63,303 +54,246 @@ fn widen(x: u8) -> usize
     x as usize
 }
 
-// The cell of a row that is of a sequence's last byte.
-fn cell_of(cells: &[u8; 8704], row: u8, last: u8) -> usize
-    requires { ⌜ (length (now cells) ≡ rowCount * blockSize) × (row < rowCount) ⌝ }
-    requires { ⌜ (0x80 ≤ last) × (last < 0xC0) ⌝ }
-    ensures { λ r. ⌜ (r ≡ getD (now (cells .entry)) (row * blockSize + last % blockSize) 0) × (r < 256) ⌝ }
+// What is held of a sequence of this length by its block and its last byte; 0: nothing.
+fn held<'a>(index: &'a [u8], cells: &'a [u8], block: usize, last: u8, len: usize) -> usize
+    requires { ⌜ Fits (now index) (now cells) × (blockCount ≤ length (now index)) ⌝ }
+    requires { ⌜ (block < blockCount) × (0x80 ≤ last) × (last < 0xC0) ⌝ }
+    ensures { λ r. ⌜ HeldAt (now (index .entry)) (now (cells .entry)) block (last % blockSize) len r ⌝ }
 {
-    widen(cells[row as usize * 64 + last as usize - TRAIL])
+    let row = widen(index[block]);
+    let cell = widen(cells[row * BLOCK + widen(last) - TRAIL]);
+    if cell / LENGTH != len {
+        return 0;
+    }
+    cell % LENGTH
 }
 
-// What is held of a sequence of two bytes at a place, if its bytes are right; else 0. The same of three and four.
-fn known_two<'a>(index: &'a [u8; 4096], cells: &'a [u8; 8704], text: &'a [u8], at: usize) -> usize
-    requires { ⌜ Fits (now index) (now cells) ⌝ }
-    requires { ⌜ (at + 2 ≤ length (now text)) × (getD (now text) at 0 < 0xE0) ⌝ }
-    ensures { λ r. ⌜ FoundAt (now (index .entry)) (now (cells .entry)) (now (text .entry)) at (record { traits = r; len = 2 }) ⌝ }
+// What is held of the sequence of two bytes at a place, 0: nothing. The same of three and four.
+pub fn known_two<'a>(index: &'a [u8], cells: &'a [u8], text: &'a [u8], at: usize) -> usize
+    requires { ⌜ Fits (now index) (now cells) × (blockCount ≤ length (now index)) ⌝ }
+    requires { ⌜ (at + 2 ≤ length (now text)) × (0x80 ≤ getD (now text) at 0) × (getD (now text) at 0 < 0xE0) ⌝ }
+    ensures { λ r. ⌜ FoundAt (now (index .entry)) (now (cells .entry)) (now (text .entry)) at 2 r ⌝ }
 {
     let a = text[at];
     let b = text[at + 1];
-    if a < 0xC2 {
+    if utf8::is_trail(a) {
         return 0;
     }
-    if b / 64 != 2 {
+    if !utf8::is_trail(b) {
         return 0;
     }
-    cell_of(cells, index[a as usize - TWO_BYTES], b) % 16
+    held(index, cells, widen(a) - TWO_BYTES, b, 2)
 }
 
-fn known_three<'a>(index: &'a [u8; 4096], cells: &'a [u8; 8704], text: &'a [u8], at: usize) -> usize
-    requires { ⌜ Fits (now index) (now cells) ⌝ }
+pub fn known_three<'a>(index: &'a [u8], cells: &'a [u8], text: &'a [u8], at: usize) -> usize
+    requires { ⌜ Fits (now index) (now cells) × (blockCount ≤ length (now index)) ⌝ }
     requires { ⌜ (at + 3 ≤ length (now text)) × (0xE0 ≤ getD (now text) at 0) × (getD (now text) at 0 < 0xF0) ⌝ }
-    ensures { λ r. ⌜ FoundAt (now (index .entry)) (now (cells .entry)) (now (text .entry)) at (record { traits = r; len = 3 }) ⌝ }
+    ensures { λ r. ⌜ FoundAt (now (index .entry)) (now (cells .entry)) (now (text .entry)) at 3 r ⌝ }
 {
     let b = text[at + 1];
     let c = text[at + 2];
-    if b / 64 != 2 {
+    if !utf8::is_trail(b) {
         return 0;
     }
-    if c / 64 != 2 {
+    if !utf8::is_trail(c) {
         return 0;
     }
-    let block = text[at] as usize * 64 + b as usize - THREE_BYTES;
-    if block < 32 {
-        return 0;
-    }
-    cell_of(cells, index[block], c) % 16
+    let block = widen(text[at]) * BLOCK + widen(b) - THREE_BYTES;
+    held(index, cells, block, c, 3)
 }
 
-fn known_four<'a>(index: &'a [u8; 4096], cells: &'a [u8; 8704], text: &'a [u8], at: usize) -> usize
-    requires { ⌜ Fits (now index) (now cells) ⌝ }
+pub fn known_four<'a>(index: &'a [u8], cells: &'a [u8], text: &'a [u8], at: usize) -> usize
+    requires { ⌜ Fits (now index) (now cells) × (blockCount ≤ length (now index)) ⌝ }
     requires { ⌜ (at + 4 ≤ length (now text)) × (0xF0 ≤ getD (now text) at 0) ⌝ }
-    ensures { λ r. ⌜ FoundAt (now (index .entry)) (now (cells .entry)) (now (text .entry)) at (record { traits = r; len = 4 }) ⌝ }
+    ensures { λ r. ⌜ FoundAt (now (index .entry)) (now (cells .entry)) (now (text .entry)) at 4 r ⌝ }
 {
     let b = text[at + 1];
     let c = text[at + 2];
     let d = text[at + 3];
     if text[at] != 0xF0 {
+        return 0; // no block is held of these
+    }
+    if !utf8::is_trail(b) {
         return 0;
     }
-    if b < 0x90 {
+    if !utf8::is_trail(c) {
         return 0;
     }
-    if b / 64 != 2 {
+    if !utf8::is_trail(d) {
         return 0;
     }
-    if c / 64 != 2 {
-        return 0;
-    }
-    if d / 64 != 2 {
-        return 0;
-    }
-    let block = b as usize * 64 + c as usize - FOUR_BYTES;
-    cell_of(cells, index[block], d) / 16
+    let block = widen(b) * BLOCK + widen(c) - FOUR_BYTES;
+    held(index, cells, block, d, 4)
 }
 
-// What is held of the character at a place, which is not ASCII; its bytes are tested.
-pub fn known_at<'a>(
-    index: &'a [u8; 4096],
-    cells: &'a [u8; 8704],
-    text: &'a [u8],
-    at: usize,
-) -> Known
-    requires { ⌜ Fits (now index) (now cells) ⌝ }
-    requires { ⌜ at + 4 ≤ length (now text) ⌝ }
-    ensures { λ r. ⌜ FoundAt (now (index .entry)) (now (cells .entry)) (now (text .entry)) at r ⌝ }
-{
-    let a = text[at];
-    if a < 0xE0 {
-        return Known {
-            traits: known_two(index, cells, text, at),
-            len: 2,
-        };
-    }
-    if a < 0xF0 {
-        return Known {
-            traits: known_three(index, cells, text, at),
-            len: 3,
-        };
-    }
-    Known {
-        traits: known_four(index, cells, text, at),
-        len: 4,
-    }
-}
-
-// The same of a character that is known to stand there: nothing is tested.
-pub fn sure_at<'a>(index: &'a [u8; 4096], cells: &'a [u8; 8704], text: &'a [u8], at: usize) -> Known
-    requires { ⌜ Fits (now index) (now cells) ⌝ }
-    requires { ⌜ StandsAt (now text) at ⌝ }
-    requires { ⌜ (at < length (now text)) × (0x80 ≤ getD (now text) at 0) ⌝ }
-    ensures { λ r. ⌜ FoundAt (now (index .entry)) (now (cells .entry)) (now (text .entry)) at r ⌝ }
-{
-    let a = text[at];
-    if a < 0xE0 {
-        return Known {
-            traits: cell_of(cells, index[a as usize - TWO_BYTES], text[at + 1]) % 16,
-            len: 2,
-        };
-    }
-    if a < 0xF0 {
-        let block = a as usize * 64 + text[at + 1] as usize - THREE_BYTES;
-        return Known {
-            traits: cell_of(cells, index[block], text[at + 2]) % 16,
-            len: 3,
-        };
-    }
-    if a != 0xF0 {
-        return Known { traits: 0, len: 4 };
-    }
-    let block = text[at + 1] as usize * 64 + text[at + 2] as usize - FOUR_BYTES;
-    Known {
-        traits: cell_of(cells, index[block], text[at + 3]) / 16,
-        len: 4,
-    }
-}
-
-// Whether all code points of a block are Start.
-fn is_start(ts: &[u8; 64]) -> bool
-    requires { ⌜ length (now ts) ≡ blockSize ⌝ }
-    ensures { λ r. ⌜ (r ≡ true → StartBlock (now (ts .entry))) ⌝ }
-{
-    let mut i = 0;
-    while i < 64 {
-        if ts[i] != START {
-            return false;
-        }
-        i += 1;
-    }
-    true
-}
-
-// What the token rules know of a block's code points.
-fn fill_block(image: &[u8], block: usize) -> [u8; 64]
+// Fills the rows of ASCII and, if they have room, those of Start. The first row that is free.
+pub fn begin(image: &[u8], cells: &mut [u8]) -> usize
     requires { ⌜ refusalOf (now image) ≡ none ⌝ }
-    requires { ⌜ (2 ≤ block) × (block < blockCount) ⌝ }
-    ensures { λ r. ⌜ BlockOf (now (image .entry)) block r ⌝ }
+    requires { ⌜ (128 ≤ length (now cells)) × Blank (now cells) ⌝ }
+    ensures { λ r. ⌜ ((index : List ℕ) → Blank index → Learning (now (image .entry)) index (now (cells .exit)) r) × (length (now (cells .exit)) ≡ length (now (cells .entry))) ⌝ }
 {
-    let mut ts = [0u8; 64];
-    character::fill_part(image, (block * 64) as u32, &mut ts);
-    let mut i = 0;
-    while i < 64 {
-        ts[i] = told_of((block * 64 + i) as u32, ts[i] % 16);
+    character::fill_cells(image, 0, 0, &mut cells[0..ASCII]);
+    if cells.len() < FIRST_ROW * BLOCK {
+        return FIRST_ROW;
+    }
+    let mut i = ASCII;
+    while i < FIRST_ROW * BLOCK {
+        cells[i] = (i / BLOCK * LENGTH + START) as u8;
         i += 1;
     }
-    ts
+    FIRST_ROW
 }
 
-// What is held of a code point with these traits: nothing of a line end that is of another class than White, or a medial.
-fn told_of(code: u32, traits: u8) -> u8
-    ensures { λ r. ⌜ (r ≡ 0) ⊎ ((r ≡ traits) × ((r ≡ 6 → ⊥) → isLineEnd code ≡ false)) ⌝ }
+// Puts a cell at the places from `from` on, before `to`.
+fn put_cells(cells: &mut [u8], from: usize, to: usize, cell: u8)
+    requires { ⌜ (from ≤ to) × (to ≤ length (now cells)) ⌝ }
+    ensures { λ _. ⌜ Put from to cell (now (cells .entry)) (now (cells .exit)) ⌝ }
 {
-    if traits == LINE_ENDS {
-        return traits;
+    let mut i = from;
+    while i < to {
+        cells[i] = cell;
+        i += 1;
     }
-    if line::is_line_end(code) {
+}
+
+// Where the code points from `first` on begin in the block at `base`.
+fn part_begin(first: u32, base: usize) -> usize
+    ensures { λ r. ⌜ r ≡ first - base ⌝ }
+{
+    let x = first as usize;
+    if x < base {
         return 0;
     }
-    traits
+    x - base
 }
 
-// A cell with this number in its lower half, or in its upper one.
-fn join_lower(cell: u8, t: u8) -> u8
-    requires { ⌜ t < 16 ⌝ }
-    ensures { λ r. ⌜ (r % 16 ≡ t) × (r / 16 ≡ cell / 16) ⌝ }
+// Where the code points to `last` end in it.
+fn part_end(last: u32, base: usize) -> usize
+    requires { ⌜ base ≤ last ⌝ }
+    ensures { λ r. ⌜ (r ≤ blockSize) × (base + r ≤ last + 1) × ((j : ℕ) → j < blockSize → base + j ≤ last → j < r) ⌝ }
 {
-    cell / 16 * 16 + t
-}
-
-fn join_upper(cell: u8, t: u8) -> u8
-    requires { ⌜ t < 16 ⌝ }
-    ensures { λ r. ⌜ (r % 16 ≡ cell % 16) × (r / 16 ≡ t) ⌝ }
-{
-    cell % 16 + t * 16
-}
-
-// Puts a block's numbers into the lower half of a row, or into the upper one.
-fn put_lower(cells: &mut [u8; 8704], row: usize, ts: &[u8; 64])
-    requires { ⌜ (length (now cells) ≡ rowCount * blockSize) × (row < rowCount) ⌝ }
-    requires { ⌜ (length (now ts) ≡ blockSize) × SmallBlock (now ts) ⌝ }
-    ensures { λ _. ⌜ PutIn 0 (now (cells .entry)) row (now (ts .entry)) (now (cells .exit)) ⌝ }
-{
-    let mut i = 0;
-    while i < 64 {
-        cells[row * 64 + i] = join_lower(cells[row * 64 + i], ts[i]);
-        i += 1;
+    let count = last as usize - base;
+    if BLOCK <= count {
+        return BLOCK;
     }
+    count + 1
 }
 
-fn put_upper(cells: &mut [u8; 8704], row: usize, ts: &[u8; 64])
-    requires { ⌜ (length (now cells) ≡ rowCount * blockSize) × (row < rowCount) ⌝ }
-    requires { ⌜ (length (now ts) ≡ blockSize) × SmallBlock (now ts) ⌝ }
-    ensures { λ _. ⌜ PutIn upperBlock (now (cells .entry)) row (now (ts .entry)) (now (cells .exit)) ⌝ }
+// Puts a cell for each code point of the memo in a block into a row.
+fn put_row(cells: &mut [u8], row: usize, memo: Memo, block: usize, cell: u8)
+    requires { ⌜ row * blockSize + blockSize ≤ length (now cells) ⌝ }
+    requires { ⌜ Meets memo block ⌝ }
+    ensures { λ _. ⌜ RowPut memo block row cell (now (cells .entry)) (now (cells .exit)) ⌝ }
 {
-    let mut i = 0;
-    while i < 64 {
-        cells[row * 64 + i] = join_upper(cells[row * 64 + i], ts[i]);
-        i += 1;
-    }
+    let base = block * BLOCK;
+    let begin = row * BLOCK;
+    let from = begin + part_begin(memo.first, base);
+    let to = begin + part_end(memo.last, base);
+    put_cells(cells, from, to, cell);
 }
 
-// Fills the row of Start, in both halves, in cells that hold nothing yet.
-pub fn begin(cells: &mut [u8; 8704]) -> Rows
-    requires { ⌜ Blank (rowCount * blockSize) (now cells) ⌝ }
-    ensures { λ r. ⌜ Begins (now (cells .exit)) r ⌝ }
+// Whether all code points of a block are in the memo, and are Start.
+fn all_start(memo: Memo, block: usize) -> bool
+    requires { ⌜ Meets memo block ⌝ }
+    ensures { λ r. ⌜ (r ≡ true → (memo .first ≤ block * blockSize) × (block * blockSize + 63 ≤ memo .last) × (memo .traits % 16 ≡ 1)) ⌝ }
 {
-    let mut i = 64;
-    while i < 128 {
-        cells[i] = BOTH_START;
-        i += 1;
+    let base = block * BLOCK;
+    if base < memo.first as usize {
+        return false;
     }
-    Rows {
-        lower: FIRST_ROW,
-        upper: FIRST_ROW,
+    if (memo.last as usize) < base + 63 {
+        return false;
     }
+    memo.traits % 16 == START as u32
 }
 
-// Looks up a block, if a row is free.
+// The cell of a sequence of this length, with these traits.
+fn cell_of(len: usize, traits: u32) -> u8
+    requires { ⌜ len ≤ 4 ⌝ }
+    ensures { λ r. ⌜ r ≡ len * 16 + traits % 16 ⌝ }
+{
+    (len * LENGTH + (traits % 16) as usize) as u8
+}
+
+// Keeps what the memo tells of a block, whose sequences have this length: in its row, in that of Start, or in the free row. The first row
+// that is free then.
 fn learn(
-    image: &[u8],
-    index: &mut [u8; 4096],
-    cells: &mut [u8; 8704],
-    rows: Rows,
+    index: &mut [u8],
+    cells: &mut [u8],
+    rows: usize,
     block: usize,
-) -> Rows
-    requires { ⌜ refusalOf (now image) ≡ none ⌝ }
-    requires { ⌜ Learning (now image) (now index) (now cells) rows ⌝ }
-    requires { ⌜ (2 ≤ block) × (block < blockCount) × ScalarBlock block ⌝ }
-    ensures { λ r. ⌜ Learning (now (image .entry)) (now (index .exit)) (now (cells .exit)) r ⌝ }
+    len: usize,
+    memo: Memo,
+) -> usize
+    requires { ⌜ Fits (now index) (now cells) ⌝ }
+    requires { ⌜ (block < length (now index)) × (2 ≤ len) × (len ≤ 4) × BlockLong block len × Meets memo block ⌝ }
+    ensures { λ r. ⌜ Learns memo (now (index .entry)) (now (cells .entry)) rows (now (index .exit)) (now (cells .exit)) r ⌝ }
 {
-    let mut row = rows.lower;
-    if UPPER <= block {
-        row = rows.upper;
-    }
-    if ROWS <= row {
+    let cell = cell_of(len, memo.traits);
+    let row = widen(index[block]);
+    if FIRST_ROW <= row {
+        put_row(cells, row, memo, block, cell);
         return rows;
     }
-    let ts = fill_block(image, block);
-    if is_start(&ts) {
-        index[block] = START;
+    if row != 0 {
+        return rows; // a row of Start is whole
+    }
+    if rows < FIRST_ROW {
         return rows;
     }
-    index[block] = row as u8;
-    if block < UPPER {
-        put_lower(cells, row, &ts);
-        return Rows {
-            lower: row + 1,
-            upper: rows.upper,
-        };
+    if cells.len() < FIRST_ROW * BLOCK {
+        return rows;
     }
-    put_upper(cells, row, &ts);
-    Rows {
-        lower: rows.lower,
-        upper: row + 1,
+    if all_start(memo, block) {
+        index[block] = len as u8;
+        return rows;
     }
+    if ROWS <= rows {
+        return rows;
+    }
+    if cells.len() < rows * BLOCK + BLOCK {
+        return rows;
+    }
+    index[block] = rows as u8;
+    put_row(cells, rows, memo, block, cell);
+    rows + 1
 }
 
-// Looks up the block of the character at a place, if it is not held yet.
+// Keeps what the memo tells of the character at a place and its block. The first row that is free then.
 pub fn learn_at<'a>(
-    image: &'a [u8],
-    index: &mut [u8; 4096],
-    cells: &mut [u8; 8704],
-    rows: Rows,
+    index: &mut [u8],
+    cells: &mut [u8],
+    rows: usize,
     text: &'a [u8],
     at: usize,
-) -> Rows
-    requires { ⌜ refusalOf (now image) ≡ none ⌝ }
-    requires { ⌜ Learning (now image) (now index) (now cells) rows ⌝ }
+    memo: Memo,
+) -> usize
+    requires { ⌜ Fits (now index) (now cells) ⌝ }
     requires { ⌜ at < length (now text) ⌝ }
-    ensures { λ r. ⌜ Learning (now (image .entry)) (now (index .exit)) (now (cells .exit)) r ⌝ }
+    ensures { λ r. ⌜ ((s : List ℕ) → refusalOf s ≡ none → MemoOf s memo → Learning s (now (index .entry)) (now (cells .entry)) rows → Learning s (now (index .exit)) (now (cells .exit)) r) ⌝ }
+    ensures { λ _. ⌜ (length (now (index .exit)) ≡ length (now (index .entry))) × (length (now (cells .exit)) ≡ length (now (cells .entry))) × Fits (now (index .exit)) (now (cells .exit)) ⌝ }
 {
-    let block = utf8::decode_packed(text, at) / 512;
-    if block < 2 {
-        return rows; // ASCII, or ill-formed
+    if index.len() < BLOCKS {
+        return rows;
+    }
+    if text[at] < 0x80 {
+        return rows;
+    }
+    let packed = utf8::decode_packed(text, at);
+    let len = packed % 8;
+    let code = packed / 8;
+    let block = code / BLOCK;
+    if len < 2 {
+        return rows; // ill-formed
     }
     if BLOCKS <= block {
         return rows;
     }
-    if index[block] != 0 {
+    if code < memo.first as usize {
         return rows;
     }
-    learn(image, index, cells, rows, block)
+    if (memo.last as usize) < code {
+        return rows;
+    }
+    learn(index, cells, rows, block, len, memo)
 }

@@ -1,7 +1,7 @@
 -- Stretches of one class, and the traits of their code points: a memo and a table hold the traits of their code points.
 -- Assumes nothing.
 use Prim.Native.Nat.{ℕ, _+_, _-_, _%_, _≤_, _<_}
-use mathlib.Core.Path.{_≡_, sym, ap, _∙_}
+use mathlib.Core.Path.{_≡_, refl, sym, ap, _∙_}
 use mathlib.Core.Bool.{Bool, true, false}
 use mathlib.Core.List.{List}
 use mathlib.Core.Option.{none}
@@ -9,7 +9,7 @@ use native.Mathlib.Omega.{arith}
 use lib.ListN.{length, getD, set, drop}
 use lib.Seq.{getD-set-other}
 use Rattle.lists.specs.Filled.{Filled}
-use Rattle.lists.proofs.FilledLaws.{filled-more}
+use Rattle.lists.proofs.FilledLaws.{filled-none, filled-more}
 use Rattle.image.specs.Profile.{afterRole, isMedial, isHashtag}
 use Rattle.image.specs.Check.{refusalOf, hashtagOf}
 use Rattle.image.specs.declared.Range.{Range}
@@ -117,27 +117,29 @@ module _ (s : List ℕ) (x : ℕ) (c r b : Stretch) (k t : ℕ) (f : StretchOf s
             traits-in y (i .0) (i .1) ∙ ap (λ (p : ℕ). joined p (r .class)) o ∙ sym q;
       }
 
--- the table while what the token rules know takes the place of the traits: before k it has
-pub record Cut (s t : List ℕ) (k : ℕ) : Type 0 where
-  pub cut : Filled 128 (tokenTraits s) t k
-  pub rest : (y : ℕ) → k ≤ y → y < 128 → getD t y 0 ≡ traitsOf s y
+-- cells while what the token rules know, with a tag, takes the place of the traits: before k it has
+pub record Cut (size tag base : ℕ) (s t : List ℕ) (k : ℕ) : Type 0 where
+  pub cut : Filled size (λ (j : ℕ). tag + tokenTraits s (base + j)) t k
+  pub rest : (y : ℕ) → k ≤ y → y < size → getD t y 0 ≡ traitsOf s (base + y)
 
-pub cut-begins : (s t : List ℕ) → Filled 128 (traitsOf s) t 128 → Cut s t 0
-cut-begins s t f = record { cut = record { long = f .long; each = λ y l. absurd (omega arith) }; rest = λ y _ l. f .each y l }
+module _ {size tag base : ℕ} {s t : List ℕ} where
+  pub cut-begins : Filled size (λ (j : ℕ). traitsOf s (base + j)) t size → Cut (length t) tag base s t 0
+  cut-begins f = let e = f .long in record { cut = filled-none refl; rest = λ y _ l. f .each y (omega arith) }
 
-pub cut-more : (s t : List ℕ) (k : ℕ) → refusalOf s ≡ none → k < 128 → Cut s t k → Cut s (set t k (getD t k 0 % 16)) (k + 1)
-cut-more s t k a h c =
-    record {
-      cut = filled-more (getD t k 0 % 16) h (c .cut) (ap (λ (v : ℕ). v % 16) (c .rest k (omega arith) h) ∙ token-traits s k a);
-      rest = λ y l u. getD-set-other t k y (getD t k 0 % 16) 0 (λ q. absurd (omega arith)) ∙ c .rest y (omega arith) u;
-    }
+  pub cut-more : {k : ℕ} → refusalOf s ≡ none → k < size → Cut size tag base s t k → Cut size tag base s (set t k (tag + getD t k 0 % 16)) (k + 1)
+  cut-more {k} a h c =
+      let v = tag + getD t k 0 % 16 in
+      record {
+        cut = filled-more v h (c .cut) (ap (λ (v : ℕ). tag + v % 16) (c .rest k (omega arith) h) ∙ ap (λ (v : ℕ). tag + v) (token-traits s (base + k) a));
+        rest = λ y l u. getD-set-other t k y v 0 (λ q. absurd (omega arith)) ∙ c .rest y (omega arith) u;
+      }
 
--- so the table has what is known of the character there
+-- a table has what is known of the ASCII character there
 pub read-ascii :
-    (g : ℕ → ℕ) (s text table : List ℕ) (at : ℕ) (m : Memo) (r : Character) → Filled 128 g table 128 → MemoOf s m → at < length text → getD text at 0 < 0x80
-    → r ≡ asciiCharacter (getD text at 0) (getD table (getD text at 0) 0) m → ReadBy g s text at r
+    (g : ℕ → ℕ) (s text table : List ℕ) (at : ℕ) (m : Memo) (r : Character) → ((y : ℕ) → y < 128 → getD table y 0 ≡ g y) → MemoOf s m → at < length text
+    → getD text at 0 < 0x80 → r ≡ asciiCharacter (getD text at 0) (getD table (getD text at 0) 0) m → ReadBy g s text at r
 read-ascii g s text table at m r f a h b e =
-    rw e (record { memo = a; none = λ z. absurd (omega arith); some = λ _. (ascii-at text at h b, f .each _ b) })
+    rw e (record { memo = a; none = λ z. absurd (omega arith); some = λ _. (ascii-at text at h b, f _ b) })
 
 -- a sequence that was unpacked and settled is the character there
 pub read-settled : (s text : List ℕ) (at d : ℕ) (r : Character) → Unpacked (drop at text) d → Settled s d r → ReadAs s text at r

@@ -4,7 +4,7 @@
 use Prim.Native.Nat.{ℕ, _/_, _%_, _≤_, _<_}
 use mathlib.Core.Path.{_≡_}
 use mathlib.Core.List.{List}
-use lib.ListN.{drop}
+use lib.ListN.{length, getD, drop}
 use Rattle.lists.specs.Filled.{Filled}
 use Rattle.utf8.specs.declared.Step.the-variants.{Scalar}
 use Rattle.utf8.specs.Head.{stepOf, IllHead}
@@ -26,8 +26,10 @@ pub record MemoAt (s : List ℕ) (x : ℕ) (m : Memo) : Type 0 where
 abbrev pub TableOf : List ℕ → List ℕ → Type 0
 TableOf s t = Filled 128 (traitsOf s) t 128
 
-abbrev pub TokenTableOf : List ℕ → List ℕ → Type 0
-TokenTableOf s t = Filled 128 (tokenTraits s) t 128
+-- a list begins with such a table
+pub record TokenTableOf (s t : List ℕ) : Type 0 where
+  pub long : 128 ≤ length t
+  pub each : (y : ℕ) → y < 128 → getD t y 0 ≡ tokenTraits s y
 
 -- the character of a packed sequence, 8 times its code point and its length: the length, the code point and its traits
 pub record Settled (s : List ℕ) (packed : ℕ) (r : Character) : Type 0 where

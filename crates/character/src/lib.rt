@@ -13,7 +13,7 @@ ghost use Rattle.image.specs.declared.records.Section.the-variants.{Ranges, Ent
 ghost use Rattle.image.specs.Placed.{Passed, Placed};
 ghost use Rattle.grammar.specs.White.{isMark};
 ghost use Rattle.lists.specs.Filled.{Filled};
-ghost use Rattle.character.specs.Traits.{medialPart, hashtagPart, traitsOf};
+ghost use Rattle.character.specs.Traits.{medialPart, hashtagPart, tokenTraits, traitsOf};
 ghost use Rattle.character.specs.Stretch.{StretchOf, WhiteStretchOf, Shared};
 ghost use Rattle.character.specs.Read.{MemoOf, MemoAt, TableOf, TokenTableOf, Settled, asciiCharacter, ReadAs, ReadTokenAs};
 use image::records::Section;
@@ -333,18 +333,19 @@ pub fn fill_table(image: &[u8]) -> [u8; 128]
     table
 }
 
-// What the token rules know of the ASCII code points.
-pub fn fill_token_table(image: &[u8]) -> [u8; 128]
+// What the token rules know of the code points from `base` on, as many as `out` has room for, each with `tag` more.
+pub fn fill_cells(image: &[u8], base: u32, tag: u8, out: &mut [u8])
     requires { ⌜ refusalOf (now image) ≡ none ⌝ }
-    ensures { λ r. ⌜ TokenTableOf (now (image .entry)) r ⌝ }
+    requires { ⌜ base + length (now out) ≤ 0x110000 ⌝ }
+    requires { ⌜ tag ≤ 64 ⌝ }
+    ensures { λ _. ⌜ Filled (length (now (out .entry))) (λ (j : ℕ). tag + tokenTraits (now (image .entry)) (base + j)) (now (out .exit)) (length (now (out .entry))) ⌝ }
 {
-    let mut table = fill_table(image);
+    fill_part(image, base, out);
     let mut i = 0;
-    while i < 128 {
-        table[i] = token_traits(table[i] as u32) as u8;
+    while i < out.len() {
+        out[i] = tag + out[i] % 16;
         i += 1;
     }
-    table
 }
 
 // The character of a packed sequence: 8 times its code point, and its length.
@@ -419,7 +420,7 @@ pub fn read<'a>(
 // The same with what the token rules know in place of all traits. The table holds just that: no mask costs time where a text is ASCII.
 pub fn read_for_tokens<'a>(
     image: &'a [u8],
-    table: &'a [u8; 128],
+    table: &'a [u8],
     memo: Memo,
     text: &'a [u8],
     at: usize,

@@ -141,83 +141,26 @@ settled-view (whitespace lineEnd) q = refl
 settled-view (whitespace mark) q = refl
 
 -- the numbers of states: those that wait, and those of some sides
-pub plain-waits : (n : ℕ) → countWaiting ≤ n → (plainOf n ≡ n - 4) × (sideNamed n ≡ ofIdentifier)
-plain-waits zero h = absurd (omega arith)
-plain-waits (suc zero) h = absurd (omega arith)
-plain-waits (suc (suc zero)) h = absurd (omega arith)
-plain-waits (suc (suc (suc zero))) h = absurd (omega arith)
-plain-waits (suc (suc (suc (suc zero)))) h = absurd (omega arith)
-plain-waits (suc (suc (suc (suc (suc zero))))) h = absurd (omega arith)
-plain-waits (suc (suc (suc (suc (suc (suc zero)))))) h = absurd (omega arith)
-plain-waits (suc (suc (suc (suc (suc (suc (suc zero))))))) h = absurd (omega arith)
-plain-waits (suc (suc (suc (suc (suc (suc (suc (suc zero)))))))) h = absurd (omega arith)
-plain-waits (suc (suc (suc (suc (suc (suc (suc (suc (suc zero))))))))) h = absurd (omega arith)
-plain-waits (suc (suc (suc (suc (suc (suc (suc (suc (suc (suc n)))))))))) h = (omega arith, refl)
+pub record Stated (n : ℕ) : Type 0 where
+  pub waits : countWaiting ≤ n → (plainOf n ≡ n - 4) × (sideNamed n ≡ ofIdentifier)
+  pub plain : waiting ≤ plainOf n → countWaiting ≤ n
+  pub nothing : plainOf n ≡ 0 → n ≡ 0
+  pub identifier : n < countWaiting → sideNamed n ≡ ofIdentifier → n ≡ 1
+  pub medial : sideNamed n ≡ ofMedial → n ≡ 2
+  pub marked : goesBy (sideNamed n) ≡ 4 → plainOf n ≡ kindNumber (whitespace mark)
 
-pub waits-plain : (n : ℕ) → waiting ≤ plainOf n → countWaiting ≤ n
-waits-plain zero h = absurd (omega arith)
-waits-plain (suc zero) h = absurd (omega arith)
-waits-plain (suc (suc zero)) h = absurd (omega arith)
-waits-plain (suc (suc (suc zero))) h = absurd (omega arith)
-waits-plain (suc (suc (suc (suc zero)))) h = absurd (omega arith)
-waits-plain (suc (suc (suc (suc (suc zero))))) h = absurd (omega arith)
-waits-plain (suc (suc (suc (suc (suc (suc zero)))))) h = absurd (omega arith)
-waits-plain (suc (suc (suc (suc (suc (suc (suc zero))))))) h = absurd (omega arith)
-waits-plain (suc (suc (suc (suc (suc (suc (suc (suc zero)))))))) h = absurd (omega arith)
-waits-plain (suc (suc (suc (suc (suc (suc (suc (suc (suc zero))))))))) h = absurd (omega arith)
-waits-plain (suc (suc (suc (suc (suc (suc (suc (suc (suc (suc n)))))))))) h = omega arith
-
-pub nothing-state : (n : ℕ) → plainOf n ≡ 0 → n ≡ 0
-nothing-state zero e = refl
-nothing-state (suc zero) e = absurd (omega arith)
-nothing-state (suc (suc zero)) e = absurd (omega arith)
-nothing-state (suc (suc (suc zero))) e = absurd (omega arith)
-nothing-state (suc (suc (suc (suc zero)))) e = absurd (omega arith)
-nothing-state (suc (suc (suc (suc (suc zero))))) e = absurd (omega arith)
-nothing-state (suc (suc (suc (suc (suc (suc zero)))))) e = absurd (omega arith)
-nothing-state (suc (suc (suc (suc (suc (suc (suc zero))))))) e = absurd (omega arith)
-nothing-state (suc (suc (suc (suc (suc (suc (suc (suc zero)))))))) e = absurd (omega arith)
-nothing-state (suc (suc (suc (suc (suc (suc (suc (suc (suc zero))))))))) e = absurd (omega arith)
-nothing-state (suc (suc (suc (suc (suc (suc (suc (suc (suc (suc n)))))))))) e = absurd (omega arith)
-
-pub identifier-state : (n : ℕ) → n < countWaiting → sideNamed n ≡ ofIdentifier → n ≡ 1
-identifier-state zero h e = impossible (cc)
-identifier-state (suc zero) h e = refl
-identifier-state (suc (suc zero)) h e = impossible (cc)
-identifier-state (suc (suc (suc zero))) h e = impossible (cc)
-identifier-state (suc (suc (suc (suc zero)))) h e = impossible (cc)
-identifier-state (suc (suc (suc (suc (suc zero))))) h e = impossible (cc)
-identifier-state (suc (suc (suc (suc (suc (suc zero)))))) h e = impossible (cc)
-identifier-state (suc (suc (suc (suc (suc (suc (suc zero))))))) h e = impossible (cc)
-identifier-state (suc (suc (suc (suc (suc (suc (suc (suc zero)))))))) h e = impossible (cc)
-identifier-state (suc (suc (suc (suc (suc (suc (suc (suc (suc zero))))))))) h e = impossible (cc)
-identifier-state (suc (suc (suc (suc (suc (suc (suc (suc (suc (suc n)))))))))) h e = absurd (omega arith)
-
-pub medial-state : (n : ℕ) → sideNamed n ≡ ofMedial → n ≡ 2
-medial-state zero e = impossible (cc)
-medial-state (suc zero) e = impossible (cc)
-medial-state (suc (suc zero)) e = refl
-medial-state (suc (suc (suc zero))) e = impossible (cc)
-medial-state (suc (suc (suc (suc zero)))) e = impossible (cc)
-medial-state (suc (suc (suc (suc (suc zero))))) e = impossible (cc)
-medial-state (suc (suc (suc (suc (suc (suc zero)))))) e = impossible (cc)
-medial-state (suc (suc (suc (suc (suc (suc (suc zero))))))) e = impossible (cc)
-medial-state (suc (suc (suc (suc (suc (suc (suc (suc zero)))))))) e = impossible (cc)
-medial-state (suc (suc (suc (suc (suc (suc (suc (suc (suc zero))))))))) e = impossible (cc)
-medial-state (suc (suc (suc (suc (suc (suc (suc (suc (suc (suc n)))))))))) e = impossible (cc)
-
-pub mark-state : (n : ℕ) → goesBy (sideNamed n) ≡ 4 → plainOf n ≡ kindNumber (whitespace mark)
-mark-state zero e = absurd (omega arith)
-mark-state (suc zero) e = absurd (omega arith)
-mark-state (suc (suc zero)) e = absurd (omega arith)
-mark-state (suc (suc (suc zero))) e = absurd (omega arith)
-mark-state (suc (suc (suc (suc zero)))) e = absurd (omega arith)
-mark-state (suc (suc (suc (suc (suc zero))))) e = refl
-mark-state (suc (suc (suc (suc (suc (suc zero)))))) e = absurd (omega arith)
-mark-state (suc (suc (suc (suc (suc (suc (suc zero))))))) e = absurd (omega arith)
-mark-state (suc (suc (suc (suc (suc (suc (suc (suc zero)))))))) e = refl
-mark-state (suc (suc (suc (suc (suc (suc (suc (suc (suc zero))))))))) e = absurd (omega arith)
-mark-state (suc (suc (suc (suc (suc (suc (suc (suc (suc (suc n)))))))))) e = absurd (omega arith)
+pub stated : (n : ℕ) → Stated n
+stated zero = record { waits = λ h. absurd (omega arith); plain = λ h. absurd (omega arith); nothing = λ e. refl; identifier = λ h e. impossible (cc); medial = λ e. impossible (cc); marked = λ e. absurd (omega arith) }
+stated (suc zero) = record { waits = λ h. absurd (omega arith); plain = λ h. absurd (omega arith); nothing = λ e. absurd (omega arith); identifier = λ h e. refl; medial = λ e. impossible (cc); marked = λ e. absurd (omega arith) }
+stated (suc (suc zero)) = record { waits = λ h. absurd (omega arith); plain = λ h. absurd (omega arith); nothing = λ e. absurd (omega arith); identifier = λ h e. impossible (cc); medial = λ e. refl; marked = λ e. absurd (omega arith) }
+stated (suc (suc (suc zero))) = record { waits = λ h. absurd (omega arith); plain = λ h. absurd (omega arith); nothing = λ e. absurd (omega arith); identifier = λ h e. impossible (cc); medial = λ e. impossible (cc); marked = λ e. absurd (omega arith) }
+stated (suc (suc (suc (suc zero)))) = record { waits = λ h. absurd (omega arith); plain = λ h. absurd (omega arith); nothing = λ e. absurd (omega arith); identifier = λ h e. impossible (cc); medial = λ e. impossible (cc); marked = λ e. absurd (omega arith) }
+stated (suc (suc (suc (suc (suc zero))))) = record { waits = λ h. absurd (omega arith); plain = λ h. absurd (omega arith); nothing = λ e. absurd (omega arith); identifier = λ h e. impossible (cc); medial = λ e. impossible (cc); marked = λ e. refl }
+stated (suc (suc (suc (suc (suc (suc zero)))))) = record { waits = λ h. absurd (omega arith); plain = λ h. absurd (omega arith); nothing = λ e. absurd (omega arith); identifier = λ h e. impossible (cc); medial = λ e. impossible (cc); marked = λ e. absurd (omega arith) }
+stated (suc (suc (suc (suc (suc (suc (suc zero))))))) = record { waits = λ h. absurd (omega arith); plain = λ h. absurd (omega arith); nothing = λ e. absurd (omega arith); identifier = λ h e. impossible (cc); medial = λ e. impossible (cc); marked = λ e. absurd (omega arith) }
+stated (suc (suc (suc (suc (suc (suc (suc (suc zero)))))))) = record { waits = λ h. absurd (omega arith); plain = λ h. absurd (omega arith); nothing = λ e. absurd (omega arith); identifier = λ h e. impossible (cc); medial = λ e. impossible (cc); marked = λ e. refl }
+stated (suc (suc (suc (suc (suc (suc (suc (suc (suc zero))))))))) = record { waits = λ h. absurd (omega arith); plain = λ h. absurd (omega arith); nothing = λ e. absurd (omega arith); identifier = λ h e. impossible (cc); medial = λ e. impossible (cc); marked = λ e. absurd (omega arith) }
+stated (suc (suc (suc (suc (suc (suc (suc (suc (suc (suc n)))))))))) = record { waits = λ h. (omega arith, refl); plain = λ h. omega arith; nothing = λ e. absurd (omega arith); identifier = λ h e. absurd (omega arith); medial = λ e. impossible (cc); marked = λ e. absurd (omega arith) }
 
 -- while a medial waits no token is complete with the character's own turn; a medial after an identifier waits
 pub waits-turn : (n t : ℕ) → waiting ≤ n → turnOf n t ≡ 1 → ⊥

@@ -19,7 +19,6 @@ use Rattle.utf8.specs.declared.Text.the-variants as form
 use Rattle.utf8.specs.Head.{IllHead}
 use Rattle.utf8.specs.Text.{Character, decode, textOf, shift, charactersAt}
 use Rattle.utf8.proofs.TextLaws.{text-ill, end-here}
-use Rattle.image.specs.Check.{refusalOf}
 use Rattle.grammar.specs.White.{blank, lineEnd, mark}
 use Rattle.grammar.specs.Scan.{unitsOf}
 use Rattle.grammar.specs.Step.{idle, under, held, tok, underWay, preceded, tokensLeft, settle, finish}
@@ -37,24 +36,22 @@ use Rattle.grammar.proofs.RecordLaws.{tokens-append}
 use Rattle.grammar.proofs.StepLaws.{Settles}
 use Rattle.grammar.proofs.BesideLaws.{placeOf, viewOf, view-snoc, refused-append, beside-second}
 use Rattle.grammar.specs.declared.Counted.the-variants.{Refused, Records as Counted}
-use Rattle.turns.specs.Turns.{numberBy, waiting, traitMeaning, turnOf, afterOf, waitingOf}
+use Rattle.turns.specs.Turns.{numberBy, waiting, traitMeaning, turnOf, afterOf, waitingOf, startBy}
 use Rattle.grammar.specs.Reading.{readThrough}
 use Rattle.grammar.specs.Counted.{countedBy, countThrough, stopRefusal}
 use Rattle.turns.proofs.TurnLaws.{Tokens, Under, L, Stands, kind-less, number-less, Going, Comes, first, grown, passed, begun, doneBy, left}
-use Rattle.turns.proofs.ReachLaws.{Place, Here, Look, at-end, Reached, reached-begins, After, complete-few, after-settling, left-settled, settles-none, read-end, after-turn, after-waiting, settles-here, left-here}
+use Rattle.turns.proofs.ReachLaws.{Place, Look, at-end, Reached, reached-begins, After, complete-few, after-settling, left-settled, settles-none, read-end, after-turn, after-waiting, settles-here, left-here}
 use Rattle.count.specs.Turns.{Side, free, ofIdentifier, ofMedial, ofIdentifierMark, ofMedialMark, ofMarkMedial, placed, sideNamed, plainOf, viewBy, goesBy, countTurnOf, countWaiting, countStates, countAfterOf, countWaitingOf, countPendingOf, countBeside, stateBeside, markBeside, refusedBeside, stateFor}
-use Rattle.count.specs.Counting.{RefusedAt, Seen, Counting, CountingAs, CountedTo, finishedBy}
+use Rattle.count.specs.Counting.{RefusedAt, Seen, Counting, CountingAs, CountLook, finishedBy}
 use Rattle.count.specs.declared.Run.{Run}
-use Rattle.count.specs.declared.Going.{Going as Came}
-use Rattle.count.specs.declared.Going.the-variants as going
-use Rattle.count.proofs.BesideTurnLaws.{plainView, Told, goes, stays, begins, begins-none, waits, settles, stops, told, told-same, apart, marks, links, joins, plain-state, plain-side, state-less, settled-state, settled-view, plain-waits, waits-plain, nothing-state, identifier-state, medial-state, mark-state, waits-turn, identifier-turn, refused-more}
+use Rattle.count.proofs.BesideTurnLaws.{plainView, Told, goes, stays, begins, begins-none, waits, settles, stops, told, told-same, apart, marks, links, joins, plain-state, plain-side, state-less, settled-state, settled-view, stated, waits-turn, identifier-turn, refused-more}
 
 abbrev M : List ℕ → Meaning Character
 M s = meaningOf s
 
-pub counting-begins : (s text : List ℕ) → Counting s text 0 0 0 0 (length text) 0
+pub counting-begins : (s text : List ℕ) → Counting s text 0 0 0 0 0 (length text) 0
 counting-begins s text =
-    record { tokens = []; under-way = idle; reached = reached-begins s text; less = omega arith; counted = refl; place = omega arith; seen = record { view = refl; first = refl } }
+    record { tokens = []; under-way = idle; reached = reached-begins s text; less = omega arith; counted = refl; began = refl; place = omega arith; seen = record { view = refl; first = refl } }
 
 -- one more token
 either-none : (o : Option ℕ) → either o none ≡ o
@@ -161,7 +158,7 @@ module _ {s text : List ℕ} {ts ts′ : Tokens} {state q refused mid at n mid�
   seen-on : {q₀ next : Under} {o : Option Kind} {b : Bool} → Comes s o b q₀ 0 next → Reached s text (plainOf state) mid at ts q₀ → Reached s text n mid′ at′ ts′ next →
       goesBy (sideNamed state) ≡ 0 → Seen s text (ts ++ underWay q₀) state q refused → Seen s text ((ts ++ []) ++ underWay next) (stateFor n) q refused
   seen-on (first {k = k} {u = u} e) h h′ g i =
-      let z : viewBy state q ≡ other = ap (λ (m : ℕ). viewBy m q) (nothing-state state (h .stands .0)) in
+      let z : viewBy state q ≡ other = ap (λ (m : ℕ). viewBy m q) (stated state .nothing (h .stands .0)) in
       let p = tokensWidth (ts ++ []) in
       seen-next s text (ts ++ []) k u i (stateFor n) q (medialFirst (M s) u) refl (ap (λ v. refusedBy v k) z ∙ other-refuses k)
       (ap (λ (m : ℕ). viewBy (stateFor m) q) (h′ .stands .0) ∙ plain-side k q ∙ sym (ap (λ v. nextView v p k (medialFirst (M s) u)) z ∙ other-next p k (medialFirst (M s) u)))
@@ -180,10 +177,10 @@ module _ {s text : List ℕ} {ts ts′ : Tokens} {state q refused mid at n mid�
   -- .. or a mark goes on that may be refused
   seen-stays : {q₀ next : Under} {o : Option Kind} {b : Bool} → Comes s o b q₀ 0 next → Reached s text (plainOf state) mid at ts q₀ → Reached s text n mid′ at′ ts′ next →
       goesBy (sideNamed state) ≡ 4 → Seen s text (ts ++ underWay q₀) state q refused → (plainOf state ≡ n) × Seen s text ((ts ++ []) ++ underWay next) state q refused
-  seen-stays (first e) h h′ g i = absurd (omega (arith, h .stands .0, mark-state state g))
+  seen-stays (first e) h h′ g i = absurd (omega (arith, h .stands .0, stated state .marked g))
   seen-stays (grown {k = k} {u = u} {v = v} f) h h′ g i =
       (h .stands .0 ∙ sym (h′ .stands .0), subst (λ z. Seen s text (z ++ tok k v ∷ []) state q refused) (sym (append-nil ts)) (seen-grown s text ts k u v f i))
-  seen-stays passed h h′ g i = absurd (omega (arith, h .stands .0, mark-state state g))
+  seen-stays passed h h′ g i = absurd (omega (arith, h .stands .0, stated state .marked g))
 
 -- .. or one of kind k begins where another is complete
 record Begun (s : List ℕ) (k : Kind) (b : Bool) (next : Under) : Type 0 where
@@ -227,24 +224,18 @@ stops-at s text p ts us c l m w e =
 no-kind : {s : List ℕ} {q₀ next : Under} {o : Option Kind} {b : Bool} → Comes s o b q₀ 1 next → o ≡ none → ⊥
 no-kind (begun e f) g = impossible (cc)
 
--- a turn at a place: what it is of the character there, under an accepted image
-pub record CountLook (s text : List ℕ) (state at len traits turn : ℕ) : Type 0 where
-  pub accepted : refusalOf s ≡ none
-  pub here : Here s text at len traits
-  pub known : turn ≡ countTurnOf state traits
-
 -- the same with what calls gave for the numbers
-pub counting-same : {s text : List ℕ} {state count mid q refused at state′ count′ q′ refused′ : ℕ} → Counting s text state count mid q refused at →
-    state′ ≡ state → count′ ≡ count → q′ ≡ q → refused′ ≡ refused → Counting s text state′ count′ mid q′ refused′ at
+pub counting-same : {s text : List ℕ} {state count start mid q refused at state′ count′ q′ refused′ : ℕ} → Counting s text state count start mid q refused at →
+    state′ ≡ state → count′ ≡ count → q′ ≡ q → refused′ ≡ refused → Counting s text state′ count′ start mid q′ refused′ at
 counting-same i e f g h = rw (e, f, g, h) i
 
-module _ {s text : List ℕ} {state count mid q refused at : ℕ} (i : Counting s text state count mid q refused at) where
+module _ {s text : List ℕ} {state count start mid q refused at : ℕ} (i : Counting s text state count start mid q refused at) where
   pub counting-few : count ≤ length text
   counting-few = omega (arith, i .counted, complete-few (i .reached))
 
   counting-by : {o : Option Kind} {b : Bool} {r n start′ mid′ at′ : ℕ} (a : After s text (i .tokens) (i .under-way) o b r n start′ mid′ at′) (state′ q′ refused′ : ℕ) →
       plainOf state′ ≡ n → state′ < countStates → q′ ≤ at′ → Seen s text ((i .tokens ++ doneBy r (i .under-way)) ++ underWay (a .next)) state′ q′ refused′ →
-      Counting s text state′ (count + r) mid′ q′ refused′ at′
+      Counting s text state′ (count + r) start′ mid′ q′ refused′ at′
   counting-by {r = r} {mid′ = mid′} {at′ = at′} a state′ q′ refused′ e l p x =
       record {
         tokens = i .tokens ++ doneBy r (i .under-way);
@@ -252,6 +243,7 @@ module _ {s text : List ℕ} {state count mid q refused at : ℕ} (i : Counting 
         reached = subst (λ (n : ℕ). Reached s text n mid′ at′ (i .tokens ++ doneBy r (i .under-way)) (a .next)) (sym e) (a .reached);
         less = l;
         counted = omega (arith, length-append (i .tokens) (doneBy r (i .under-way)), a .size, i .counted);
+        began = a .began;
         place = p;
         seen = x;
       }
@@ -290,9 +282,9 @@ module _ {s text : List ℕ} {state count mid q refused at : ℕ} (i : Counting 
 
   -- what waits is settled: the medial is under way as a token of its own
   module _ (h : Settles (L s) (i .under-way) (charactersAt text at)) (w : countWaiting ≤ state) where
-    pub counting-settles : (state ≡ countWaiting → ⊥) → Counting s text (state - countWaiting) (count + 1) mid mid refused at
+    pub counting-settles : (state ≡ countWaiting → ⊥) → Counting s text (state - countWaiting) (count + 1) mid mid mid refused at
     counting-settles n =
-        let (p, d) = plain-waits state w in
+        let (p, d) = stated state .waits w in
         let (j, e, a) = after-settling (i .reached) h (omega arith) (λ z. n (omega arith)) in
         let m : state - countWaiting ≡ kindNumber j = omega arith in
         let v : viewBy state q ≡ afterIdentifier = ap (λ d. placed d q) d in
@@ -303,7 +295,7 @@ module _ {s text : List ℕ} {state count mid q refused at : ℕ} (i : Counting 
     -- or it begins no token
     pub counts-left : state ≡ countWaiting → Refused (stopRefusal mid (textOf (drop mid text))) ≡ countThrough s text
     counts-left n =
-        let p = plain-waits state w .0 in
+        let p = stated state .waits w .0 in
         let x = left s (plainOf state) (tokensWidth (i .tokens)) mid at (i .under-way) (i .reached .stands) (omega arith) (omega arith) in
         stops-at s text mid (i .tokens) (underWay (i .under-way)) (x .medial) (charactersAt text at) (i .reached .medial) (x .place) (left-settled (i .reached) h x)
 
@@ -315,11 +307,18 @@ module _ {s text : List ℕ} {state count mid q refused at : ℕ} (i : Counting 
     unfolding countTurnOf
     tells = subst (Told (sideNamed state) q (leb 8 traits) (turnOf (plainOf state) traits) (kindOf traitMeaning traits)) (sym (k .known)) (told (sideNamed state) q (leb 8 traits) (turnOf (plainOf state) traits) (kindOf traitMeaning traits))
 
+    -- after a turn with which no token is complete, or one
+    moved : (r : ℕ) → turnOf (plainOf state) traits ≡ r → r ≤ 1 →
+        After s text (i .tokens) (i .under-way) (kindOf traitMeaning traits) (leb 8 traits) r (afterOf traits) (startBy r start at) mid (at + len)
+    moved r e h =
+        subst (λ (p : ℕ). After s text (i .tokens) (i .under-way) (kindOf traitMeaning traits) (leb 8 traits) r (afterOf traits) (startBy r p at) mid (at + len)) (sym (i .began))
+        (after-turn (i .reached) look r e h)
+
     -- a token goes on or begins, and no mark is beside it
     abbrev Turn : ℕ → Type 0
-    Turn r = Counting s text (countAfterOf traits) (count + r) mid q refused (at + len)
+    Turn r = Counting s text (countAfterOf traits) (count + r) (startBy r start at) mid q refused (at + len)
 
-    turn-by : {o : Option Kind} {b : Bool} {r start′ : ℕ} (a : After s text (i .tokens) (i .under-way) o b r (afterOf traits) start′ mid (at + len)) →
+    turn-by : {o : Option Kind} {b : Bool} {r : ℕ} (a : After s text (i .tokens) (i .under-way) o b r (afterOf traits) (startBy r start at) mid (at + len)) →
         Seen s text ((i .tokens ++ doneBy r (i .under-way)) ++ underWay (a .next)) (stateFor (afterOf traits)) q refused → Turn r
     unfolding countAfterOf
     turn-by a x =
@@ -327,13 +326,13 @@ module _ {s text : List ℕ} {state count mid q refused at : ℕ} (i : Counting 
         counting-by a (stateFor (afterOf traits)) q refused (ap (λ (n : ℕ). plainOf (stateFor n)) e ∙ plain-state j ∙ sym e)
         (omega (arith, ap stateFor e, state-less j)) (omega (arith, i .place)) x
 
-    pub counting-turn : turn ≤ 1 → (n : ℕ) → n ≡ countAfterOf traits → Counting s text n (count + turn) mid q refused (at + len)
-    counting-turn h n e = subst (λ (n : ℕ). Counting s text n (count + turn) mid q refused (at + len)) (sym e) (go refl refl tells h)
+    pub counting-turn : turn ≤ 1 → (n : ℕ) → n ≡ countAfterOf traits → Counting s text n (count + turn) (startBy turn start at) mid q refused (at + len)
+    counting-turn h n e = subst (λ (n : ℕ). Counting s text n (count + turn) (startBy turn start at) mid q refused (at + len)) (sym e) (go refl refl tells h)
       where
         go : {r₀ r : ℕ} {o : Option Kind} → turnOf (plainOf state) traits ≡ r₀ → kindOf traitMeaning traits ≡ o → Told (sideNamed state) q (leb 8 traits) r₀ o r → r ≤ 1 → Turn r
-        go e f (goes g) l = let a = after-turn (i .reached) look 0 e (omega arith) in turn-by a (seen-on (a .comes) (i .reached) (a .reached) g (i .seen))
+        go e f (goes g) l = let a = moved 0 e (omega arith) in turn-by a (seen-on (a .comes) (i .reached) (a .reached) g (i .seen))
         go e f (begins {k = j} (apart v g)) l =
-            let a = after-turn (i .reached) look 1 e (omega arith) in
+            let a = moved 1 e (omega arith) in
             let z = number a j f in
             turn-by a (began-seen a j f (stateFor (afterOf traits)) q g (ap (λ (n : ℕ). viewBy (stateFor n) q) z ∙ plain-side j q ∙ sym (v (tokensWidth (i .tokens ++ underWay (i .under-way))))))
         go e f (stays g) l = absurd (omega arith)
@@ -347,12 +346,12 @@ module _ {s text : List ℕ} {state count mid q refused at : ℕ} (i : Counting 
         go e f (stops n) l = absurd (omega arith)
 
     -- a medial waits
-    pub counting-waits : turn ≡ 2 → (n : ℕ) → n ≡ countWaitingOf traits → Counting s text n count at q refused (at + len)
+    pub counting-waits : turn ≡ 2 → (n : ℕ) → n ≡ countWaitingOf traits → Counting s text n count start at q refused (at + len)
     unfolding countWaitingOf waitingOf
     counting-waits h n e =
         let g = told-same tells (omega arith) (omega arith) ∙ h in
         let (p, kept, r) = after-waiting (i .reached) look g in
-        let w = plain-waits n (omega arith) in
+        let w = stated n .waits (omega arith) in
         let z : plainOf n ≡ waiting + numberBy (kindOf traitMeaning traits) = omega (arith, w .0, e) in
         let v : viewBy n q ≡ viewOf (M s) (i .tokens ++ underWay p) = ap (λ d. placed d q) (w .1) ∙ sym (waits-identifier r (omega arith)) in
         record {
@@ -361,6 +360,7 @@ module _ {s text : List ℕ} {state count mid q refused at : ℕ} (i : Counting 
           reached = subst (λ (m : ℕ). Reached s text m at (at + len) (i .tokens) p) (sym z) r;
           less = omega (arith, e, number-less (kindOf traitMeaning traits));
           counted = i .counted;
+          began = i .began;
           place = omega (arith, i .place);
           seen = record { view = v; first = subst (λ ts. RefusedAt (length text) (refusedFrom (M s) other 0 (i .tokens ++ ts)) refused) (sym kept) (i .seen .first) };
         }
@@ -369,7 +369,7 @@ module _ {s text : List ℕ} {state count mid q refused at : ℕ} (i : Counting 
     pub waits-here : turn ≡ 3 → (countWaiting ≤ state) × Settles (L s) (i .under-way) (charactersAt text at)
     waits-here h =
         let x = settles-here (i .reached) look (told-same tells (omega arith) (omega arith) ∙ h) in
-        (waits-plain state (x .0), x .1)
+        (stated state .plain (x .0), x .1)
 
     -- where a token is complete with the turn, none waits
     not-waiting : turnOf (plainOf state) traits ≡ 1 → state < countWaiting
@@ -377,18 +377,18 @@ module _ {s text : List ℕ} {state count mid q refused at : ℕ} (i : Counting 
       where
         go : Dec (state < countWaiting) → state < countWaiting
         go (yes h) = h
-        go (no h) = absurd (waits-turn (plainOf state) traits (omega (arith, plain-waits state (omega arith) .0)) e)
+        go (no h) = absurd (waits-turn (plainOf state) traits (omega (arith, stated state .waits (omega arith) .0)) e)
 
     -- a turn beside a mark
     abbrev BesideTurn : ℕ → Type 0
-    BesideTurn r = Counting s text (stateBeside r state) (count + countBeside r) mid (markBeside r q at) (refusedBeside r refused (markBeside r q at) (length text)) (at + len)
+    BesideTurn r = Counting s text (stateBeside r state) (count + countBeside r) (startBy (countBeside r) start at) mid (markBeside r q at) (refusedBeside r refused (markBeside r q at) (length text)) (at + len)
 
     module _ (j : Kind) (e : turnOf (plainOf state) traits ≡ 1) (f : kindOf traitMeaning traits ≡ some j) where
       a : After s text (i .tokens) (i .under-way) (kindOf traitMeaning traits) (leb 8 traits) 1 (afterOf traits) at mid (at + len)
-      a = after-turn (i .reached) look 1 e (omega arith)
+      a = moved 1 e (omega arith)
 
       begins-mark : (n : ℕ) → j ≡ whitespace mark → plainOf n ≡ 5 → n < countStates → viewBy n at ≡ markedView (viewBy state q) at →
-          Counting s text n (count + 1) mid at refused (at + len)
+          Counting s text n (count + 1) at mid at refused (at + len)
       begins-mark n z p l v =
           counting-by a n at refused (p ∙ sym (number a j f ∙ ap kindNumber z)) l (omega arith)
           (began-seen a j f n at (ap (refusedBy (viewBy state q)) z)
@@ -397,14 +397,14 @@ module _ {s text : List ℕ} {state count mid q refused at : ℕ} (i : Counting 
     go-beside : {r₀ r : ℕ} {o : Option Kind} → turnOf (plainOf state) traits ≡ r₀ → kindOf traitMeaning traits ≡ o → Told (sideNamed state) q (leb 8 traits) r₀ o r → 4 ≤ r → r ≤ 7 →
         BesideTurn r
     go-beside e f (stays g) l h =
-        let a = after-turn (i .reached) look 0 e (omega arith) in
+        let a = moved 0 e (omega arith) in
         let (p, x) = seen-stays (a .comes) (i .reached) (a .reached) g (i .seen) in
         counting-by a state q refused p (i .less) (omega (arith, i .place)) x
     go-beside e f (begins {k = j} (marks z (inl d))) l h =
-        let n : state ≡ 1 = identifier-state state (not-waiting e) d in
+        let n : state ≡ 1 = stated state .identifier (not-waiting e) d in
         rw (eq-eqb state 1 n) (begins-mark j e f 5 z refl (omega arith) (sym (ap (λ d. markedView (placed d q) at) d)))
     go-beside e f (begins {k = j} (marks z (inr d))) l h =
-        let n : state ≡ 2 = medial-state state d in
+        let n : state ≡ 2 = stated state .medial d in
         rw (ne-eqb state 1 (λ y. absurd (omega arith))) (begins-mark j e f 8 z refl (omega arith) (sym (ap (λ d. markedView (placed d q) at) d)))
     go-beside e f (begins {k = j} (links z b d)) l h =
         counting-by (a j e f) 9 q refused (sym (number (a j e f) j f ∙ ap kindNumber z)) (omega arith) (omega (arith, i .place))
@@ -427,9 +427,9 @@ module _ {s text : List ℕ} {state count mid q refused at : ℕ} (i : Counting 
     go-stops : {r₀ r : ℕ} {o : Option Kind} → turnOf (plainOf state) traits ≡ r₀ → kindOf traitMeaning traits ≡ o → Told (sideNamed state) q (leb 8 traits) r₀ o r → 8 ≤ r →
         4 ≤ turnOf (plainOf state) traits
     go-stops e f (stops n) h = omega arith
-    go-stops e f begins-none h = absurd (no-kind (after-turn (i .reached) look 1 e (omega arith) .comes) f)
+    go-stops e f begins-none h = absurd (no-kind (moved 1 e (omega arith) .comes) f)
     go-stops e f (begins (waits d z b)) h =
-        let n = identifier-state state (not-waiting e) d in
+        let n = stated state .identifier (not-waiting e) d in
         absurd (identifier-turn traits (ap (λ (m : ℕ). turnOf (plainOf m) traits) (sym n) ∙ e) b)
     go-stops e f (goes g) h = absurd (omega arith)
     go-stops e f (stays g) h = absurd (omega arith)
@@ -463,22 +463,22 @@ module _ {s text : List ℕ} {state count mid q refused at : ℕ} (i : Counting 
 
       ended : (p : Under) → Reached s text (plainOf state) mid at (i .tokens) p → Ended p
       unfolding finish settle
-      ended idle r = record { none-left = refl; pending = rw (eq-eqb state 0 (nothing-state state (r .stands .0))); same = refl }
+      ended idle r = record { none-left = refl; pending = rw (eq-eqb state 0 (stated state .nothing (r .stands .0))); same = refl }
       ended (under k u) r = record { none-left = refl; pending = go (decLt state countWaiting); same = refl }
         where
           go : Dec (state < countWaiting) → 1 ≡ countPendingOf state
           go (yes l) = rw (ne-eqb state 0 (λ z. absurd (omega (arith, ap plainOf z, r .stands .0, kind-less k))), lt-ltb state countWaiting l)
-          go (no l) = absurd (omega (arith, plain-waits state (omega arith) .0, r .stands .0, kind-less k))
+          go (no l) = absurd (omega (arith, stated state .waits (omega arith) .0, r .stands .0, kind-less k))
       ended (held k u d) r = go (kindOf (M s) d) refl
         where
           waits-now : countWaiting ≤ state
-          waits-now = waits-plain state (omega (arith, r .stands .0))
+          waits-now = stated state .plain (omega (arith, r .stands .0))
 
           two : 2 ≡ countPendingOf state
           two = rw (ne-eqb state 0 (λ z. absurd (omega (arith, waits-now))), le-ltb state countWaiting waits-now)
 
           go : (o : Option Kind) → kindOf (M s) d ≡ o → Ended (held k u d)
-          go none g = absurd (n (omega (arith, plain-waits state waits-now .0, r .stands .0 ∙ ap (λ o. waiting + numberBy o) g)))
+          go none g = absurd (n (omega (arith, stated state .waits waits-now .0, r .stands .0 ∙ ap (λ o. waiting + numberBy o) g)))
           go (some j) g =
               let ts = i .tokens ++ tok k u ∷ [] in
               let v = waits-identifier r (omega (arith, r .stands .0)) in
@@ -543,13 +543,6 @@ pub finishes : (s text : List ℕ) (run : Run) → CountingAs s text run → len
 finishes s text run i h = go (decLt (run .refused) (length text)) (ℕ-discrete (run .state) countWaiting)
   where
     go : Dec (run .refused < length text) → Dec (run .state ≡ countWaiting) → finishedBy text run ≡ countThrough s text
-    go r (yes e) = rw (eq-eqb (run .state) countWaiting e) (counts-left (i .0) (settles-end (i .0) h) (omega arith) e)
-    go (yes l) (no n) = rw (ne-eqb (run .state) countWaiting n, lt-ltb (run .refused) (length text) l) (counts-marked (i .0) h n l)
-    go (no l) (no n) = rw (ne-eqb (run .state) countWaiting n, le-ltb (run .refused) (length text) (omega arith)) (counts-end (i .0) h n (omega arith))
-
--- what a count up to a place gave, by the enum's case
-pub counted-refused : (s text : List ℕ) (stop : ℕ) (g : Came) (r : Refusal) → g ≡ going.Refused r → CountedTo s text stop g → Refused r ≡ countThrough s text
-counted-refused s text stop g r e h = subst (CountedTo s text stop) e h
-
-pub counted-on : (s text : List ℕ) (stop : ℕ) (g : Came) (r : Run) → g ≡ going.On r → CountedTo s text stop g → CountingAs s text r × (stop ≤ r .at)
-counted-on s text stop g r e h = subst (CountedTo s text stop) e h
+    go r (yes e) = rw (eq-eqb (run .state) countWaiting e) (counts-left (i .counting) (settles-end (i .counting) h) (omega arith) e)
+    go (yes l) (no n) = rw (ne-eqb (run .state) countWaiting n, lt-ltb (run .refused) (length text) l) (counts-marked (i .counting) h n l)
+    go (no l) (no n) = rw (ne-eqb (run .state) countWaiting n, le-ltb (run .refused) (length text) (omega arith)) (counts-end (i .counting) h n (omega arith))

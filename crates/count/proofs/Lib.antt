@@ -1,3 +1,6 @@
-pub mod TableLaws
+pub mod RuleLaws
 pub mod BesideTurnLaws
+pub mod StepLaws
 pub mod CountLaws
+pub mod KnownLaws
+pub mod LookLaws

@@ -1,2 +1,4 @@
 pub mod Turns
+pub mod Steps
+pub mod Rules
 pub mod Counting

@@ -3,7 +3,6 @@
 -- `proofs/CountLaws.antt` join them to the steps of `grammar` and to its local test of marks.
 use Prim.Native.Nat.{ℕ, zero, suc, _+_}
 use mathlib.Core.Bool.{Bool, cond}
-use mathlib.Core.List.{List, [], _∷_}
 use mathlib.Core.Option.{Option, none, some}
 use lib.Dec.{leb, ltb, eqb}
 use Rattle.grammar.specs.White.{WhiteKind, blank, lineEnd, mark}
@@ -154,29 +153,3 @@ refusedBeside turn refused q n = cond (eqb turn 7) (cond (eqb refused n) q refus
 -- how many tokens are pending where nothing follows: the one under way, and a medial that waits
 abbrev pub countPendingOf : ℕ → ℕ
 countPendingOf n = cond (eqb n 0) 0 (cond (ltb n countWaiting) 1 2)
-
--- the code's tables of these: `proofs/TableLaws.antt` shows what they hold
-abbrev pub turnTable : List ℕ
-turnTable =
-    8 ∷ 0 ∷ 8 ∷ 0 ∷ 0 ∷ 8 ∷ 0 ∷ 0 ∷ 8 ∷ 0 ∷ 8 ∷ 0 ∷ 0 ∷ 8 ∷ 0 ∷ 0 ∷
-    8 ∷ 0 ∷ 0 ∷ 1 ∷ 1 ∷ 8 ∷ 1 ∷ 5 ∷ 2 ∷ 0 ∷ 0 ∷ 2 ∷ 2 ∷ 2 ∷ 2 ∷ 2 ∷
-    8 ∷ 1 ∷ 8 ∷ 1 ∷ 1 ∷ 8 ∷ 1 ∷ 5 ∷ 8 ∷ 1 ∷ 8 ∷ 1 ∷ 1 ∷ 8 ∷ 1 ∷ 5 ∷
-    8 ∷ 1 ∷ 8 ∷ 1 ∷ 0 ∷ 8 ∷ 1 ∷ 1 ∷ 8 ∷ 1 ∷ 8 ∷ 1 ∷ 0 ∷ 8 ∷ 1 ∷ 1 ∷
-    8 ∷ 1 ∷ 8 ∷ 1 ∷ 1 ∷ 8 ∷ 0 ∷ 1 ∷ 8 ∷ 1 ∷ 8 ∷ 1 ∷ 1 ∷ 8 ∷ 0 ∷ 1 ∷
-    8 ∷ 7 ∷ 8 ∷ 1 ∷ 1 ∷ 8 ∷ 1 ∷ 4 ∷ 8 ∷ 7 ∷ 8 ∷ 6 ∷ 1 ∷ 8 ∷ 1 ∷ 4 ∷
-    8 ∷ 1 ∷ 8 ∷ 1 ∷ 1 ∷ 8 ∷ 1 ∷ 1 ∷ 8 ∷ 1 ∷ 8 ∷ 1 ∷ 1 ∷ 8 ∷ 1 ∷ 1 ∷
-    8 ∷ 1 ∷ 8 ∷ 1 ∷ 1 ∷ 8 ∷ 1 ∷ 0 ∷ 8 ∷ 1 ∷ 8 ∷ 1 ∷ 1 ∷ 8 ∷ 1 ∷ 0 ∷
-    8 ∷ 7 ∷ 8 ∷ 1 ∷ 1 ∷ 8 ∷ 1 ∷ 4 ∷ 8 ∷ 7 ∷ 8 ∷ 1 ∷ 1 ∷ 8 ∷ 1 ∷ 4 ∷
-    8 ∷ 7 ∷ 8 ∷ 1 ∷ 1 ∷ 8 ∷ 1 ∷ 1 ∷ 8 ∷ 7 ∷ 8 ∷ 1 ∷ 1 ∷ 8 ∷ 1 ∷ 1 ∷
-    3 ∷ 0 ∷ 0 ∷ 3 ∷ 3 ∷ 3 ∷ 3 ∷ 3 ∷ 3 ∷ 0 ∷ 0 ∷ 3 ∷ 3 ∷ 3 ∷ 3 ∷ 3 ∷
-    3 ∷ 0 ∷ 0 ∷ 3 ∷ 3 ∷ 3 ∷ 3 ∷ 3 ∷ 3 ∷ 0 ∷ 0 ∷ 3 ∷ 3 ∷ 3 ∷ 3 ∷ 3 ∷
-    3 ∷ 0 ∷ 0 ∷ 3 ∷ 3 ∷ 3 ∷ 3 ∷ 3 ∷ 3 ∷ 0 ∷ 0 ∷ 3 ∷ 3 ∷ 3 ∷ 3 ∷ 3 ∷
-    3 ∷ 0 ∷ 0 ∷ 3 ∷ 3 ∷ 3 ∷ 3 ∷ 3 ∷ 3 ∷ 0 ∷ 0 ∷ 3 ∷ 3 ∷ 3 ∷ 3 ∷ 3 ∷
-    3 ∷ 0 ∷ 0 ∷ 3 ∷ 3 ∷ 3 ∷ 3 ∷ 3 ∷ 3 ∷ 0 ∷ 0 ∷ 3 ∷ 3 ∷ 3 ∷ 3 ∷ 3 ∷
-    3 ∷ 0 ∷ 0 ∷ 3 ∷ 3 ∷ 3 ∷ 3 ∷ 3 ∷ 3 ∷ 0 ∷ 0 ∷ 3 ∷ 3 ∷ 3 ∷ 3 ∷ 3 ∷ []
-
-abbrev pub afterTable : List ℕ
-afterTable = 0 ∷ 1 ∷ 1 ∷ 6 ∷ 3 ∷ 0 ∷ 4 ∷ 7 ∷ 0 ∷ 1 ∷ 1 ∷ 6 ∷ 3 ∷ 0 ∷ 4 ∷ 7 ∷ []
-
-abbrev pub waitingTable : List ℕ
-waitingTable = 10 ∷ 11 ∷ 10 ∷ 12 ∷ 13 ∷ 10 ∷ 14 ∷ 15 ∷ 10 ∷ 11 ∷ 10 ∷ 12 ∷ 13 ∷ 10 ∷ 14 ∷ 15 ∷ []

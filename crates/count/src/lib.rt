@@ -1,15 +1,21 @@
-// Counting a text's tokens under a checked image, in one pass. The state says what is under way, as in `turns`, and what stands before it
-// as far as a direction mark could part it: so the pass knows at each token whether a mark is refused.
+// Counting a text's tokens under a checked image. The state says what is under way, as in `turns`, and what stands before it as far as a
+// direction mark could part it: so the count knows at each token whether a mark is refused. Most characters cost only a few loads: what
+// is known of a character comes from `blocks`, and what it does from the one before it. What is not known so is read by `look`.
 ghost use mathlib.Core.Path.{_≡_};
 ghost use mathlib.Core.Option.{none};
 ghost use mathlib.Core.List.{List};
-ghost use Prim.Native.Nat.{ℕ, _≤_, _<_};
+ghost use Prim.Native.Nat.{ℕ, _-_, _≤_, _<_};
 ghost use lib.ListN.{length};
 ghost use Rattle.image.specs.Check.{refusalOf};
-ghost use Rattle.character.specs.Read.{TokenTableOf};
+ghost use Rattle.character.specs.Read.{MemoOf, TokenTableOf};
+ghost use Rattle.blocks.specs.Blocks.{Cached, Learning, Learnt};
 ghost use Rattle.grammar.specs.Counted.{countThrough};
-ghost use Rattle.count.specs.Counting.{CountingAs, CountedTo, finishedBy};
-ghost use Rattle.count.specs.Turns.{countStates, countTurnOf, countAfterOf, countWaitingOf, countPendingOf, countBeside, stateBeside, markBeside, refusedBeside, turnTable, afterTable, waitingTable};
+ghost use Rattle.count.specs.Counting.{CountingFrom, CountingAs, CountLook, Advanced, Looked, finishedBy, runWith};
+ghost use Rattle.count.specs.Turns.{countStates, countPendingOf, countBeside, stateBeside, markBeside, refusedBeside};
+ghost use Rattle.count.specs.Steps.{rowState};
+ghost use Rattle.count.specs.Rules.{ruleRows, ruleFor, ruleTable};
+use blocks::BLOCKS;
+use character::Character;
 use character::Memo;
 use grammar::Counted;
 use refusal::Refusal;
@@ -27,271 +33,12 @@ const MEDIAL_MARK: u32 = 8;
 
 const MARK_MEDIAL: u32 = 9;
 
-const WAITING: u32 = 10;
+pub const WAITING: u32 = 10;
 
 // What a character does, by the state and its traits. No token is complete, since the one under way goes on or the first begins: 0.
 // The one under way is complete, and another begins: BEGINS. A medial waits: WAITS. The one that waits is settled, and the character has
 // another turn after that: SETTLES. Beside a mark: it goes on, STAYS; it begins, MARKS; a medial Syntax follows it, LINKS; an identifier
 // begins that makes it refused, JOINS. No token begins: any other.
-pub const TURNS: [u8; 256] = [
-    8,
-    0,
-    8,
-    0,
-    0,
-    8,
-    0,
-    0,
-    8,
-    0,
-    8,
-    0,
-    0,
-    8,
-    0,
-    0,
-    8,
-    0,
-    0,
-    1,
-    1,
-    8,
-    1,
-    5,
-    2,
-    0,
-    0,
-    2,
-    2,
-    2,
-    2,
-    2,
-    8,
-    1,
-    8,
-    1,
-    1,
-    8,
-    1,
-    5,
-    8,
-    1,
-    8,
-    1,
-    1,
-    8,
-    1,
-    5,
-    8,
-    1,
-    8,
-    1,
-    0,
-    8,
-    1,
-    1,
-    8,
-    1,
-    8,
-    1,
-    0,
-    8,
-    1,
-    1,
-    8,
-    1,
-    8,
-    1,
-    1,
-    8,
-    0,
-    1,
-    8,
-    1,
-    8,
-    1,
-    1,
-    8,
-    0,
-    1,
-    8,
-    7,
-    8,
-    1,
-    1,
-    8,
-    1,
-    4,
-    8,
-    7,
-    8,
-    6,
-    1,
-    8,
-    1,
-    4,
-    8,
-    1,
-    8,
-    1,
-    1,
-    8,
-    1,
-    1,
-    8,
-    1,
-    8,
-    1,
-    1,
-    8,
-    1,
-    1,
-    8,
-    1,
-    8,
-    1,
-    1,
-    8,
-    1,
-    0,
-    8,
-    1,
-    8,
-    1,
-    1,
-    8,
-    1,
-    0,
-    8,
-    7,
-    8,
-    1,
-    1,
-    8,
-    1,
-    4,
-    8,
-    7,
-    8,
-    1,
-    1,
-    8,
-    1,
-    4,
-    8,
-    7,
-    8,
-    1,
-    1,
-    8,
-    1,
-    1,
-    8,
-    7,
-    8,
-    1,
-    1,
-    8,
-    1,
-    1,
-    3,
-    0,
-    0,
-    3,
-    3,
-    3,
-    3,
-    3,
-    3,
-    0,
-    0,
-    3,
-    3,
-    3,
-    3,
-    3,
-    3,
-    0,
-    0,
-    3,
-    3,
-    3,
-    3,
-    3,
-    3,
-    0,
-    0,
-    3,
-    3,
-    3,
-    3,
-    3,
-    3,
-    0,
-    0,
-    3,
-    3,
-    3,
-    3,
-    3,
-    3,
-    0,
-    0,
-    3,
-    3,
-    3,
-    3,
-    3,
-    3,
-    0,
-    0,
-    3,
-    3,
-    3,
-    3,
-    3,
-    3,
-    0,
-    0,
-    3,
-    3,
-    3,
-    3,
-    3,
-    3,
-    0,
-    0,
-    3,
-    3,
-    3,
-    3,
-    3,
-    3,
-    0,
-    0,
-    3,
-    3,
-    3,
-    3,
-    3,
-    3,
-    0,
-    0,
-    3,
-    3,
-    3,
-    3,
-    3,
-    3,
-    0,
-    0,
-    3,
-    3,
-    3,
-    3,
-    3,
-];
-
 const BEGINS: usize = 1;
 
 const WAITS: usize = 2;
@@ -306,28 +53,68 @@ const LINKS: usize = 6;
 
 const JOINS: usize = 7;
 
-// The state after a character, by its traits, where a token goes on or begins and no mark is beside it.
-pub const AFTER: [u32; 16] = [0, 1, 1, 6, 3, 0, 4, 7, 0, 1, 1, 6, 3, 0, 4, 7];
+// A step from here on is none.
+pub const ODD: usize = 128;
 
-// The state after a medial that waits, by its traits.
-pub const WAITING_AFTER: [u32; 16] = [
-    10,
-    11,
-    10,
-    12,
-    13,
-    10,
-    14,
-    15,
-    10,
-    11,
-    10,
-    12,
-    13,
-    10,
-    14,
-    15,
-];
+// States that have no row are told by this number.
+pub const NO_ROW: usize = 16;
+
+// The rules as rows of sixteen numbers, one for each of a character's traits, or for each state:
+// 0 to 15, how many tokens are complete with a character, by the traits of the one before it; 255: that is not known from these;
+// 16 to 31, its turn, by the state;
+// then the state after a character with which a token goes on or begins and no mark is beside it, after a medial that waits, and after a
+// character that a step was told of; of each state a row of the steps, and traits of the token under way.
+pub const RULES: [u8; 592] = *b"\
+\xff\x00\xff\x00\x00\xff\x00\x00\xff\x00\xff\xff\xff\xff\xff\xff\
+\xff\x00\x00\x01\x01\xff\x01\xff\x00\x00\x00\x00\x00\x00\x00\x00\
+\xff\x00\x00\x01\x01\xff\x01\xff\x00\x00\x00\x00\x00\x00\x00\x00\
+\xff\x01\xff\x01\x01\xff\x01\x01\xff\x01\xff\xff\xff\xff\xff\xff\
+\xff\x01\xff\x01\x00\xff\x01\x01\xff\x01\xff\xff\xff\xff\xff\xff\
+\xff\x00\xff\x00\x00\xff\x00\x00\xff\x00\xff\xff\xff\xff\xff\xff\
+\xff\x01\xff\x01\x01\xff\x00\x01\xff\x01\xff\xff\xff\xff\xff\xff\
+\xff\x01\xff\x01\x01\xff\x01\x00\xff\x01\xff\xff\xff\xff\xff\xff\
+\xff\x00\x00\xff\xff\xff\xff\xff\xff\x00\x00\xff\xff\xff\xff\xff\
+\xff\x00\x00\x01\x01\xff\x01\xff\x00\x00\x00\x00\x00\x00\x00\x00\
+\xff\x00\x00\x01\x01\xff\x01\xff\x00\x00\x00\x00\x00\x00\x00\x00\
+\xff\x00\x00\xff\xff\xff\xff\xff\xff\x00\x00\xff\xff\xff\xff\xff\
+\xff\x00\x00\xff\xff\xff\xff\xff\xff\x00\x00\xff\xff\xff\xff\xff\
+\xff\x00\x00\xff\xff\xff\xff\xff\xff\x00\x00\xff\xff\xff\xff\xff\
+\xff\x00\x00\xff\xff\xff\xff\xff\xff\x00\x00\xff\xff\xff\xff\xff\
+\xff\x00\x00\xff\xff\xff\xff\xff\xff\x00\x00\xff\xff\xff\xff\xff\
+\x08\x00\x08\x00\x00\x08\x00\x00\x08\x00\x08\x00\x00\x08\x00\x00\
+\x08\x00\x00\x01\x01\x08\x01\x05\x02\x00\x00\x02\x02\x02\x02\x02\
+\x08\x01\x08\x01\x01\x08\x01\x05\x08\x01\x08\x01\x01\x08\x01\x05\
+\x08\x01\x08\x01\x00\x08\x01\x01\x08\x01\x08\x01\x00\x08\x01\x01\
+\x08\x01\x08\x01\x01\x08\x00\x01\x08\x01\x08\x01\x01\x08\x00\x01\
+\x08\x07\x08\x01\x01\x08\x01\x04\x08\x07\x08\x06\x01\x08\x01\x04\
+\x08\x01\x08\x01\x01\x08\x01\x01\x08\x01\x08\x01\x01\x08\x01\x01\
+\x08\x01\x08\x01\x01\x08\x01\x00\x08\x01\x08\x01\x01\x08\x01\x00\
+\x08\x07\x08\x01\x01\x08\x01\x04\x08\x07\x08\x01\x01\x08\x01\x04\
+\x08\x07\x08\x01\x01\x08\x01\x01\x08\x07\x08\x01\x01\x08\x01\x01\
+\x03\x00\x00\x03\x03\x03\x03\x03\x03\x00\x00\x03\x03\x03\x03\x03\
+\x03\x00\x00\x03\x03\x03\x03\x03\x03\x00\x00\x03\x03\x03\x03\x03\
+\x03\x00\x00\x03\x03\x03\x03\x03\x03\x00\x00\x03\x03\x03\x03\x03\
+\x03\x00\x00\x03\x03\x03\x03\x03\x03\x00\x00\x03\x03\x03\x03\x03\
+\x03\x00\x00\x03\x03\x03\x03\x03\x03\x00\x00\x03\x03\x03\x03\x03\
+\x03\x00\x00\x03\x03\x03\x03\x03\x03\x00\x00\x03\x03\x03\x03\x03\
+\x00\x01\x01\x06\x03\x00\x04\x07\x00\x01\x01\x06\x03\x00\x04\x07\
+\x0a\x0b\x0a\x0c\x0d\x0a\x0e\x0f\x0a\x0b\x0a\x0c\x0d\x0a\x0e\x0f\
+\x00\x01\x01\x06\x03\x00\x04\x07\x0a\x01\x01\x0c\x0d\x0a\x0e\x0f\
+\x00\x01\x10\x04\x06\x10\x03\x07\x10\x10\x08\x10\x0b\x0c\x0e\x0f\
+\x00\x01\x03\x04\x06\x07\x03\x07\x07\x03\x01\x01\x01\x01\x01\x01\
+";
+
+const TURNS: usize = 16;
+
+const AFTER: usize = 32;
+
+const WAITING_AFTER: usize = 33;
+
+pub const ROW_STATES: usize = 34;
+
+const STATE_ROWS: usize = 35;
+
+pub const STATE_TRAITS: usize = 36;
 
 fn widen(x: u8) -> usize
     ensures { λ r. ⌜ r ≡ x ⌝ }
@@ -335,31 +122,13 @@ fn widen(x: u8) -> usize
     x as usize
 }
 
-// What a character of these traits does in a state.
-fn find_turn(turns: &[u8; 256], state: u32, traits: u32) -> usize
-    requires { ⌜ now turns ≡ turnTable ⌝ }
-    requires { ⌜ (state < countStates) × (traits < 16) ⌝ }
-    ensures { λ r. ⌜ r ≡ countTurnOf state traits ⌝ }
+// Number t of a row of the rules.
+pub fn rule(rules: &[u8; 592], row: usize, t: usize) -> usize
+    requires { ⌜ now rules ≡ ruleTable ⌝ }
+    requires { ⌜ (row < ruleRows) × (t < 16) ⌝ }
+    ensures { λ r. ⌜ r ≡ ruleFor row t ⌝ }
 {
-    widen(turns[(state * 16 + traits) as usize])
-}
-
-// The state after a character, where a token goes on or begins and no mark is beside it.
-fn state_after(after: &[u32; 16], traits: u32) -> u32
-    requires { ⌜ now after ≡ afterTable ⌝ }
-    requires { ⌜ traits < 16 ⌝ }
-    ensures { λ r. ⌜ r ≡ countAfterOf traits ⌝ }
-{
-    after[traits as usize]
-}
-
-// The state after a medial that waits.
-fn waiting_after(waiting: &[u32; 16], traits: u32) -> u32
-    requires { ⌜ now waiting ≡ waitingTable ⌝ }
-    requires { ⌜ traits < 16 ⌝ }
-    ensures { λ r. ⌜ r ≡ countWaitingOf traits ⌝ }
-{
-    waiting[traits as usize]
+    widen(rules[row * 16 + t])
 }
 
 // How many tokens are complete with a turn beside a mark.
@@ -428,7 +197,7 @@ fn count_pending(state: u32) -> usize
 }
 
 // How far a count has come: the place, the state, the tokens that are complete, where the medial stands that waits, where the last mark
-// began that may be refused, the first that is, or the text's length, and the memo.
+// began that may be refused, the first that is, or the text's length, the first free row of the blocks, and the memo.
 pub struct Run {
     pub at: usize,
     pub state: u32,
@@ -436,6 +205,7 @@ pub struct Run {
     pub mid: usize,
     pub mark: usize,
     pub refused: usize,
+    pub rows: usize,
     pub memo: Memo,
 }
 
@@ -446,8 +216,8 @@ pub enum Going {
 }
 
 // Where a count begins.
-pub fn begin(text: &[u8]) -> Run
-    ensures { λ r. ⌜ ((s : List ℕ) → CountingAs s (now (text .entry)) r) ⌝ }
+pub fn begin(text: &[u8], rows: usize) -> Run
+    ensures { λ r. ⌜ ((s : List ℕ) → CountingFrom s (now (text .entry)) r 0 × MemoOf s (r .memo)) × (r .rows ≡ rows) × (r .at ≡ 0) × (r .state ≡ 0) × (r .count ≡ 0) ⌝ }
 {
     Run {
         at: 0,
@@ -456,87 +226,203 @@ pub fn begin(text: &[u8]) -> Run
         mid: 0,
         mark: 0,
         refused: text.len(),
+        rows,
         memo: character::no_memo(),
     }
 }
 
-// Counts on, character by character, up to a place at least.
-pub fn count_from<'a>(
+// What a character does that was read, where it settles nothing: `turn` is its own.
+fn advance<'a>(
     image: &'a [u8],
-    table: &'a [u8; 128],
-    turns: &'a [u8; 256],
-    after: &'a [u32; 16],
-    waiting: &'a [u32; 16],
+    rules: &'a [u8; 592],
     text: &'a [u8],
     run: Run,
-    stop: usize,
+    c: Character,
+    turn: usize,
+) -> Going
+    requires { ⌜ now rules ≡ ruleTable ⌝ }
+    requires { ⌜ CountingAs (now image) (now text) run ⌝ }
+    requires { ⌜ CountLook (now image) (now text) (run .state) (run .at) (c .len) (c .traits) turn ⌝ }
+    requires { ⌜ MemoOf (now image) (c .memo) × (turn ≡ 3 → ⊥) ⌝ }
+    ensures { λ r. ⌜ Advanced (now (image .entry)) (now (text .entry)) run r ⌝ }
+{
+    let traits = c.traits as usize;
+    let memo = c.memo;
+    let mut r = Run {
+        at: run.at + c.len,
+        state: run.state,
+        count: run.count,
+        mid: run.mid,
+        mark: run.mark,
+        refused: run.refused,
+        rows: run.rows,
+        memo,
+    };
+    if turn <= BEGINS {
+        r.count = run.count + turn;
+        r.state = rule(rules, AFTER, traits) as u32;
+        return Going::On(r);
+    }
+    if turn == WAITS {
+        r.state = rule(rules, WAITING_AFTER, traits) as u32;
+        r.mid = run.at;
+        return Going::On(r);
+    }
+    if JOINS < turn {
+        return Going::Refused(grammar::refuse_at(text, run.at));
+    }
+    r.count = run.count + count_beside(turn);
+    r.state = state_beside(turn, run.state);
+    r.mark = mark_beside(turn, run.mark, run.at);
+    r.refused = refused_beside(turn, run.refused, r.mark, text.len());
+    Going::On(r)
+}
+
+// Reads one character, whatever it is and does.
+pub fn look<'a>(
+    image: &'a [u8],
+    cells: &'a [u8],
+    rules: &'a [u8; 592],
+    text: &'a [u8],
+    run: Run,
 ) -> Going
     requires { ⌜ refusalOf (now image) ≡ none ⌝ }
-    requires { ⌜ TokenTableOf (now image) (now table) ⌝ }
-    requires { ⌜ (now turns ≡ turnTable) × (now after ≡ afterTable) × (now waiting ≡ waitingTable) ⌝ }
+    requires { ⌜ TokenTableOf (now image) (now cells) ⌝ }
+    requires { ⌜ now rules ≡ ruleTable ⌝ }
     requires { ⌜ CountingAs (now image) (now text) run ⌝ }
-    requires { ⌜ stop ≤ length (now text) ⌝ }
-    ensures { λ r. ⌜ CountedTo (now (image .entry)) (now (text .entry)) stop r ⌝ }
+    requires { ⌜ run .at < length (now text) ⌝ }
+    ensures { λ r. ⌜ Looked (now (image .entry)) (now (text .entry)) run r ⌝ }
 {
-    let mut memo = run.memo;
-    let mut state = run.state;
-    let mut count = run.count;
-    let mut mid = run.mid;
-    let mut mark = run.mark;
-    let mut refused = run.refused;
-    let mut at = run.at;
-    while at < stop {
-        let c = character::read_for_tokens(image, table, memo, text, at);
-        let len = c.len;
-        if len == 0 {
-            return Going::Refused(grammar::refuse_at(text, at));
-        }
-        memo = c.memo;
-        let next = at + len;
-        let turn = find_turn(turns, state, c.traits);
-        if turn <= BEGINS {
-            count += turn;
-            state = state_after(after, c.traits);
-            at = next;
-            continue;
-        }
-        if turn == WAITS {
-            state = waiting_after(waiting, c.traits);
-            mid = at;
-            at = next;
-            continue;
-        }
-        if turn == SETTLES {
-            if state == WAITING {
-                return Going::Refused(grammar::refuse_at(text, mid));
-            }
-            count += 1;
-            state -= WAITING;
-            mark = mid;
-            continue;
-        }
-        if JOINS < turn {
-            return Going::Refused(grammar::refuse_at(text, at));
-        }
-        count += count_beside(turn);
-        mark = mark_beside(turn, mark, at);
-        refused = refused_beside(turn, refused, mark, text.len());
-        state = state_beside(turn, state);
-        at = next;
+    let c = character::read_for_tokens(image, cells, run.memo, text, run.at);
+    if c.len == 0 {
+        return Going::Refused(grammar::refuse_at(text, run.at));
     }
-    Going::On(Run {
+    let turn = rule(rules, TURNS + run.state as usize, c.traits as usize);
+    if turn != SETTLES {
+        return advance(image, rules, text, run, c, turn);
+    }
+    if run.state == WAITING {
+        return Going::Refused(grammar::refuse_at(text, run.mid));
+    }
+    let mut next = run;
+    next.state = run.state - WAITING;
+    next.count = run.count + 1;
+    next.mark = run.mid;
+    let turn = rule(rules, TURNS + next.state as usize, c.traits as usize);
+    advance(image, rules, text, next, c, turn)
+}
+
+// At each place before this one four bytes stand.
+pub fn known_end(n: usize) -> usize
+    ensures { λ r. ⌜ r ≡ n - 3 ⌝ }
+{
+    if n < 4 {
+        return 0;
+    }
+    n - 3
+}
+
+// The row of the steps that leads on from a state; NO_ROW if there is none.
+pub fn row_of(rules: &[u8; 592], state: u32) -> usize
+    requires { ⌜ now rules ≡ ruleTable ⌝ }
+    requires { ⌜ state < countStates ⌝ }
+    ensures { λ r. ⌜ (r < 16 → state ≡ rowState r) ⌝ }
+{
+    rule(rules, STATE_ROWS, state as usize)
+}
+
+// Counts on as far as what characters do is known from the one before. The row is the traits of the last character, or of one that leads to
+// the state at first; `last` is the place of a medial that waits.
+fn run_count<'a>(
+    image: &'a [u8],
+    index: &'a [u8],
+    cells: &'a [u8],
+    rules: &'a [u8; 592],
+    text: &'a [u8],
+    row: usize,
+    run: Run,
+) -> Run
+    requires { ⌜ refusalOf (now image) ≡ none ⌝ }
+    requires { ⌜ Cached (now image) (now index) (now cells) ⌝ }
+    requires { ⌜ now rules ≡ ruleTable ⌝ }
+    requires { ⌜ (row < 16) × (run .state ≡ rowState row) ⌝ }
+    requires { ⌜ CountingAs (now image) (now text) run ⌝ }
+    ensures { λ r. ⌜ CountingAs (now (image .entry)) (now (text .entry)) r × (run .at ≤ r .at) × (r .rows ≡ run .rows) ⌝ }
+{
+    let end = known_end(text.len());
+    let mut at = run.at;
+    let mut row = row;
+    let mut count = run.count;
+    let mut last = run.mid;
+    let mark = run.mark;
+    let refused = run.refused;
+    let rows = run.rows;
+    let memo = run.memo;
+    while at < end {
+        let a = text[at];
+        if a < 0x80 {
+            let traits = widen(cells[a as usize]);
+            let step = rule(rules, row, traits);
+            if ODD <= step {
+                break;
+            }
+            count += step;
+            row = traits;
+            last = at;
+            at += 1;
+            continue;
+        }
+        if index.len() < BLOCKS {
+            break;
+        }
+        if a < 0xE0 {
+            let traits = blocks::known_two(index, cells, text, at);
+            let step = rule(rules, row, traits);
+            if ODD <= step {
+                break;
+            }
+            count += step;
+            row = traits;
+            last = at;
+            at += 2;
+            continue;
+        }
+        if a < 0xF0 {
+            let traits = blocks::known_three(index, cells, text, at);
+            let step = rule(rules, row, traits);
+            if ODD <= step {
+                break;
+            }
+            count += step;
+            row = traits;
+            last = at;
+            at += 3;
+            continue;
+        }
+        let traits = blocks::known_four(index, cells, text, at);
+        let step = rule(rules, row, traits);
+        if ODD <= step {
+            break;
+        }
+        count += step;
+        row = traits;
+        last = at;
+        at += 4;
+    }
+    Run {
         at,
-        state,
+        state: rule(rules, ROW_STATES, row) as u32,
         count,
-        mid,
+        mid: last,
         mark,
         refused,
+        rows,
         memo,
-    })
+    }
 }
 
 // The answer at the text's end.
-pub fn finish(text: &[u8], run: Run) -> Counted
+fn finish(text: &[u8], run: Run) -> Counted
     requires { ⌜ (run .mid ≤ length (now text)) × (run .count ≤ length (now text)) ⌝ }
     ensures { λ r. ⌜ r ≡ finishedBy (now (text .entry)) run ⌝ }
 {
@@ -550,28 +436,52 @@ pub fn finish(text: &[u8], run: Run) -> Counted
     Counted::Records(all)
 }
 
-// The number of tokens.
-pub fn count_tokens<'a>(image: &'a [u8], table: &'a [u8; 128], text: &'a [u8]) -> Counted
+// Counts on to the text's end.
+pub fn count_on<'a>(
+    image: &'a [u8],
+    index: &mut [u8],
+    cells: &mut [u8],
+    rules: &'a [u8; 592],
+    text: &'a [u8],
+    run: Run,
+) -> Counted
     requires { ⌜ refusalOf (now image) ≡ none ⌝ }
-    requires { ⌜ TokenTableOf (now image) (now table) ⌝ }
+    requires { ⌜ Learning (now image) (now index) (now cells) (run .rows) ⌝ }
+    requires { ⌜ now rules ≡ ruleTable ⌝ }
+    requires { ⌜ CountingAs (now image) (now text) run ⌝ }
     ensures { λ r. ⌜ r ≡ countThrough (now (image .entry)) (now (text .entry)) ⌝ }
+    ensures { λ _. ⌜ Learnt (now (image .entry)) (now (index .exit)) (now (cells .exit)) ⌝ }
 {
-    let turns = TURNS;
-    let after = AFTER;
-    let waiting = WAITING_AFTER;
-    let run = begin(text);
-    let going = count_from(
-        image,
-        table,
-        &turns,
-        &after,
-        &waiting,
-        text,
-        run,
-        text.len(),
-    );
-    match going {
-        Going::Refused(r) => Counted::Refused(r),
-        Going::On(r) => finish(text, r),
+    let mut run = run;
+    while run.at < text.len() {
+        let row = row_of(rules, run.state);
+        if row < NO_ROW {
+            run = run_count(image, index, cells, rules, text, row, run);
+            if text.len() <= run.at {
+                break;
+            }
+        }
+        let at = run.at;
+        let going = look(image, cells, rules, text, run);
+        match going {
+            Going::Refused(r) => {
+                return Counted::Refused(r);
+            }
+            Going::On(r) => {
+                let memo = r.memo;
+                let rows = blocks::learn_at(index, cells, run.rows, text, at, memo);
+                run = with_rows(r, rows);
+            }
+        }
     }
+    finish(text, run)
+}
+
+// A run with another first free row.
+pub fn with_rows(run: Run, rows: usize) -> Run
+    ensures { λ r. ⌜ r ≡ runWith run rows ⌝ }
+{
+    let mut r = run;
+    r.rows = rows;
+    r
 }

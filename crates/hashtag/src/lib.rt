@@ -9,7 +9,6 @@ ghost use lib.Dec.{leb};
 ghost use Rattle.lists.specs.Laid.{laid};
 ghost use Rattle.utf8.specs.declared.Text.the-variants.{WellFormed};
 ghost use Rattle.utf8.specs.Head.{stepOf, IllHead};
-ghost use Rattle.utf8.specs.Lead.{isTrail};
 ghost use Rattle.utf8.specs.Text.{charactersAt, widthOf, textOf};
 ghost use Rattle.line.specs.Line.{LineAt};
 ghost use Rattle.image.specs.Check.{refusalOf};
@@ -330,16 +329,6 @@ fn seek<'a>(
     Sign { at, next: at }
 }
 
-// Whether a byte only follows others in a sequence.
-fn is_trail(b: u8) -> bool
-    ensures { λ r. ⌜ r ≡ isTrail b ⌝ }
-{
-    if b < 0x80 {
-        return false;
-    }
-    b < 0xC0
-}
-
 // Where the character begins that ends at a place, not before another place; the same place where the two are the same.
 fn step_back(text: &[u8], from: usize, to: usize) -> usize
     requires { ⌜ (from ≤ to) × (to ≤ length (now text)) ⌝ }
@@ -348,7 +337,7 @@ fn step_back(text: &[u8], from: usize, to: usize) -> usize
     let mut at = to;
     while from < at {
         at -= 1;
-        if !is_trail(text[at]) {
+        if !utf8::is_trail(text[at]) {
             return at;
         }
     }

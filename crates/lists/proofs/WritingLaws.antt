@@ -9,14 +9,9 @@ use lib.ListN.{length, take, drop}
 use borrow.Rule.Slice.PartMut.{putMid}
 use Rattle.lists.specs.Laid.{laid}
 use Rattle.lists.specs.Each.{eachFrom, each}
+use Rattle.lists.specs.Writing.{Writing}
 use Rattle.lists.proofs.LaidLaws.{laid-none, laid-step, length-laid, lent}
 use Rattle.lists.proofs.EachLaws.{each-next, each-end, each-begins}
-
--- the first i of n records stand in the buffer: with the others it is the whole list laid into the buffer as it was
-pub record Writing (f : ℕ → List ℕ) (w n : ℕ) (before out : List ℕ) (i : ℕ) : Type 0 where
-  pub within : i ≤ n
-  pub size : length out ≡ length before
-  pub same : laid out (w * i) (eachFrom f (n - i) i) ≡ laid before 0 (each f n)
 
 module _ {f : ℕ → List ℕ} {w n : ℕ} {before : List ℕ} where
   pub writing-begins : Writing f w n before before 0

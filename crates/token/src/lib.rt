@@ -2,34 +2,63 @@
 // takes an image that was checked and accepted.
 ghost use mathlib.Core.Path.{_≡_};
 ghost use mathlib.Core.Option.{none};
-ghost use Prim.Native.Nat.{_≤_};
+ghost use Prim.Native.Nat.{_≤_, _<_};
 ghost use lib.ListN.{length};
 ghost use lib.Dec.{leb};
 ghost use Rattle.image.specs.Check.{refusalOf};
 ghost use Rattle.given.specs.Given.{judgementOf};
-ghost use Rattle.character.specs.Read.{TokenTableOf};
-ghost use Rattle.grammar.specs.Record.{roomOf};
+ghost use Rattle.lists.specs.Laid.{laid};
+ghost use Rattle.blocks.specs.Blocks.{Blank, Learnt};
+ghost use Rattle.grammar.specs.Record.{roomOf, listedWords};
 ghost use Rattle.grammar.specs.Before.{maxText, beforeText};
-ghost use Rattle.grammar.specs.Reading.{countOf, listOf, listWords};
-ghost use Rattle.grammar.specs.Counted.{countedBy};
+ghost use Rattle.grammar.specs.Reading.{tokensOf, countOf, listOf, listWords};
+ghost use Rattle.grammar.specs.Counted.{countedBy, countThrough};
+ghost use Rattle.count.specs.Rules.{ruleTable};
+ghost use Rattle.mark.specs.Marking.{Marking};
+ghost use Rattle.write.specs.Records.{Listing};
 ghost use Rattle.token.specs.Taken.{takenOf};
+ghost use Rattle.token.specs.Ended.{Ended};
 use blocks::BLOCKS;
-use blocks::CELLS;
+use count::Going;
+use count::Run;
+use count::WAITING;
 use given::Judgement;
 use grammar::Counted;
 use grammar::MAX_TEXT;
 use grammar::RECORD_WORDS;
 use refusal::Refusal;
 use turns::First;
+use write::Written;
 
-// From so many bytes on a text is long: what is known of its characters is kept, which takes 13 KB and some time to clear.
-const LONG: usize = 256;
+// Below so many bytes a text is short: what is known of its characters is not kept, since clearing the room for it takes longer.
+const SHORT: usize = 96;
+
+// The starts of a short text; each token has a byte.
+const SHORT_STARTS: usize = 104;
+
+// The starts of any other: a text with no more tokens is read once.
+const STARTS: usize = 1152;
+
+// The cells of 60 rows.
+const CELLS: usize = 3840;
 
 // The token at a place, or that the text ends there, or why not.
 pub enum Taken {
     Refused(Refusal),
     Done,
     Token { kind: u32, start: usize, end: usize },
+}
+
+// The number of a text's tokens under a checked image. The index and the cells come blank.
+fn count_with<'a>(image: &'a [u8], index: &mut [u8], cells: &mut [u8], text: &'a [u8]) -> Counted
+    requires { ⌜ refusalOf (now image) ≡ none ⌝ }
+    requires { ⌜ Blank (now index) × Blank (now cells) × (128 ≤ length (now cells)) ⌝ }
+    ensures { λ r. ⌜ r ≡ countThrough (now (image .entry)) (now (text .entry)) ⌝ }
+{
+    let rules = count::RULES;
+    let rows = blocks::begin(image, cells);
+    let run = count::begin(text, rows);
+    count::count_on(image, index, cells, &rules, text, run)
 }
 
 // The number of a text's tokens, after what is judged before it.
@@ -40,13 +69,14 @@ fn count_judged<'a>(before: Judgement, image: &'a [u8], text: &'a [u8]) -> Count
     match before {
         Judgement::Refused(r) => Counted::Refused(r),
         Judgement::Accepted => {
-            let table = character::fill_token_table(image);
-            if text.len() < LONG {
-                return count::count_tokens(image, &table, text);
+            if text.len() < SHORT {
+                let mut index = [0u8; 1];
+                let mut cells = [0u8; 128];
+                return count_with(image, &mut index, &mut cells, text);
             }
             let mut index = [0u8; BLOCKS];
             let mut cells = [0u8; CELLS];
-            count_long::count_long(image, &table, &mut index, &mut cells, text)
+            count_with(image, &mut index, &mut cells, text)
         }
     }
 }
@@ -73,46 +103,111 @@ fn is_room(words: usize, count: usize) -> bool
     count <= words / RECORD_WORDS
 }
 
-// The list of a short text's tokens, with the table of a checked image.
-fn list_short<'a>(image: &'a [u8], table: &'a [u8; 128], text: &'a [u8], out: &mut [u32]) -> Counted
-    requires { ⌜ refusalOf (now image) ≡ none ⌝ }
-    requires { ⌜ TokenTableOf (now image) (now table) ⌝ }
+// Marks the text's end, in a run that has come there, and a medial before it that waits. How many tokens start from number `done` on.
+fn end_starts<'a>(
+    image: &'a [u8],
+    rules: &'a [u8; 592],
+    text: &'a [u8],
+    starts: &mut [u32],
+    done: usize,
+    run: Run,
+) -> usize
+    requires { ⌜ now rules ≡ ruleTable ⌝ }
     requires { ⌜ length (now text) ≤ maxText ⌝ }
-    ensures { λ r. ⌜ r ≡ countedBy (listOf (now (image .entry)) (now (text .entry)) (length (now (out .entry)))) ⌝ }
-    ensures { λ r. ⌜ now (out .exit) ≡ listWords (now (image .entry)) (now (text .entry)) (now (out .entry)) ⌝ }
+    requires { ⌜ Marking (now image) (now text) (now starts) done run ⌝ }
+    requires { ⌜ length (now text) ≤ run .at ⌝ }
+    ensures { λ r. ⌜ Ended (now (image .entry)) (now (text .entry)) (now (starts .exit)) done r ⌝ }
+    ensures { λ r. ⌜ (r < length (now (starts .exit))) × (length (now (starts .exit)) ≡ length (now (starts .entry))) ⌝ }
 {
-    let counted = count::count_tokens(image, table, text);
-    match counted {
-        Counted::Refused(r) => Counted::Refused(r),
-        Counted::Records(count) => {
-            if !is_room(out.len(), count) {
-                return Counted::Refused(Refusal::Room(count));
-            }
-            write::write_tokens(image, table, text, out, count);
-            Counted::Records(count)
-        }
+    let n = run.count - done + 1;
+    if run.state <= WAITING {
+        mark::put_start(rules, starts, n, text.len(), 0);
+        return n;
     }
+    mark::put_start(rules, starts, n, run.mid, run.state - WAITING);
+    mark::put_start(rules, starts, n + 1, text.len(), 0);
+    n + 1
 }
 
-// The list of a long text's tokens: what is learnt of its characters while they are counted serves the writing.
-fn list_long<'a>(image: &'a [u8], table: &'a [u8; 128], text: &'a [u8], out: &mut [u32]) -> Counted
+// Writes the records of an accepted text's tokens: those that are marked, then those that are marked next, to the text's end.
+fn write_all<'a>(
+    image: &'a [u8],
+    index: &mut [u8],
+    cells: &mut [u8],
+    text: &'a [u8],
+    starts: &mut [u32],
+    out: &mut [u32],
+    total: usize,
+    run: Run,
+)
     requires { ⌜ refusalOf (now image) ≡ none ⌝ }
-    requires { ⌜ TokenTableOf (now image) (now table) ⌝ }
+    requires { ⌜ Learnt (now image) (now index) (now cells) ⌝ }
+    requires { ⌜ Listing (now image) (now text) (now out) total ⌝ }
+    requires { ⌜ Marking (now image) (now text) (now starts) 0 run ⌝ }
+    requires { ⌜ 8 ≤ length (now starts) ⌝ }
+    ensures { λ _. ⌜ now (out .exit) ≡ laid (now (out .entry)) 0 (listedWords (now (text .entry)) (tokensOf (now (image .entry)) (now (text .entry)))) ⌝ }
+{
+    let rules = count::RULES;
+    let plain = write::are_plain(image, cells);
+    let mut run = count::with_rows(run, cells.len());
+    let mut done = 0;
+    let mut from = Written { w: 0, line: 1 };
+    while run.at < text.len() {
+        let n = run.count - done;
+        from = write::put_records(image, text, starts, plain, out, total, n, from);
+        starts[0] = starts[n];
+        done = run.count;
+        let going = mark::mark_on(image, index, cells, &rules, text, starts, done, run);
+        match going {
+            Going::Refused(_) => {
+                return; // the text is accepted
+            }
+            Going::On(r) => {
+                run = r;
+            }
+        }
+    }
+    let n = end_starts(image, &rules, text, starts, done, run);
+    let _last = write::put_records(image, text, starts, plain, out, total, n, from);
+}
+
+// The list of a text's tokens under a checked image. The index and the cells come blank. The text is marked as far as there are starts, then
+// counted to its end; only then is anything written.
+fn list_with<'a>(
+    image: &'a [u8],
+    index: &mut [u8],
+    cells: &mut [u8],
+    starts: &mut [u32],
+    text: &'a [u8],
+    out: &mut [u32],
+) -> Counted
+    requires { ⌜ refusalOf (now image) ≡ none ⌝ }
+    requires { ⌜ Blank (now index) × Blank (now cells) × (128 ≤ length (now cells)) ⌝ }
     requires { ⌜ length (now text) ≤ maxText ⌝ }
+    requires { ⌜ 8 ≤ length (now starts) ⌝ }
     ensures { λ r. ⌜ r ≡ countedBy (listOf (now (image .entry)) (now (text .entry)) (length (now (out .entry)))) ⌝ }
     ensures { λ r. ⌜ now (out .exit) ≡ listWords (now (image .entry)) (now (text .entry)) (now (out .entry)) ⌝ }
 {
-    let mut index = [0u8; BLOCKS];
-    let mut cells = [0u8; CELLS];
-    let counted = count_long::count_long(image, table, &mut index, &mut cells, text);
-    match counted {
-        Counted::Refused(r) => Counted::Refused(r),
-        Counted::Records(count) => {
-            if !is_room(out.len(), count) {
-                return Counted::Refused(Refusal::Room(count));
+    if text.len() == 0 {
+        return Counted::Records(0);
+    }
+    let rules = count::RULES;
+    let rows = blocks::begin(image, cells);
+    let going = mark::mark_first(image, index, cells, &rules, text, starts, rows);
+    match going {
+        Going::Refused(r) => Counted::Refused(r),
+        Going::On(run) => {
+            let counted = count::count_on(image, index, cells, &rules, text, run);
+            match counted {
+                Counted::Refused(r) => Counted::Refused(r),
+                Counted::Records(count) => {
+                    if !is_room(out.len(), count) {
+                        return Counted::Refused(Refusal::Room(count));
+                    }
+                    write_all(image, index, cells, text, starts, out, count, run);
+                    Counted::Records(count)
+                }
             }
-            write_long::write_long(image, table, &index, &cells, text, out, count);
-            Counted::Records(count)
         }
     }
 }
@@ -126,11 +221,16 @@ fn list_judged<'a>(before: Judgement, image: &'a [u8], text: &'a [u8], out: &mut
     match before {
         Judgement::Refused(r) => Counted::Refused(r),
         Judgement::Accepted => {
-            let table = character::fill_token_table(image);
-            if text.len() < LONG {
-                return list_short(image, &table, text, out);
+            if text.len() < SHORT {
+                let mut index = [0u8; 1];
+                let mut cells = [0u8; 128];
+                let mut starts = [0u32; SHORT_STARTS];
+                return list_with(image, &mut index, &mut cells, &mut starts, text, out);
             }
-            list_long(image, &table, text, out)
+            let mut index = [0u8; BLOCKS];
+            let mut cells = [0u8; CELLS];
+            let mut starts = [0u32; STARTS];
+            list_with(image, &mut index, &mut cells, &mut starts, text, out)
         }
     }
 }
@@ -162,7 +262,8 @@ fn take_accepted<'a>(image: &'a [u8], text: &'a [u8], place: usize) -> Taken
     if text.len() < place {
         return Taken::Refused(Refusal::Shape);
     }
-    let table = character::fill_token_table(image);
+    let mut table = [0u8; 128];
+    character::fill_cells(image, 0, 0, &mut table);
     let first = turns::first_token(image, &table, &text[place..]);
     match first {
         First::Nothing => Taken::Done,

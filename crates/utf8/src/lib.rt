@@ -8,7 +8,7 @@ ghost use Rattle.utf8.specs.Table.{_to_};
 ghost use Rattle.utf8.specs.Encoding.{codePoint};
 ghost use Rattle.utf8.specs.Subpart.{subpartOf};
 ghost use Rattle.utf8.specs.Head.{stepOf, IllHead};
-ghost use Rattle.utf8.specs.Lead.{leadWith, leadAfter, leadOfRow, leadOf, wholeLength, byteFits, packed, lengthOf, knownLength};
+ghost use Rattle.utf8.specs.Lead.{leadWith, leadAfter, leadOfRow, leadOf, wholeLength, byteFits, packed, lengthOf, isTrail, knownLength};
 ghost use Rattle.utf8.specs.Text.{textOf};
 ghost use mathlib.Core.List.{[], _∷_};
 
@@ -292,6 +292,13 @@ pub fn measure_known(b: u8) -> usize
         return 3; // E0 to EF
     }
     4
+}
+
+// Whether a byte only follows others in a sequence: in every row of Table 3-7 the last byte is one of these.
+pub fn is_trail(b: u8) -> bool
+    ensures { λ r. ⌜ r ≡ isTrail b ⌝ }
+{
+    b / 64 == 2
 }
 
 // The length of the maximal subpart at the head of `s`, where no sequence begins.

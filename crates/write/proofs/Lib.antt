@@ -1,1 +1,4 @@
-pub mod BoundLaws
+pub mod SpanLaws
+pub mod StartLaws
+pub mod PlainLaws
+pub mod WriteLaws

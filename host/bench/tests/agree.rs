@@ -4,14 +4,16 @@ use luffinarc::{
     write_image, Image, Profile, Range, Role, MAX_CHANGED_ENTRIES, MAX_RUNS, RECORD_WORDS,
 };
 use luffinarc_bench::changes::Changes;
+use luffinarc_bench::pieces::{self, Pieces};
 use luffinarc_bench::rival::{check, Refused, Tables};
-use luffinarc_bench::{prose, texts};
+use luffinarc_bench::{prose, real, texts};
 use luffinarc_reader::cases::{self, Rng};
 use luffinarc_reader::changes::changes_of;
 use luffinarc_reader::{hashtags, kind, list, Refusal};
 
 const IMAGE: &str = concat!(env!("CARGO_MANIFEST_DIR"), "/../data/images/unicode-16.0.img");
 const OLDER: &str = concat!(env!("CARGO_MANIFEST_DIR"), "/../data/images/unicode-15.0.img");
+const SCRIPTS: &str = concat!(env!("CARGO_MANIFEST_DIR"), "/../data/images/scripts-17.0.img");
 
 /// The ranges of which the letters of the random texts are drawn.
 fn letters() -> Vec<Range> {
@@ -83,6 +85,45 @@ fn on_the_texts() {
             assert!(count > 50_000, "{}: {count}", sample.name);
         }
     }
+}
+
+/// On pieces of the texts that are timed by length. They have their length, a NUL after them, and are many different ones.
+#[test]
+fn on_pieces() {
+    let bytes = with_profile(&[]);
+    let image = Image::check(&bytes).unwrap();
+    let tables = tables(&image);
+    for sample in &texts::all(&letters())[..4] {
+        for len in pieces::LENGTHS {
+            let pieces = Pieces::new(&image, &sample.text, len).unwrap();
+            let all: Vec<&[u8]> = pieces.iter().collect();
+            for (piece, with_nul) in all.iter().zip(pieces.with_nul()) {
+                let (nul, before) = with_nul.split_last().unwrap();
+                assert_eq!((piece.len(), *nul, before), (len, 0, *piece));
+                let tokens = read(&bytes, piece).unwrap();
+                assert!(rival(&tables, piece).unwrap() == tokens, "{piece:02X?}");
+            }
+            let different: std::collections::HashSet<&[u8]> = all.iter().copied().collect();
+            assert_eq!(all.len(), (65536 / len).max(1));
+            assert!(2 * different.len() > all.len(), "{}, {len}: {}", sample.name, different.len());
+        }
+        assert!(Pieces::new(&image, &sample.text, texts::LENGTH + 1).is_none());
+    }
+}
+
+/// On real texts, of which few characters became blanks; and what becomes a blank.
+#[test]
+fn on_real_texts() {
+    let bytes = std::fs::read(SCRIPTS).unwrap();
+    let image = Image::check(&bytes).unwrap();
+    for text in real::of_repository(&image) {
+        let count = agree(&bytes, &text.name, &text.text);
+        assert!(count > 100 && 10 * text.blanks < text.text.len(), "{}: {count}", text.name);
+    }
+    let blanks = real::readable(&image, "a.b\0 1\u{200E}é.\u{301}e\u{301}\u{FFFD}x");
+    assert_eq!(blanks, ("a.b  1 é.\u{301}e\u{301} x".to_string(), 3));
+    let cut = "é".repeat(texts::LENGTH);
+    assert_eq!(real::readable(&image, &cut).0.len(), texts::LENGTH);
 }
 
 /// Most characters of a text of entries are entries of its profile, which changes no token.

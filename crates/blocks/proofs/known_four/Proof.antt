@@ -1,65 +1,39 @@
 -- `blocks::known_four` meets its contract. Assumes nothing.
+use Prim.Native.Nat.{_+_, _≤_, _<_}
+use mathlib.Core.Path.{refl}
 use native.Mathlib.Omega.{arith}
-use borrow.Author.Needs.{needs}
+use lib.ListN.{getD}
 use Rattle.utf8.proofs.EncodingLaws.{encodes-4}
-use Rattle.blocks.proofs.ByteLaws.{stands, found-none, found-upper}
+use Rattle.blocks.proofs.ByteLaws.{trails, found-none, found}
+use borrow.Author.Needs.{needs}
 use Rattle.blocks.proofs.known_four.Statement.{statement}
 use Rattle.blocks.proofs.known_four.Tie as tie
 
-returns : tie.Need-returns
-returns c = found-none
+second : (c : tie.After-widen2) → let a = c .before .before .before .before .before .before .before .before .before .before .before .before .before .before .before .before .args in (0x80 ≤ getD (a .text .now) (a .at + 1) 0) × (getD (a .text .now) (a .at + 1) 0 < 0xC0)
+second c = trails _ (c .before .before .before .before .before .before .before .is-trail .ensures) (c .before .before .before .before .before .before .if2 .left)
 
-returns-2 : tie.Need-returns-2
-returns-2 c = found-none
+third : (c : tie.After-widen2) → let a = c .before .before .before .before .before .before .before .before .before .before .before .before .before .before .before .before .args in (0x80 ≤ getD (a .text .now) (a .at + 2) 0) × (getD (a .text .now) (a .at + 2) 0 < 0xC0)
+third c = trails _ (c .before .before .before .before .before .is-trail2 .ensures) (c .before .before .before .before .if3 .left)
 
-returns-3 : tie.Need-returns-3
-returns-3 c = found-none
+fourth : (c : tie.After-widen2) → let a = c .before .before .before .before .before .before .before .before .before .before .before .before .before .before .before .before .args in (0x80 ≤ getD (a .text .now) (a .at + 3) 0) × (getD (a .text .now) (a .at + 3) 0 < 0xC0)
+fourth c = trails _ (c .before .before .before .is-trail3 .ensures) (c .before .before .if4 .left)
 
-returns-4 : tie.Need-returns-4
-returns-4 c = found-none
+sub-block : tie.Need-sub-block
+sub-block c = omega (arith, second c, third c)
+
+held-requires : tie.Need-held-requires
+held-requires c κs = (c .before .before .before .before .before .before .before .before .before .before .before .before .before .before .before .before .pre .0, (omega (arith, second c, third c), fourth c .0, fourth c .1))
 
 returns-5 : tie.Need-returns-5
-returns-5 c = found-none
-
-cell-of-requires : tie.Need-cell-of-requires
-cell-of-requires c κs =
-    let f = c .before .before .before .before .before .before .before .before .before .before .before .pre .0 in
-    ((f .cells-long, f .rows _ (omega arith)), (omega arith, omega arith))
-
-returns-6 : tie.Need-returns-6
-returns-6 c =
-    let e = c .before .before in
-    let l = e .if5 .left in
-    let m = e .before .if4 .left in
-    let n = e .before .before .if3 .left in
-    let o = e .before .before .before .if2 .left in
-    let q = e .before .before .before .before .if1 .left in
-    let k = e .before .before .before .before .before .before .before .before .before .before in
-    let p = k .pre .1 in
-    let a = k .args in
-    found-upper
-    _
-    _
-    (omega arith)
-    (omega arith)
-    (stands
-    (a .text .now)
-    (a .at)
-    3
-    (omega arith)
-    (encodes-4
-    _
-    _
-    _
-    _
-    (omega arith, omega arith)
-    (omega arith, omega arith)
-    (omega arith, omega arith)
-    (omega arith, omega arith)
-    (omega arith)))
-    (omega arith)
-    (omega arith)
-    (c .cell-of .ensures)
+returns-5 c =
+    let d = second (c .before) in
+    let e = third (c .before) in
+    let f = fourth (c .before) in
+    let o = c .before .before .before .before .before .before .before .before .before .if1 .left in
+    let p = c .before .before .before .before .before .before .before .before .before .before .before .before .before .before .before .before .before .pre .1 in
+    let v = c .before .widen2 .ensures in
+    let w = c .before .before .widen .ensures in
+    found 3 (c .held .ensures) (omega arith) (omega arith) (omega arith) refl (omega arith) (encodes-4 _ _ _ _ (omega arith, omega arith) (omega arith, omega arith) (omega arith, omega arith) (omega arith, omega arith))
 
 pub known-four-spec : {M : Type 1} → statement M
 known-four-spec =
@@ -72,16 +46,17 @@ known-four-spec =
     (λ c. search needs)
     (λ c. search needs)
     (λ c. search needs)
-    returns
-    returns-2
-    returns-3
-    returns-4
-    returns-5
+    (λ c. found-none)
+    (λ c κs. search needs)
+    (λ c. found-none)
+    (λ c κs. search needs)
+    (λ c. found-none)
+    (λ c κs. search needs)
+    (λ c. found-none)
+    (λ c κs. search needs)
     (λ c. search needs)
+    (λ c κs. search needs)
     (λ c. search needs)
-    (λ c. search needs)
-    (λ c. search needs)
-    (λ c. search needs)
-    (λ c. search needs)
-    cell-of-requires
-    returns-6)
+    sub-block
+    held-requires
+    returns-5)

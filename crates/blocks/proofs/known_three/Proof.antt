@@ -1,46 +1,34 @@
 -- `blocks::known_three` meets its contract. Assumes nothing.
+use Prim.Native.Nat.{_+_, _≤_, _<_}
+use mathlib.Core.Path.{refl}
 use native.Mathlib.Omega.{arith}
-use borrow.Author.Needs.{needs}
+use lib.ListN.{getD}
 use Rattle.utf8.proofs.EncodingLaws.{encodes-3}
-use Rattle.blocks.proofs.ByteLaws.{stands, found-none, found-lower}
+use Rattle.blocks.proofs.ByteLaws.{trails, found-none, found}
+use borrow.Author.Needs.{needs}
 use Rattle.blocks.proofs.known_three.Statement.{statement}
 use Rattle.blocks.proofs.known_three.Tie as tie
 
-returns : tie.Need-returns
-returns c = found-none
+second : (c : tie.After-widen2) → let a = c .before .before .before .before .before .before .before .before .before .before .before .before .args in (0x80 ≤ getD (a .text .now) (a .at + 1) 0) × (getD (a .text .now) (a .at + 1) 0 < 0xC0)
+second c = trails _ (c .before .before .before .before .before .before .is-trail .ensures) (c .before .before .before .before .before .if1 .left)
 
-returns-2 : tie.Need-returns-2
-returns-2 c = found-none
+third : (c : tie.After-widen2) → let a = c .before .before .before .before .before .before .before .before .before .before .before .before .args in (0x80 ≤ getD (a .text .now) (a .at + 2) 0) × (getD (a .text .now) (a .at + 2) 0 < 0xC0)
+third c = trails _ (c .before .before .before .before .is-trail2 .ensures) (c .before .before .before .if2 .left)
+
+sub-block : tie.Need-sub-block
+sub-block c = omega (arith, second c)
+
+held-requires : tie.Need-held-requires
+held-requires c κs = (c .before .before .before .before .before .before .before .before .before .before .before .before .pre .0, (omega (arith, second c), third c .0, third c .1))
 
 returns-3 : tie.Need-returns-3
-returns-3 c = found-none
-
-cell-of-requires : tie.Need-cell-of-requires
-cell-of-requires c κs =
-    let f = c .before .before .before .before .before .before .before .before .pre .0 in
-    ((f .cells-long, f .rows _ (omega arith)), (omega arith, omega arith))
-
-returns-4 : tie.Need-returns-4
-returns-4 c =
-    let l = c .before .before .if3 .left in
-    let m = c .before .before .before .before .if2 .left in
-    let n = c .before .before .before .before .before .if1 .left in
-    let k = c .before .before .before .before .before .before .before .before .before in
-    let p = k .pre .1 in
-    let a = k .args in
-    found-lower
-    _
-    _
-    (omega arith)
-    (omega arith)
-    (stands
-    (a .text .now)
-    (a .at)
-    2
-    (omega arith)
-    (encodes-3 _ _ _ (omega arith, omega arith) (omega arith, omega arith) (omega arith, omega arith) (omega arith)))
-    (omega arith)
-    (c .cell-of .ensures .0)
+returns-3 c =
+    let d = second (c .before) in
+    let e = third (c .before) in
+    let p = c .before .before .before .before .before .before .before .before .before .before .before .before .before .pre .1 in
+    let v = c .before .widen2 .ensures in
+    let w = c .before .before .widen .ensures in
+    found 2 (c .held .ensures) (omega arith) (omega arith) (omega arith) refl (omega arith) (encodes-3 _ _ _ (omega arith, omega arith) (omega arith, omega arith) (omega arith, omega arith))
 
 pub known-three-spec : {M : Type 1} → statement M
 known-three-spec =
@@ -50,15 +38,15 @@ known-three-spec =
     (λ c. search needs)
     (λ c. search needs)
     (λ c. search needs)
-    returns
-    returns-2
+    (λ c κs. search needs)
+    (λ c. found-none)
+    (λ c κs. search needs)
+    (λ c. found-none)
     (λ c. search needs)
+    (λ c κs. search needs)
     (λ c. search needs)
+    (λ c κs. search needs)
     (λ c. search needs)
-    (λ c. search needs)
-    (λ c. search needs)
-    (λ c. search needs)
-    returns-3
-    (λ c. search needs)
-    cell-of-requires
-    returns-4)
+    sub-block
+    held-requires
+    returns-3)

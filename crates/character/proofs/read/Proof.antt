@@ -18,8 +18,9 @@ ascii-requires c κs = search needs
 
 returns : tie.Need-returns
 returns c =
-    let p = c .before .before .before .before .before .before .pre in
-    read-ascii _ _ _ _ _ _ _ (p .1 .0) (p .1 .1 .0) (p .1 .1 .1) (c .before .before .if1 .taken) (c .ascii .ensures)
+    let a = c .before .before .before .before .before .before in
+    let p = a .pre .1 in
+    read-ascii _ _ _ (a .args .table .now) _ _ _ (p .0 .each) (p .1 .0) (p .1 .1) (c .before .before .if1 .taken) (c .ascii .ensures)
 
 read-decoded-requires : tie.Need-read-decoded-requires
 read-decoded-requires c κs = search needs

@@ -13,16 +13,17 @@ shared-slice-read-b c = search needs
 cast-ascii : tie.Need-cast-ascii
 cast-ascii c = search needs
 
-element-copy-out-ascii : tie.Need-element-copy-out-ascii
-element-copy-out-ascii c = search needs
+shared-slice-read-ascii : tie.Need-shared-slice-read-ascii
+shared-slice-read-ascii c = search needs
 
 ascii-requires : tie.Need-ascii-requires
 ascii-requires c κs = search needs
 
 returns : tie.Need-returns
 returns c =
-    let p = c .before .before .before .before .before .before .pre in
-    read-ascii _ _ _ _ _ _ _ (p .1 .0) (p .1 .1 .0) (p .1 .1 .1) (c .before .before .if1 .taken) (c .ascii .ensures)
+    let a = c .before .before .before .before .before .before .before in
+    let p = a .pre .1 in
+    read-ascii _ _ _ (a .args .table .now) _ _ _ (p .0 .each) (p .1 .0) (p .1 .1) (c .before .before .if1 .taken) (c .ascii .ensures)
 
 read-decoded-requires : tie.Need-read-decoded-requires
 read-decoded-requires c κs = search needs
@@ -32,7 +33,7 @@ token-traits-requires c κs = search needs
 
 returns-2 : tie.Need-returns-2
 returns-2 c =
-    let a = c .before .before .before .before .before .before .before .pre .0 in
+    let a = c .before .before .before .before .before .before .before .before .pre .0 in
     let d = c .before .before .read-decoded .ensures in
     record {
       memo = d .memo;
@@ -46,7 +47,7 @@ read-for-tokens-spec =
     (tie.spec
     shared-slice-read-b
     cast-ascii
-    element-copy-out-ascii
+    shared-slice-read-ascii
     ascii-requires
     returns
     read-decoded-requires

@@ -8,7 +8,8 @@ use Rattle.lists.specs.Laid.{laid}
 use Rattle.image.specs.Limits.{wordsPerRange}
 use Rattle.image.specs.Ranges.{rangeAt, rangeWords}
 use Rattle.image.specs.declared.Range.{Range}
-use Rattle.lists.proofs.WritingLaws.{Writing, writing-begins, writing-lent, writing-ends}
+use Rattle.lists.specs.Writing.{Writing}
+use Rattle.lists.proofs.WritingLaws.{writing-begins, writing-lent, writing-ends}
 use Rattle.image.proofs.write_ranges.Statement.{statement}
 use Rattle.image.proofs.write_ranges.Tie as tie
 

@@ -29,27 +29,27 @@ abbrev μ-loop : tie.MeasureT-loop
 -- the character that was read stands at the place
 stands :
     (c : tie.After-memo Inv-loop μ-loop)
-    → let a = c .before .before .before .before .before .before .before .before .args in
+    → let a = c .before .before .before .before .before .before .before .before .before .args in
     let r = c .before .before .read-for-tokens .result in
     Here (a .image .now) (a .text .now) (c .before .before .before .before .loop .at) (r .len) (r .traits)
 stands c = here _ _ _ _ (c .before .before .before .loop-test .taken) (c .before .before .read-for-tokens .ensures) (omega arith)
 
 looked :
     (c : tie.After-find-turn Inv-loop μ-loop)
-    → let a = c .before .before .before .before .before .before .before .before .before .before .args in
+    → let a = c .before .before .before .before .before .before .before .before .before .before .before .args in
     let l = c .before .before .before .before .before .before .loop in
     let r = c .before .before .before .before .read-for-tokens .result in
     Look (a .image .now) (a .text .now) (l .state) (l .at) (r .len) (r .traits) (c .find-turn .result)
 looked c =
     let k = c .before .before .before .before .before .before .before .before .before .before in
-    record { accepted = k .pre .0; here = stands (c .before .before); known = c .find-turn .ensures }
+    record { accepted = k .before .pre .0; here = stands (c .before .before); known = c .find-turn .ensures }
 
 loop-holds : tie.Need-loop-holds Inv-loop μ-loop
 loop-holds c = (searching-begins _ _, c .no-memo .ensures _)
 
 read-for-tokens-requires : tie.Need-read-for-tokens-requires Inv-loop μ-loop
 read-for-tokens-requires c κs =
-    let p = c .before .before .before .before .before .pre in
+    let p = c .before .before .before .before .before .before .pre in
     (p .0, (p .1, (c .before .loop .inv .1, c .loop-test .taken)))
 
 returns : tie.Need-returns Inv-loop μ-loop
@@ -63,17 +63,17 @@ returns-2 c =
 add-next : tie.Need-add-next Inv-loop μ-loop
 add-next c =
     let t = stands c in
-    omega (arith, t .within, c .before .before .before .before .before .before .before .before)
+    omega (arith, t .within, c .before .before .before .before .before .before .before .before .before)
 
 find-turn-requires : tie.Need-find-turn-requires Inv-loop μ-loop
 find-turn-requires c κs =
     let k = c .before .before .before .before .before in
-    (refl, (searching-less (k .loop .inv .0), here-small (k .before .before .before .before .pre .0) (stands (c .before))))
+    (refl, (searching-less (k .loop .inv .0), here-small (k .before .before .before .before .before .pre .0) (stands (c .before))))
 
 state-after-requires : tie.Need-state-after-requires Inv-loop μ-loop
 state-after-requires c κs =
     let k = c .before .before .before .before .before .before .before .before .before .before .before .before in
-    (refl, here-small (k .pre .0) (stands (c .before .before .before .before)))
+    (refl, here-small (k .before .pre .0) (stands (c .before .before .before .before)))
 
 loop-less : tie.Need-loop-less Inv-loop μ-loop
 loop-less c =
@@ -90,7 +90,7 @@ loop-again c =
 waiting-after-requires : tie.Need-waiting-after-requires Inv-loop μ-loop
 waiting-after-requires c κs =
     let k = c .before .before .before .before .before .before .before .before .before .before .before .before .before in
-    (refl, here-small (k .pre .0) (stands (c .before .before .before .before .before)))
+    (refl, here-small (k .before .pre .0) (stands (c .before .before .before .before .before)))
 
 loop-less-2 : tie.Need-loop-less-2 Inv-loop μ-loop
 loop-less-2 c =

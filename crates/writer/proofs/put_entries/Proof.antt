@@ -6,7 +6,8 @@ use native.Mathlib.Omega.{arith}
 use lib.ListN.{length-take, length-drop}
 use Rattle.lists.specs.Laid.{laid}
 use Rattle.lists.specs.Each.{each}
-use Rattle.lists.proofs.WritingLaws.{Writing, writing-begins, writing-lent, writing-ends}
+use Rattle.lists.specs.Writing.{Writing}
+use Rattle.lists.proofs.WritingLaws.{writing-begins, writing-lent, writing-ends}
 use Rattle.image.specs.Limits.{entryBytes}
 use Rattle.image.specs.Profile.{profileBy}
 use Rattle.image.specs.Image.{entryWords, bytesOfAll}

@@ -6,7 +6,8 @@ use native.Mathlib.Omega.{arith}
 use lib.ListN.{length, getD, length-take, length-drop}
 use Rattle.lists.specs.Laid.{laid}
 use Rattle.lists.specs.Each.{each}
-use Rattle.lists.proofs.WritingLaws.{Writing, writing-begins, writing-lent, writing-ends}
+use Rattle.lists.specs.Writing.{Writing}
+use Rattle.lists.proofs.WritingLaws.{writing-begins, writing-lent, writing-ends}
 use Rattle.image.specs.Limits.{wordBytes}
 use Rattle.image.specs.Word.{bytesOf}
 use Rattle.writer.proofs.WordLaws.{length-four, bytes-each-word}

@@ -1,0 +1,53 @@
+-- Inner: no public statement cites this file.
+-- How far the starts of a text's tokens are marked.
+use Prim.Native.Nat.{ℕ, _+_, _-_, _≤_, _<_}
+use mathlib.Core.Path.{_≡_}
+use mathlib.Core.List.{List}
+use mathlib.Core.Logic.{_⊎_}
+use lib.ListN.{length}
+use Rattle.grammar.specs.declared.Counted.the-variants.{Refused}
+use Rattle.grammar.specs.Counted.{countThrough}
+use Rattle.grammar.specs.Before.{maxText}
+use Rattle.blocks.specs.Blocks.{Learning}
+use Rattle.turns.specs.Starts.{Started}
+use Rattle.count.specs.Turns.{countStates}
+use Rattle.count.specs.declared.Run.{Run}
+use Rattle.count.specs.declared.Going.{Going}
+use Rattle.count.specs.declared.Going.the-variants as going
+use Rattle.count.specs.Counting.{CountingAs}
+
+-- starts that are left free
+abbrev pub margin : ℕ
+margin = 4
+
+-- a token is under way, and the starts from token number `done` on up to it are marked; a medial that waits and the text's end have room
+pub record Marking (s text starts : List ℕ) (done : ℕ) (run : Run) : Type 0 where
+  pub counting : CountingAs s text run
+  pub some : 0 < run .state
+  pub from : done ≤ run .count
+  pub room : run .count - done + 2 < length starts
+  pub started : Started s text starts done (run .count - done + 1)
+
+-- the text is refused, or it is marked to its end, or to where starts run out
+pub record MarkedOn (s text starts : List ℕ) (done : ℕ) (run : Run) : Type 0 where
+  pub marking : Marking s text starts done run
+  pub far : (length text ≤ run .at) ⊎ (length starts ≤ run .count - done + margin)
+
+abbrev pub Marked : List ℕ → List ℕ → List ℕ → ℕ → Going → Type 0
+Marked s text starts done (going.Refused x) = Refused x ≡ countThrough s text
+Marked s text starts done (going.On r) = MarkedOn s text starts done r
+
+-- what was learnt meanwhile
+abbrev pub LearningOn : List ℕ → List ℕ → List ℕ → Going → Type 0
+LearningOn s index cells (going.Refused x) = Unit {0}
+LearningOn s index cells (going.On r) = Learning s index cells (r .rows)
+
+-- the starts of what began between two runs are put: there is room, and the numbers are small
+pub record Putting (starts : List ℕ) (done : ℕ) (run next : Run) : Type 0 where
+  pub from : done ≤ run .count
+  pub room : run .count - done + 2 < length starts
+  pub fits : run .count ≤ maxText
+  pub place : run .at ≤ maxText
+  pub medial : run .mid ≤ maxText
+  pub state : run .state < countStates
+  pub after : next .state < countStates
