@@ -107,3 +107,24 @@ stepped r t = go (countTurnOf (rowState r) t) (eqb (rowState t) (countAfterOf t)
     go (suc (suc zero)) a true e f g l = waits e (g refl)
     go (suc (suc zero)) a false e f g l = absurd (omega arith)
     go (suc (suc (suc n))) a b e f g l = absurd (omega arith)
+
+-- a known step is 0 or 1, and each is a byte
+pub step-few : (r t : ℕ) → stepFor r t < 128 → stepFor r t ≤ 1
+step-few r t l = go (stepped r t l)
+  where
+    go : {n : ℕ} → Stepped r t n → n ≤ 1
+    go (moves e h f) = h
+    go (waits e f) = omega arith
+
+pub step-most : (r t : ℕ) → stepFor r t ≤ 255
+unfolding stepFor
+step-most r t = go (countTurnOf (rowState r) t) (eqb (rowState t) (countAfterOf t)) (eqb (rowState t) (countWaitingOf t))
+  where
+    go : (n : ℕ) (a b : Bool) → stepBy n a b ≤ 255
+    go zero true b = omega arith
+    go zero false b = omega arith
+    go (suc zero) true b = omega arith
+    go (suc zero) false b = omega arith
+    go (suc (suc zero)) a true = omega arith
+    go (suc (suc zero)) a false = omega arith
+    go (suc (suc (suc n))) a b = omega arith

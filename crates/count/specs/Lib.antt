@@ -1,4 +1,5 @@
 pub mod Turns
 pub mod Steps
+pub mod Four
 pub mod Rules
 pub mod Counting

@@ -4,8 +4,8 @@
 ghost use mathlib.Core.Path.{_≡_};
 ghost use mathlib.Core.Option.{none};
 ghost use mathlib.Core.List.{List};
-ghost use Prim.Native.Nat.{ℕ, _-_, _≤_, _<_};
-ghost use lib.ListN.{length};
+ghost use Prim.Native.Nat.{ℕ, _+_, _-_, _≤_, _<_};
+ghost use lib.ListN.{length, getD};
 ghost use Rattle.image.specs.Check.{refusalOf};
 ghost use Rattle.character.specs.Read.{MemoOf, TokenTableOf};
 ghost use Rattle.blocks.specs.Blocks.{Cached, Learning, Learnt};
@@ -13,6 +13,7 @@ ghost use Rattle.grammar.specs.Counted.{countThrough};
 ghost use Rattle.count.specs.Counting.{CountingFrom, CountingAs, CountLook, Advanced, Looked, finishedBy, runWith};
 ghost use Rattle.count.specs.Turns.{countStates, countPendingOf, countBeside, stateBeside, markBeside, refusedBeside};
 ghost use Rattle.count.specs.Steps.{rowState};
+ghost use Rattle.count.specs.Four.{SmallCells, FourSteps};
 ghost use Rattle.count.specs.Rules.{ruleRows, ruleFor, ruleTable};
 use blocks::BLOCKS;
 use character::Character;
@@ -331,6 +332,50 @@ pub fn row_of(rules: &[u8; 592], state: u32) -> usize
     rule(rules, STATE_ROWS, state as usize)
 }
 
+// What is known of an ASCII byte.
+fn ascii_cell(cells: &[u8], a: u8) -> usize
+    requires { ⌜ SmallCells (now cells) × (a < 0x80) ⌝ }
+    ensures { λ r. ⌜ (r ≡ getD (now (cells .entry)) a 0) × (r < 16) ⌝ }
+{
+    widen(cells[a as usize])
+}
+
+// How many tokens are complete with four characters of ASCII at a place, after a row; ODD or more where they aren't ASCII, or it isn't known.
+pub fn four_steps<'a>(
+    cells: &'a [u8],
+    rules: &'a [u8; 592],
+    text: &'a [u8],
+    at: usize,
+    row: usize,
+) -> usize
+    requires { ⌜ SmallCells (now cells) ⌝ }
+    requires { ⌜ now rules ≡ ruleTable ⌝ }
+    requires { ⌜ (row < 16) × (at + 4 ≤ length (now text)) × (getD (now text) at 0 < 0x80) ⌝ }
+    ensures { λ r. ⌜ (r < 128 → FourSteps (now (cells .entry)) (now (text .entry)) at row r) ⌝ }
+{
+    let a = text[at];
+    let b = text[at + 1];
+    if 0x80 <= b {
+        return ODD;
+    }
+    let c = text[at + 2];
+    if 0x80 <= c {
+        return ODD;
+    }
+    let d = text[at + 3];
+    if 0x80 <= d {
+        return ODD;
+    }
+    let first = ascii_cell(cells, a);
+    let second = ascii_cell(cells, b);
+    let third = ascii_cell(cells, c);
+    let fourth = ascii_cell(cells, d);
+    rule(rules, row, first)
+        + rule(rules, first, second)
+        + rule(rules, second, third)
+        + rule(rules, third, fourth)
+}
+
 // Counts on as far as what characters do is known from the one before. The row is the traits of the last character, or of one that leads to
 // the state at first; `last` is the place of a medial that waits.
 fn run_count<'a>(
@@ -361,6 +406,15 @@ fn run_count<'a>(
     while at < end {
         let a = text[at];
         if a < 0x80 {
+            let four = four_steps(cells, rules, text, at, row);
+            if four < ODD {
+                count += four;
+                last = at + 3;
+                let d = text[last];
+                row = widen(cells[d as usize]);
+                at += 4;
+                continue;
+            }
             let traits = widen(cells[a as usize]);
             let step = rule(rules, row, traits);
             if ODD <= step {

@@ -1,5 +1,6 @@
-//! The hot loops of long texts, against the independent reader: every short text and every character after so many blanks
-//! that the text is long, texts around the length from which texts are long, and more blocks than are kept.
+//! The loops over long texts, against the independent reader: every short text and every character after so many blanks
+//! that the text is long, texts around the length from which texts are long, more tokens than their starts have room for,
+//! and more blocks than are kept.
 
 use luffinarc::RECORD_WORDS;
 use luffinarc_reader::cases::*;
@@ -8,7 +9,10 @@ use luffinarc_reader::{class, Calls, Reader, Refusal};
 use luffinarc_tests::{data, runs, say, Library};
 
 /// From so many bytes on a text is long.
-const LONG: usize = 256;
+const LONG: usize = 96;
+
+/// The starts of so many tokens have room at once.
+const STARTS: usize = 1152;
 
 /// The number of tokens, or why not: counted and listed alike by the library and the reader, with words to spare.
 fn compare(image: &[u8], text: &[u8]) -> Result<usize, Refusal> {
@@ -95,6 +99,24 @@ fn every_character() {
     }
     say(&format!("characters in long texts: {known}, texts refused {refused}"));
     assert!(known > 140_000 && refused > 1000);
+}
+
+/// Texts of some thousand tokens of one byte, so that their starts come in pieces, which end within names, after medials
+/// and before the last token; each length around one piece and around two.
+#[test]
+fn around_the_starts() {
+    let (image, mut tally) = (data("images/m2.img"), Tally::default());
+    for fill in [". ", "a ", "a. ", ".a ", "a.b. ", " a.", "é ", "a1 .. "] {
+        let pieces = [STARTS, 2 * STARTS, 3 * STARTS];
+        for length in pieces.into_iter().flat_map(|n| n - 9..=n + 9).chain([7000, 20_000]) {
+            let mut text = fill.repeat(length / fill.len() + 1).into_bytes();
+            text.truncate(length);
+            tally.add(&compare(&image, &text));
+            text[length - 1] = b'1';
+            tally.add(&compare(&image, &text));
+        }
+    }
+    tally.close("texts around the starts", "ok,6,7");
 }
 
 /// Texts of each length around the one from which texts are long, whole and with another last byte.
