@@ -333,7 +333,7 @@ pub fn row_of(rules: &[u8; 592], state: u32) -> usize
 }
 
 // What is known of an ASCII byte.
-fn ascii_cell(cells: &[u8], a: u8) -> usize
+pub fn ascii_cell(cells: &[u8], a: u8) -> usize
     requires { ⌜ SmallCells (now cells) × (a < 0x80) ⌝ }
     ensures { λ r. ⌜ (r ≡ getD (now (cells .entry)) a 0) × (r < 16) ⌝ }
 {

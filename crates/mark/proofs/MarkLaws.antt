@@ -5,12 +5,12 @@ use mathlib.Core.Path.{_≡_, refl, sym, ap, subst, _∙_}
 use mathlib.Core.List.{List}
 use mathlib.Core.Option.{none}
 use native.Mathlib.Omega.{arith}
-use lib.ListN.{length, set, length-set}
+use lib.ListN.{length, getD, set, length-set}
 use lib.Dec.{eqb, leb}
 use borrow.Author.Tests.{le-leb, lt-leb, eq-eqb, ne-eqb}
 use Rattle.lists.specs.Each.{eachFrom, each, column}
 use Rattle.image.specs.Check.{refusalOf}
-use Rattle.character.specs.Read.{MemoOf}
+use Rattle.character.specs.Read.{MemoOf, TokenTableOf}
 use Rattle.character.specs.declared.Memo.{Memo}
 use Rattle.grammar.specs.Before.{maxText}
 use Rattle.blocks.specs.Blocks.{Cached, FoundAt}
@@ -21,16 +21,17 @@ use Rattle.turns.proofs.StartLaws.{underKind, start-under, started-fewer, start
 use Rattle.count.specs.Turns.{plainOf, countStates, countWaiting, countAfterOf}
 use Rattle.count.specs.Steps.{rowState, stepFor}
 use Rattle.count.specs.Rules.{traitsFor, ruleFor}
+use Rattle.count.specs.Four.{cellFor, FourSteps}
 use Rattle.count.specs.Counting.{Counting, CountingFrom, LookedOn, Looked, startAfter, runWith}
 use Rattle.count.specs.declared.Run.{Run}
 use Rattle.count.specs.declared.Going.{Going}
 use Rattle.count.specs.declared.Going.the-variants as going
 use Rattle.count.proofs.BesideTurnLaws.{stated}
 use Rattle.count.proofs.CountLaws.{counting-few}
-use Rattle.count.proofs.StepLaws.{same-at, traits-kind, Stepped, moves, waits, stepped, some-known, known-some}
+use Rattle.count.proofs.StepLaws.{same-at, traits-kind, Stepped, moves, waits, stepped, step-few, some-known, known-some}
 use Rattle.count.proofs.RuleLaws.{rule-step}
-use Rattle.count.proofs.KnownLaws.{here-known, known-step}
-use Rattle.mark.specs.Marking.{Marking, Putting, margin}
+use Rattle.count.proofs.KnownLaws.{here-ascii, here-known, known-step}
+use Rattle.mark.specs.Marking.{Marking, Putting, countFour, putAt, fourPut, margin}
 
 -- the kind under way is that of a character after which nothing waits
 after-holds : column 16 afterOf 16 ≡ column 16 (λ t. underKind (plainOf (countAfterOf t))) 16
@@ -137,6 +138,51 @@ module _ {s text : List ℕ} {done mark refused size first least : ℕ} {starts 
   pub steps-known : {index cells : List ℕ} {t n len : ℕ} → at < length text → Cached s index cells → FoundAt index cells text at len t → n ≡ ruleFor row t → n < 128 →
       Stepping s text done mark refused size first least starts t n k at len
   steps-known {t = t} h c f e l = steps e l (here-known h (f .shown _ c (some-known row t (i .small) (omega (arith, e ∙ rule-step row t (i .small))))))
+
+-- the steps of four characters of ASCII
+pub record FourFew (cells text : List ℕ) (at row : ℕ) : Type 0 where
+  pub few0 : stepFor row (cellFor cells text at) ≤ 1
+  pub few1 : stepFor (cellFor cells text at) (cellFor cells text (at + 1)) ≤ 1
+  pub few2 : stepFor (cellFor cells text (at + 1)) (cellFor cells text (at + 2)) ≤ 1
+  pub few3 : stepFor (cellFor cells text (at + 2)) (cellFor cells text (at + 3)) ≤ 1
+
+pub four-few : {cells text : List ℕ} {at row n : ℕ} → FourSteps cells text at row n → FourFew cells text at row
+four-few {cells} {text} {at} {row} k =
+    record {
+      few0 = step-few row (cellFor cells text at) (omega (arith, k .known, k .steps));
+      few1 = step-few (cellFor cells text at) (cellFor cells text (at + 1)) (omega (arith, k .known, k .steps));
+      few2 = step-few (cellFor cells text (at + 1)) (cellFor cells text (at + 2)) (omega (arith, k .known, k .steps));
+      few3 = step-few (cellFor cells text (at + 2)) (cellFor cells text (at + 3)) (omega (arith, k .known, k .steps));
+    }
+
+-- a start put, by other numbers
+pub put-same : (cells text : List ℕ) (at : ℕ) {xs ys : List ℕ} {k j x t : ℕ} → xs ≡ ys → k ≡ j → x ≡ 16 * at + t → t ≡ cellFor cells text at → set xs (k + 1) x ≡ putAt cells text ys j at
+put-same cells text at {ys = ys} {k} {j} {x} e f g h =
+    ap (λ (zs : List ℕ). set zs (k + 1) x) e ∙ ap (λ (i : ℕ). set ys (i + 1) x) f ∙ ap (set ys (j + 1)) (g ∙ ap (λ (y : ℕ). 16 * at + y) h)
+
+-- four starts put
+module _ {s cells text : List ℕ} {done mark refused size first least : ℕ} (f : TokenTableOf s cells) (a : refusalOf s ≡ none) where
+  one-walk : {starts : List ℕ} {row k last at : ℕ} (next : ℕ) → at + 1 ≡ next → Walked s text done mark refused size first least starts row k last at → k + margin < size → at < length text →
+      getD text at 0 < 0x80 → stepFor row (cellFor cells text at) ≤ 1 →
+      Walked s text done mark refused size first least (putAt cells text starts k at) (cellFor cells text at) (k + stepFor row (cellFor cells text at)) at next
+  one-walk {starts} {row} {k} {at = at} next e i room h b l =
+      let t = cellFor cells text at in
+      let n = stepFor row t in
+      subst (λ (m : ℕ). Walked s text done mark refused size first least (putAt cells text starts k at) t (k + n) at m) e
+      (steps a i (omega (arith, i .long)) (sym (rule-step row t (i .small))) (omega arith) (here-ascii s text cells at t f h b refl) .next _ refl)
+
+  pub four-walk : {starts : List ℕ} {row k last at n : ℕ} → Walked s text done mark refused size first least starts row k last at → k + 8 < length starts → FourSteps cells text at row n → at + 4 ≤ length text →
+      (xs : List ℕ) → xs ≡ fourPut cells text starts at row k → (r t : ℕ) → r ≡ countFour cells text at row k → t ≡ cellFor cells text (at + 3) →
+      Walked s text done mark refused size first least xs t r (at + 3) (at + 4)
+  four-walk {starts} {row} {k} {at = at} i room p h xs ex r t er et =
+      let d = four-few p in
+      let i1 = one-walk (at + 1) refl i (omega (arith, i .long)) (omega arith) (p .first) (d .few0) in
+      let i2 = one-walk (at + 2) (omega arith) i1 (omega (arith, i .long, d .few0)) (omega arith) (p .second) (d .few1) in
+      let i3 = one-walk (at + 3) (omega arith) i2 (omega (arith, i .long, d .few0, d .few1)) (omega arith) (p .third) (d .few2) in
+      let i4 = one-walk (at + 4) (omega arith) i3 (omega (arith, i .long, d .few0, d .few1, d .few2)) (omega arith) (p .fourth) (d .few3) in
+      let j = subst (λ (ys : List ℕ). Walked s text done mark refused size first least ys (cellFor cells text (at + 3)) (countFour cells text at row k) (at + 3) (at + 4)) (sym ex) i4 in
+      let m = subst (λ (y : ℕ). Walked s text done mark refused size first least xs (cellFor cells text (at + 3)) y (at + 3) (at + 4)) (sym er) j in
+      subst (λ (y : ℕ). Walked s text done mark refused size first least xs y r (at + 3) (at + 4)) (sym et) m
 
 -- where it begins
 pub walk-begins : {s text starts : List ℕ} {done : ℕ} {run : Run} (row : ℕ) → Marking s text starts done run → length text ≤ maxText → row < 16 → run .state ≡ rowState row →

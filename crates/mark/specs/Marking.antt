@@ -1,10 +1,10 @@
 -- Inner: no public statement cites this file.
 -- How far the starts of a text's tokens are marked.
-use Prim.Native.Nat.{ℕ, _+_, _-_, _≤_, _<_}
+use Prim.Native.Nat.{ℕ, _+_, _-_, _*_, _≤_, _<_}
 use mathlib.Core.Path.{_≡_}
 use mathlib.Core.List.{List}
 use mathlib.Core.Logic.{_⊎_}
-use lib.ListN.{length}
+use lib.ListN.{length, set}
 use Rattle.grammar.specs.declared.Counted.the-variants.{Refused}
 use Rattle.grammar.specs.Counted.{countThrough}
 use Rattle.grammar.specs.Before.{maxText}
@@ -15,6 +15,8 @@ use Rattle.count.specs.declared.Run.{Run}
 use Rattle.count.specs.declared.Going.{Going}
 use Rattle.count.specs.declared.Going.the-variants as going
 use Rattle.count.specs.Counting.{CountingAs}
+use Rattle.count.specs.Steps.{stepFor}
+use Rattle.count.specs.Four.{cellFor, FourSteps}
 
 -- starts that are left free
 abbrev pub margin : ℕ
@@ -51,3 +53,32 @@ pub record Putting (starts : List ℕ) (done : ℕ) (run next : Run) : Type 0 wh
   pub medial : run .mid ≤ maxText
   pub state : run .state < countStates
   pub after : next .state < countStates
+
+-- four characters of ASCII stand at a place whose steps are known
+pub record FourAt (cells text : List ℕ) (at row : ℕ) : Type 0 where
+  pub number : ℕ
+  pub steps : FourSteps cells text at row number
+
+-- how many tokens are complete after the first of them, and so on
+abbrev pub countOne : List ℕ → List ℕ → ℕ → ℕ → ℕ → ℕ
+countOne cells text at row k = k + stepFor row (cellFor cells text at)
+
+abbrev pub countTwo : List ℕ → List ℕ → ℕ → ℕ → ℕ → ℕ
+countTwo cells text at row k = countOne cells text at row k + stepFor (cellFor cells text at) (cellFor cells text (at + 1))
+
+abbrev pub countThree : List ℕ → List ℕ → ℕ → ℕ → ℕ → ℕ
+countThree cells text at row k = countTwo cells text at row k + stepFor (cellFor cells text (at + 1)) (cellFor cells text (at + 2))
+
+abbrev pub countFour : List ℕ → List ℕ → ℕ → ℕ → ℕ → ℕ
+countFour cells text at row k = countThree cells text at row k + stepFor (cellFor cells text (at + 2)) (cellFor cells text (at + 3))
+
+-- a start put
+abbrev pub putAt : List ℕ → List ℕ → List ℕ → ℕ → ℕ → List ℕ
+putAt cells text starts k at = set starts (k + 1) (16 * at + cellFor cells text at)
+
+-- four starts put
+abbrev pub fourPut : List ℕ → List ℕ → List ℕ → ℕ → ℕ → ℕ → List ℕ
+fourPut cells text starts at row k =
+    putAt cells text
+    (putAt cells text (putAt cells text (putAt cells text starts k at) (countOne cells text at row k) (at + 1)) (countTwo cells text at row k) (at + 2))
+    (countThree cells text at row k) (at + 3)

@@ -13,7 +13,8 @@ ghost use Rattle.turns.specs.Starts.{Started};
 ghost use Rattle.count.specs.Counting.{LookedOn};
 ghost use Rattle.count.specs.Turns.{countStates};
 ghost use Rattle.count.specs.Rules.{ruleTable, traitsFor};
-ghost use Rattle.mark.specs.Marking.{Marking, Marked, LearningOn, Putting, margin};
+ghost use Rattle.count.specs.Four.{SmallCells};
+ghost use Rattle.mark.specs.Marking.{Marking, Marked, LearningOn, Putting, FourAt, countFour, fourPut, margin};
 use blocks::BLOCKS;
 use count::Going;
 use count::NO_ROW;
@@ -38,6 +39,37 @@ fn widen(x: u8) -> usize
     ensures { λ r. ⌜ r ≡ x ⌝ }
 {
     x as usize
+}
+
+// Puts the starts of four characters of ASCII, each as if a token began with it. The number of tokens that are complete after them.
+fn put_four<'a>(
+    cells: &'a [u8],
+    rules: &'a [u8; 592],
+    text: &'a [u8],
+    starts: &mut [u32],
+    at: usize,
+    row: usize,
+    k: usize,
+) -> usize
+    requires { ⌜ SmallCells (now cells) ⌝ }
+    requires { ⌜ now rules ≡ ruleTable ⌝ }
+    requires { ⌜ FourAt (now cells) (now text) at row ⌝ }
+    requires { ⌜ (row < 16) × (at + 4 ≤ length (now text)) × (length (now text) ≤ maxText) × (k ≤ maxText) × (k + 4 < length (now starts)) ⌝ }
+    ensures { λ r. ⌜ (r ≡ countFour (now (cells .entry)) (now (text .entry)) at row k) × (now (starts .exit) ≡ fourPut (now (cells .entry)) (now (text .entry)) (now (starts .entry)) at row k) ⌝ }
+{
+    let t0 = count::ascii_cell(cells, text[at]);
+    let t1 = count::ascii_cell(cells, text[at + 1]);
+    let t2 = count::ascii_cell(cells, text[at + 2]);
+    let t3 = count::ascii_cell(cells, text[at + 3]);
+    let k1 = k + count::rule(rules, row, t0);
+    let k2 = k1 + count::rule(rules, t0, t1);
+    let k3 = k2 + count::rule(rules, t1, t2);
+    let k4 = k3 + count::rule(rules, t2, t3);
+    starts[k + 1] = start_at(at, t0);
+    starts[k1 + 1] = start_at(at + 1, t1);
+    starts[k2 + 1] = start_at(at + 2, t2);
+    starts[k3 + 1] = start_at(at + 3, t3);
+    k4
 }
 
 // Marks on as far as what characters do is known from the one before, and starts are free. Each character is marked as if a token began
@@ -72,11 +104,19 @@ fn run_mark<'a>(
     let rows = run.rows;
     let memo = run.memo;
     while at < end {
-        if starts.len() <= k + MARGIN {
+        if starts.len() <= k + 2 * MARGIN {
             break;
         }
         let a = text[at];
         if a < 0x80 {
+            let four = count::four_steps(cells, rules, text, at, row);
+            if four < ODD {
+                k = put_four(cells, rules, text, starts, at, row, k);
+                last = at + 3;
+                row = count::ascii_cell(cells, text[last]);
+                at += 4;
+                continue;
+            }
             let traits = widen(cells[a as usize]);
             let step = count::rule(rules, row, traits);
             if ODD <= step {
