@@ -35,7 +35,7 @@ extern "C" {
 /* The version of the library: three numbers, and the text "MAJOR.MINOR.PATCH". */
 #define LUFFINARC_VERSION_MAJOR 0
 #define LUFFINARC_VERSION_MINOR 8
-#define LUFFINARC_VERSION_PATCH 1
+#define LUFFINARC_VERSION_PATCH 2
 #define LUFFINARC_VERSION "0.8.2"
 
 /* The version word of an image built from Unicode a.b.c, and the three numbers of a word. b and c are at most 255, a at
