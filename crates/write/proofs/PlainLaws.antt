@@ -1,19 +1,20 @@
 -- Where line ends are plain, no token but those of line ends holds one. Assumes nothing.
 use Prim.Native.Nat.{ℕ, _+_, _/_, _%_, _≤_, _<_}
 use mathlib.Core.Path.{_≡_, refl, sym, ap, subst, _∙_}
-use mathlib.Core.Bool.{Bool, true, false, cond, true≢false, not, _||_}
+use mathlib.Core.Bool.{Bool, true, false, cond, true≢false, not}
 use mathlib.Core.List.{List, [], _∷_, _++_}
-use mathlib.Core.Logic.{_⊎_, inl, inr}
+use mathlib.Core.Logic.{inl, inr}
 use mathlib.Core.Option.{none}
 use native.Mathlib.Nat.{zero-add}
+use native.Mathlib.Decide.{decLt}
 use native.Mathlib.Omega.{arith}
 use lib.Dec.{leb, eqb}
 use lib.ListN.{getD}
-use borrow.Author.Tests.{eqb-true}
-use Rattle.lists.proofs.BoolLaws.{or-cases}
+use borrow.Author.Tests.{eqb-true, eqb-false}
 use Rattle.lists.specs.Filled.{Filled}
 use Rattle.utf8.specs.Text.{Character}
 use Rattle.line.specs.Line.{isLineEnd, LineAt}
+use Rattle.line.proofs.LineLaws.{LineEnd, low, next, separator, no-line-end}
 use Rattle.image.specs.Class.{Class, Unassigned, Start, Nonstart, Syntax, White, Other}
 use Rattle.image.specs.Check.{refusalOf}
 use Rattle.character.specs.Traits.{tokenTraits, partClass}
@@ -52,23 +53,31 @@ Idle Syntax = ⊥
 Idle White = Unit {0}
 Idle Other = Unit {0}
 
-by-apart : (P : ℕ → Type 0) → P 0 → P 5 → P 6 → (t : ℕ) → Apart t → P t
-by-apart P a b c t (inl e) = subst P (sym e) a
-by-apart P a b c t (inr (inl e)) = subst P (sym e) b
-by-apart P a b c t (inr (inr e)) = subst P (sym e) c
+apart-class : (t : ℕ) → Apart t → Idle (partClass (t % 8))
+apart-class t (inl e) = subst (λ (n : ℕ). Idle (partClass (n % 8))) (sym e) tt
+apart-class t (inr (inl e)) = subst (λ (n : ℕ). Idle (partClass (n % 8))) (sym e) tt
+apart-class t (inr (inr e)) = subst (λ (n : ℕ). Idle (partClass (n % 8))) (sym e) tt
+
+apart-medial : (t : ℕ) → Apart t → leb 8 t ≡ false
+apart-medial t (inl e) = ap (leb 8) e
+apart-medial t (inr (inl e)) = ap (leb 8) e
+apart-medial t (inr (inr e)) = ap (leb 8) e
 
 abbrev NoEnd : Character → Type 0
 NoEnd c = isLineEnd (c .code) ≡ false
 
-denied : (b : Bool) → (b ≡ true → ⊥) → b ≡ false
-denied true n = absurd (n refl)
-denied false n = refl
+unless-end : (x : ℕ) → (isLineEnd x ≡ true → ⊥) → isLineEnd x ≡ false
+unless-end x n = go (isLineEnd x) refl
+  where
+    go : (b : Bool) → isLineEnd x ≡ b → isLineEnd x ≡ false
+    go true e = absurd (n e)
+    go false e = e
 
 module _ (s : List ℕ) (ok : refusalOf s ≡ none) (p : Plain s) where
   by-class : (c : Character) (a : Class) → meaningOf s .class c ≡ a → (Idle a → ⊥) → NoEnd c
   unfolding meaningOf
   by-class c a e n =
-      denied (isLineEnd (c .code)) (λ f. n (subst Idle (token-class s (c .code) ok ∙ e) (by-apart (λ (t : ℕ). Idle (partClass (t % 8))) tt tt tt (tokenTraits s (c .code)) (p (c .code) f))))
+      unless-end (c .code) (λ f. n (subst Idle (token-class s (c .code) ok ∙ e) (apart-class (tokenTraits s (c .code)) (p (c .code) f))))
 
   by-continue : (c : Character) → IsContinue (meaningOf s) c → NoEnd c
   by-continue c (inl e) = by-class c Start e (λ z. z)
@@ -77,11 +86,11 @@ module _ (s : List ℕ) (ok : refusalOf s ≡ none) (p : Plain s) where
   by-medial : (c : Character) → meaningOf s .medial c ≡ true → NoEnd c
   unfolding meaningOf
   by-medial c e =
-      denied (isLineEnd (c .code)) (λ f. true≢false (sym e ∙ sym (token-medial s (c .code) ok) ∙ by-apart (λ (t : ℕ). leb 8 t ≡ false) refl refl refl (tokenTraits s (c .code)) (p (c .code) f)))
+      unless-end (c .code) (λ f. true≢false (sym e ∙ sym (token-medial s (c .code) ok) ∙ apart-medial (tokenTraits s (c .code)) (p (c .code) f)))
 
   by-white : (w : WhiteKind) → (w ≡ lineEnd → ⊥) → (c : Character) → IsWhite (meaningOf s) w c → NoEnd c
   unfolding meaningOf whiteOf
-  by-white w n c h = denied (isLineEnd (c .code)) (λ f. n (sym (h .1) ∙ ap (λ (b : Bool). cond b lineEnd (cond (isMark (c .code)) mark blank)) f))
+  by-white w n c h = unless-end (c .code) (λ f. n (sym (h .1) ∙ ap (λ (b : Bool). cond b lineEnd (cond (isMark (c .code)) mark blank)) f))
 
   in-groups : (u : List Character) → Groups (meaningOf s) u → All NoEnd u
   in-groups _ no-group = tt
@@ -107,20 +116,25 @@ module _ (s : List ℕ) (ok : refusalOf s ≡ none) (p : Plain s) where
       (line-stays i (t .units) _ (units-here h e .0) (in-token (t .kind) (t .units) a (λ z. n (h .kind ∙ z))))
 
 -- the line ends one by one
-module _ (P : ℕ → Type 0) (x : ℕ) where
-  among : (k : ℕ) (b : Bool) → P k → (b ≡ true → P x) → (eqb x k || b) ≡ true → P x
-  among k b here others e = go (or-cases (eqb x k) b e)
+module _ (P : ℕ → Type 0) (early : (x : ℕ) → 0x0A ≤ x → x ≤ 0x0D → P x) (after : P 0x85) (line : P 0x2028) (paragraph : P 0x2029) where
+  pub each-end : (x : ℕ) → isLineEnd x ≡ true → P x
+  each-end x e = go (decLt x 0x0A) (decLt 0x0D x)
     where
-      go : (eqb x k ≡ true) ⊎ (b ≡ true) → P x
-      go (inl f) = subst P (sym (eqb-true x k f)) here
-      go (inr f) = others f
+      others : ((0x0A ≤ x) → (x ≤ 0x0D) → ⊥) → (a b c : Bool) → eqb x 0x85 ≡ a → eqb x 0x2028 ≡ b → eqb x 0x2029 ≡ c → P x
+      others n true b c f g h = subst P (sym (eqb-true x 0x85 f)) after
+      others n false true c f g h = subst P (sym (eqb-true x 0x2028 g)) line
+      others n false false true f g h = subst P (sym (eqb-true x 0x2029 h)) paragraph
+      others n false false false f g h = absurd (true≢false (sym e ∙ no-line-end x none-of))
+        where
+          none-of : LineEnd x → ⊥
+          none-of (low p q) = n p q
+          none-of (next q) = eqb-false x 0x85 f q
+          none-of (separator p q) = omega (arith, eqb-false x 0x2028 g, eqb-false x 0x2029 h)
 
-  pub each-end : ((y : ℕ) → y < 0x0E → 0x0A ≤ y → P y) → P 0x85 → P 0x2028 → P 0x2029 → isLineEnd x ≡ true → P x
-  unfolding isLineEnd
-  each-end early after line paragraph =
-      let low : (y : ℕ) → y < 0x0E → 0x0A ≤ y → (b : Bool) → (b ≡ true → P x) → (eqb x y || b) ≡ true → P x = λ y l h b. among y b (early y l h) in
-      low 0x0A (omega arith) (omega arith) _ (low 0x0B (omega arith) (omega arith) _ (low 0x0C (omega arith) (omega arith) _ (low 0x0D (omega arith) (omega arith) _
-      (among 0x85 _ after (among 0x2028 _ line (λ f. subst P (sym (eqb-true x 0x2029 f)) paragraph))))))
+      go : Dec (x < 0x0A) → Dec (0x0D < x) → P x
+      go (no h) (no l) = early x (omega arith) (omega arith)
+      go (yes h) d = others (λ p q. omega arith) (eqb x 0x85) (eqb x 0x2028) (eqb x 0x2029) refl refl refl
+      go (no h) (yes l) = others (λ p q. omega arith) (eqb x 0x85) (eqb x 0x2028) (eqb x 0x2029) refl refl refl
 
 -- what a filled part of a table holds
 pub filled-apart : (s : List ℕ) (base : ℕ) {size k : ℕ} {t : List ℕ} → Filled size (λ (j : ℕ). 0 + tokenTraits s (base + j)) t k → (j : ℕ) → j < k →

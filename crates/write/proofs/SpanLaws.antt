@@ -55,6 +55,16 @@ module _ {text : List ℕ} where
       subst (λ (n : ℕ). LineAt text n line) (add-assoc at (c .width) (widthOf u))
       (line-stays (line-passes i (c .code) (c .width) (h .step) (a .0)) u v (h .rest) (a .1))
 
+  pub line-within : {at line : ℕ} → LineAt text at line → at ≤ length text
+  line-within {at} i =
+      omega (
+        arith,
+        i .wide,
+        ap widthOf (i .parted),
+        width-append (i .front) (charactersAt text at),
+        decode-covers text .within,
+      )
+
   module _ {at end line : ℕ} (i : LineAt text at line) (p : Spans text at end) where
     pub span-rises : at ≤ end
     span-rises = omega (arith, p .wide)
@@ -74,25 +84,29 @@ module _ {text : List ℕ} where
 
     module _ (l : at < end) where
       -- the first of the characters between two places
-      first-of : (c : Character) × (u : List Character) × (p .units ≡ c ∷ u)
+      record First : Type 0 where
+        first : Character
+        others : List Character
+        whole : p .units ≡ first ∷ others
+
+      first-of : First
       first-of = go (p .units) refl
         where
-          go : (u : List Character) → p .units ≡ u → (c : Character) × (v : List Character) × (p .units ≡ c ∷ v)
+          go : (u : List Character) → p .units ≡ u → First
           go [] e = absurd (omega (arith, p .wide, ap widthOf e))
-          go (c ∷ u) e = (c, u, e)
+          go (c ∷ u) e = record { first = c; others = u; whole = e }
 
-      parted : charactersAt text at ≡ first-of .0 ∷ (first-of .1 ++ charactersAt text end)
-      parted = p .parted ∙ ap (λ (u : List Character). u ++ charactersAt text end) (first-of .2)
-
-      head : Head text at (first-of .0) (first-of .1 ++ charactersAt text end)
-      head = head-at text at _ _ parted
+      head : Head text at (first-of .first) (first-of .others ++ charactersAt text end)
+      head = head-at text at _ _ (p .parted ∙ ap (λ (u : List Character). u ++ charactersAt text end) (first-of .whole))
 
       pub span-some : at < length text
       span-some = go (decLt at (length text))
         where
           go : Dec (at < length text) → at < length text
           go (yes h) = h
-          go (no h) = let z = sym (characters-end text at (omega arith)) ∙ parted in impossible (cc)
+          go (no h) =
+              let z = sym (characters-end text at (omega arith)) ∙ p .parted ∙ ap (λ (u : List Character). u ++ charactersAt text end) (first-of .whole) in
+              impossible (cc)
 
       -- past it
       pub record Past (n k : ℕ) : Type 0 where
@@ -104,10 +118,10 @@ module _ {text : List ℕ} where
 
       pub span-step : (n k : ℕ) → n ≡ knownLength (getD text at 0) → k ≡ endAt text at → Past n k
       span-step n k e f =
-          let c = first-of .0 in
+          let c = first-of .first in
           let g : n ≡ c .width = e ∙ ap knownLength (sym (first-at text at)) ∙ sym (first-byte (drop at text) (c .code) (c .width) (head .step) .long) in
           let m = f ∙ end-at text at (c .code) (c .width) (head .step) in
-          let w : end ≡ at + (c .width + widthOf (first-of .1)) = p .wide ∙ ap (λ (u : List Character). at + widthOf u) (first-of .2) in
+          let w : end ≡ at + (c .width + widthOf (first-of .others)) = p .wide ∙ ap (λ (u : List Character). at + widthOf u) (first-of .whole) in
           record {
             some = omega (arith, step-bounds (drop at text) (c .code) (c .width) (head .step) .some-bytes);
             within = omega arith;
@@ -115,7 +129,7 @@ module _ {text : List ℕ} where
             lined = subst (λ (j : ℕ). LineAt text (at + j) (line + k)) (sym g) (line-counted i (c .code) (c .width) (head .step) k m);
             spans =
                 record {
-                  units = first-of .1;
+                  units = first-of .others;
                   parted = ap (λ (j : ℕ). charactersAt text (at + j)) g ∙ head .rest;
                   wide = omega arith;
                 };

@@ -1,5 +1,5 @@
 -- Records from the starts of tokens. Assumes nothing.
-use Prim.Native.Nat.{ℕ, suc, _+_, _/_, _%_}
+use Prim.Native.Nat.{ℕ, zero, suc, _+_, _/_, _%_}
 use mathlib.Core.Path.{_≡_, refl, sym, ap, _∙_}
 use mathlib.Core.List.{List, [], _∷_, _++_, append-assoc}
 use native.Mathlib.Nat.{zero-add, add-zero}
@@ -43,9 +43,11 @@ each-record s text =
     ap (λ (n : ℕ). eachFrom (recordAt s text) n 0) (sym (length-records text 0 (tokensOf s text)))
     ∙ words-from (recordAt s text) rs 0 (λ j. ap (recordAt s text) (zero-add j))
 
-words-past : (rs qs : List Record) (r : Record) → wordsAt (rs ++ r ∷ qs) (length rs) ≡ recordWords r
-words-past [] qs r = refl
-words-past (x ∷ rs) qs r = words-past rs qs r
+words-past : (rs qs : List Record) (r : Record) (k : ℕ) → length rs ≡ k → wordsAt (rs ++ r ∷ qs) k ≡ recordWords r
+words-past [] qs r zero e = refl
+words-past [] qs r (suc k) e = absurd (omega arith)
+words-past (x ∷ rs) qs r zero e = absurd (omega arith)
+words-past (x ∷ rs) qs r (suc k) e = words-past rs qs r k (omega arith)
 
 pub divided : (s text : List ℕ) → Division (Token (meaningOf s)) (decode text .characters) (tokensOf s text) (readingOf s text .left)
 unfolding readingOf
@@ -97,6 +99,5 @@ module _ {s text : List ℕ} {k c : ℕ} (h : StartOf s text k c) where
       let l : line ≡ lineOf text (0 + tokensWidth ts) = i .same ∙ ap (lineOf text) (sym p) in
       ap (λ (us : Tokens). wordsAt (recordsFrom text 0 us) k) (h .parted)
       ∙ ap (λ (rs : List Record). wordsAt rs k) (records-append text 0 ts (t ∷ h .back))
-      ∙ ap (wordsAt (recordsFrom text 0 ts ++ recordsFrom text (0 + tokensWidth ts) (t ∷ h .back))) (sym (length-records text 0 ts ∙ h .number))
-      ∙ words-past (recordsFrom text 0 ts) _ _
+      ∙ words-past (recordsFrom text 0 ts) _ _ k (length-records text 0 ts ∙ h .number)
       ∙ (λ j. tokenWords (sym m j) (p j) (sym w j) (sym l j))

@@ -24,28 +24,22 @@ use Rattle.turns.specs.Turns.{afterOf}
 use Rattle.turns.specs.Starts.{StartOf}
 use Rattle.write.specs.Records.{recordAt, Plain, Spans, Listing, placeAfter, Piece, WrittenTo, Wrote}
 use Rattle.write.specs.declared.Written.{Written}
-use Rattle.write.proofs.SpanLaws.{span-rises, span-within}
+use Rattle.write.proofs.SpanLaws.{line-within, span-within}
 use Rattle.write.proofs.StartLaws.{place-here, spans-here, record-here}
 use Rattle.write.proofs.PlainLaws.{line-past}
 
--- k of n records more stand in the buffer than when `before` was lent, and `line` is that of the byte after them
-pub record Going (s text starts before : List ℕ) (done n total : ℕ) (out : List ℕ) (w line k : ℕ) : Type 0 where
-  pub listing : Listing s text before total
-  pub piece : Piece s text starts done n total
-  pub within : k ≤ n
+-- k records more stand in the buffer than when `before` was lent, and `line` is that of the byte after them
+pub record Going (s text before : List ℕ) (done total : ℕ) (out : List ℕ) (w line k : ℕ) : Type 0 where
   pub words : w ≡ recordSize * (done + k)
   pub lined : LineAt text (placeAfter s text (done + k)) line
   pub size : length out ≡ length before
   pub wrote : Wrote s text before out done k total
 
-pub going-begins : {s text starts before : List ℕ} {done n total : ℕ} {r : Written} → Listing s text before total → Piece s text starts done n total →
-    WrittenTo s text done r → Going s text starts before done n total before (r .w) (r .line) 0
-going-begins {s} {text} {starts} {before} {done} {n} {total} {r} l p h =
+pub going-begins : {s text before : List ℕ} {done total : ℕ} {r : Written} → WrittenTo s text done r →
+    Going s text before done total before (r .w) (r .line) 0
+going-begins {s} {text} {before} {done} {total} {r} h =
     let z : done ≡ done + 0 = sym (add-zero done) in
     record {
-      listing = l;
-      piece = p;
-      within = omega arith;
       words = omega (arith, h .words);
       lined = subst (λ (n : ℕ). LineAt text (placeAfter s text n) (r .line)) z (h .lined);
       size = refl;
@@ -53,15 +47,15 @@ going-begins {s} {text} {starts} {before} {done} {n} {total} {r} l p h =
     }
 
 -- all of them are written
-pub going-ends : {s text starts before out : List ℕ} {done n total w line k : ℕ} → Going s text starts before done n total out w line k → n ≤ k →
+pub going-ends : {s text before out : List ℕ} {done total w line k n : ℕ} → Going s text before done total out w line k → k ≡ n →
     WrittenTo s text (done + n) (record { w = w; line = line }) × (Wrote s text before out done n total × (length out ≡ length before))
-going-ends {s} {text} {starts} {before} {out} {done} {n} {total} {w} {line} {k} i h =
-    let e : k ≡ n = omega (arith, i .within) in (
-      record { words = omega (arith, i .words); lined = subst (λ (m : ℕ). LineAt text (placeAfter s text (done + m)) line) e (i .lined) },
-      (subst (λ (m : ℕ). Wrote s text before out done m total) e (i .wrote), i .size),
-    )
+going-ends {s} {text} {before} {out} {done} {total} {w} {line} i e = (
+  record { words = omega (arith, i .words); lined = subst (λ (m : ℕ). LineAt text (placeAfter s text (done + m)) line) e (i .lined) },
+  (subst (λ (m : ℕ). Wrote s text before out done m total) e (i .wrote), i .size),
+)
 
-module _ {s text starts before out : List ℕ} {done n total w line k : ℕ} (i : Going s text starts before done n total out w line k) (b : k < n) where
+module _ {s text before starts out : List ℕ} {done n total w line k : ℕ} (l : Listing s text before total) (p : Piece s text starts done n total)
+    (i : Going s text before done total out w line k) (b : k < n) where
   abbrev c : ℕ
   c = getD starts k 0
 
@@ -69,16 +63,16 @@ module _ {s text starts before out : List ℕ} {done n total w line k : ℕ} (i 
   end = getD starts (k + 1) 0 / 16
 
   start : StartOf s text (done + k) c
-  start = i .piece .started .each k b
+  start = p .started .each k b
 
   ends : end ≡ placeAfter s text (done + k + 1)
   ends = go (decLt (k + 1) n) ∙ ap (placeAfter s text) (sym (add-assoc done k 1))
     where
       go : Dec (k + 1 < n) → end ≡ placeAfter s text (done + (k + 1))
-      go (yes h) = sym (place-here (i .piece .started .each (k + 1) h))
+      go (yes h) = sym (place-here (p .started .each (k + 1) h))
       go (no h) =
           let e : k + 1 ≡ n = omega arith in
-          ap (λ (m : ℕ). getD starts m 0 / 16) e ∙ i .piece .ended ∙ ap (λ (m : ℕ). placeAfter s text (done + m)) (sym e)
+          ap (λ (m : ℕ). getD starts m 0 / 16) e ∙ p .ended ∙ ap (λ (m : ℕ). placeAfter s text (done + m)) (sym e)
 
   pub turn-lined : LineAt text (c / 16) line
   turn-lined = subst (λ (m : ℕ). LineAt text m line) (place-here start) (i .lined)
@@ -87,11 +81,10 @@ module _ {s text starts before out : List ℕ} {done n total w line k : ℕ} (i 
   turn-spans = spans-here start ends
 
   pub turn-short : (c / 16 ≤ maxText) × (end ≤ maxText)
-  turn-short = let h = span-within turn-lined turn-spans in
-      (omega (arith, span-rises turn-lined turn-spans, i .listing .short), omega (arith, i .listing .short))
+  turn-short = (omega (arith, line-within turn-lined, l .short), omega (arith, span-within turn-lined turn-spans, l .short))
 
   pub turn-room : w + recordSize ≤ length out
-  turn-room = omega (arith, i .words, i .size, i .listing .room, i .piece .few)
+  turn-room = omega (arith, i .words, i .size, l .room, p .few)
 
   -- a line that a token's kind and the line ends elsewhere leave as it is
   pub turn-stays : {kind : ℕ} {plain : Bool} → refusalOf s ≡ none → (plain ≡ true → Plain s) → kind ≡ afterOf (c % 16) → (eqb kind 4 || not plain) ≡ false → LineAt text end line
@@ -112,12 +105,9 @@ module _ {s text starts before out : List ℕ} {done n total w line k : ℕ} (i 
     next : done + k + 1 ≡ done + (k + 1)
     next = add-assoc done k 1
 
-    pub going-next : Going s text starts before done n total (putMid w (length out - w) out ys) (w + recordSize) line′ (k + 1)
+    pub going-next : Going s text before done total (putMid w (length out - w) out ys) (w + recordSize) line′ (k + 1)
     going-next =
         record {
-          listing = i .listing;
-          piece = i .piece;
-          within = omega arith;
           words = omega (arith, i .words);
           lined = subst (λ (m : ℕ). LineAt text m line′) (ends ∙ ap (placeAfter s text) next) i′;
           size = ap length (lent out ws w turn-room ys h) ∙ length-laid out ws w turn-room ∙ i .size;
@@ -131,6 +121,6 @@ module _ {s text starts before out : List ℕ} {done n total w line k : ℕ} (i 
             let g : ys ≡ laid (take (length out - q) (drop q out)) 0 (recordAt s text (done + k)) =
             h ∙ (λ j. laid (take (length out - i .words j) (drop (i .words j) out)) 0 (sym same j)) in
             let f : length out ≡ length first = y .size in
-            let z = writing-lent y (ap length same) (omega (arith, i .size, i .listing .room)) (omega (arith, i .piece .few)) ys g in
+            let z = writing-lent y (ap length same) (omega (arith, i .size, l .room)) (omega (arith, p .few)) ys g in
             subst (λ (m : ℕ). Writing (recordAt s text) recordSize total first (putMid m (length out - m) out ys) (done + (k + 1))) (sym (i .words))
             (subst (Writing (recordAt s text) recordSize total first (putMid q (length out - q) out ys)) next z)
