@@ -1,4 +1,3 @@
 pub mod ByteLaws
 pub mod LearnLaws
 pub mod BlankLaws
-pub mod DoneLaws
