@@ -1,3 +1,4 @@
 pub mod ByteLaws
 pub mod LearnLaws
 pub mod BlankLaws
+pub mod DoneLaws

@@ -12,7 +12,7 @@ use Rattle.blocks.proofs.begin.Statement.{statement}
 use Rattle.blocks.proofs.begin.Tie as tie
 
 abbrev Inv-loop : tie.InvT-loop
-Inv-loop image cells₀ i₀ cells i = Beginning image cells i × (length cells ≡ length cells₀)
+Inv-loop image cells₀ i₀ cells i = Beginning image cells i × (i ≤ 320) × (length cells ≡ length cells₀)
 
 abbrev μ-loop : tie.MeasureT-loop
 μ-loop image cells₀ i₀ cells i = 320 - i
@@ -34,28 +34,30 @@ returns : tie.Need-returns Inv-loop μ-loop
 returns c =
     let k = c .before .before .before .before .before .before .before in
     let f = c .before .before .before .fill-cells .ensures in
-    (begins (k .pre .0) (beginning _ (room (k .args .cells .now) (k .pre .1)) f) (λ h. absurd (omega (arith, c .if1 .taken))), kept-long (k .args .cells .now) f)
+    (begins (k .pre .0) (beginning _ (k .pre .1 .1) (room (k .args .cells .now) (k .pre .1 .0)) f) (omega arith) (λ h. absurd (omega (arith, c .if1 .taken))), kept-long (k .args .cells .now) f)
 
 loop-holds : tie.Need-loop-holds Inv-loop μ-loop
-loop-holds c = (beginning _ (room (c .before .before .before .before .before .before .before .args .cells .now) (c .before .before .before .before .before .before .before .pre .1)) (c .before .before .before .fill-cells .ensures), refl)
+loop-holds c =
+    let k = c .before .before .before .before .before .before .before in
+    (beginning _ (k .pre .1 .1) (room (k .args .cells .now) (k .pre .1 .0)) (c .before .before .before .fill-cells .ensures), omega arith, refl)
 
 slice-write-cells : tie.Need-slice-write-cells Inv-loop μ-loop
-slice-write-cells c = omega (arith, c .before .loop .inv .1, c .before .before .if1 .left, c .loop-test .taken)
+slice-write-cells c = omega (arith, c .before .loop .inv .2, c .before .before .if1 .left, c .loop-test .taken)
 
 loop-again : tie.Need-loop-again Inv-loop μ-loop
 loop-again c =
     let l = c .before .loop in
-    let t : l .i < length (l .cells) = omega (arith, l .inv .1, c .before .before .if1 .left, c .loop-test .taken) in
-    (beginning-more _ t refl (l .inv .0), length-set (l .cells) (l .i) _ ∙ l .inv .1)
+    let t : l .i < length (l .cells) = omega (arith, l .inv .2, c .before .before .if1 .left, c .loop-test .taken) in
+    (beginning-more _ t refl (l .inv .0), omega (arith, c .loop-test .taken), length-set (l .cells) (l .i) _ ∙ l .inv .2)
 
 same-length-2 : tie.Need-same-length-2 Inv-loop μ-loop
-same-length-2 c = c .before .loop .inv .1 ∙ kept-long (c .before .before .before .before .before .before .before .before .before .args .cells .now) (c .before .before .before .before .before .fill-cells .ensures)
+same-length-2 c = c .before .loop .inv .2 ∙ kept-long (c .before .before .before .before .before .before .before .before .before .args .cells .now) (c .before .before .before .before .before .fill-cells .ensures)
 
 returns-2 : tie.Need-returns-2 Inv-loop μ-loop
 returns-2 c =
     let l = c .before .loop .inv in
     let k = c .before .before .before .before .before .before .before .before .before in
-    (begins (k .pre .0) (l .0) (λ h. c .loop-test .left), l .1 ∙ kept-long (k .args .cells .now) (c .before .before .before .before .before .fill-cells .ensures))
+    (begins (k .pre .0) (l .0) (l .1) (λ h. c .loop-test .left), l .2 ∙ kept-long (k .args .cells .now) (c .before .before .before .before .before .fill-cells .ensures))
 
 pub begin-spec : {M : Type 1} → statement M
 begin-spec =

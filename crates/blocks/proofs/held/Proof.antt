@@ -9,24 +9,23 @@ use Rattle.blocks.proofs.held.Statement.{statement}
 use Rattle.blocks.proofs.held.Tie as tie
 
 shared-slice-read-widen-2 : tie.Need-shared-slice-read-widen-2
-shared-slice-read-widen-2 c = omega (arith, c .before .before .before .before .before .before .before .pre .0 .rows _ (c .before .before .before .before .if1 .left))
+shared-slice-read-widen-2 c = omega (arith, c .before .before .before .before .before .before .pre .0 .0 .rows (c .before .before .before .before .before .before .args .block) (omega arith))
 
-returns-3 : tie.Need-returns-3
-returns-3 c =
-    let a = c .before .before .before .before .before .before .before .before .before .args in
-    let p = c .before .before .before .before .before .before .before .before .before .pre .1 in
+returns-2 : tie.Need-returns-2
+returns-2 c =
+    let a = c .before .before .before .before .before .before .before .before .args in
+    let p = c .before .before .before .before .before .before .before .before .pre in
     let w = c .before .widen3 .ensures in
     let x = c .before .before .before .widen2 .ensures in
     let y = c .before .before .before .before .widen .ensures in
     let e : c .before .widen3 .result ≡ cellAt (a .index .now) (a .cells .now) (a .block) (a .last % 64) =
     w .0 ∙ ap (λ (k : ℕ). getD (a .cells .now) k 0) (omega arith) in
-    record { small = omega arith; there = λ _. c .before .before .before .before .before .before .if1 .left; long = λ _. omega (arith, sym e, c .if2 .left); same = λ _. ap (λ (k : ℕ). k % 16) e }
+    record { small = omega arith; there = λ _. omega arith; long = λ _. omega (arith, sym e, c .if1 .left); same = λ _. ap (λ (k : ℕ). k % 16) e }
 
 pub held-spec : {M : Type 1} → statement M
 held-spec =
     tie.close
     (tie.spec
-    (λ c. search needs)
     (λ c. search needs)
     (λ c κs. search needs)
     (λ c. search needs)
@@ -36,4 +35,4 @@ held-spec =
     shared-slice-read-widen-2
     (λ c κs. search needs)
     (λ c. search needs)
-    returns-3)
+    returns-2)

@@ -22,7 +22,7 @@ sub-block : tie.Need-sub-block
 sub-block c = omega (arith, second c, third c)
 
 held-requires : tie.Need-held-requires
-held-requires c κs = (c .before .before .before .before .before .before .before .before .before .before .before .before .before .before .before .before .pre .0, fourth c)
+held-requires c κs = (c .before .before .before .before .before .before .before .before .before .before .before .before .before .before .before .before .pre .0, (omega (arith, second c, third c), fourth c .0, fourth c .1))
 
 returns-5 : tie.Need-returns-5
 returns-5 c =

@@ -19,7 +19,7 @@ sub-block : tie.Need-sub-block
 sub-block c = omega (arith, second c)
 
 held-requires : tie.Need-held-requires
-held-requires c κs = (c .before .before .before .before .before .before .before .before .before .before .before .before .pre .0, third c)
+held-requires c κs = (c .before .before .before .before .before .before .before .before .before .before .before .before .pre .0, (omega (arith, second c), third c .0, third c .1))
 
 returns-3 : tie.Need-returns-3
 returns-3 c =

@@ -19,7 +19,7 @@ sub-held : tie.Need-sub-held
 sub-held c = omega (arith, first c)
 
 held-requires : tie.Need-held-requires
-held-requires c κs = (c .before .before .before .before .before .before .before .before .before .before .pre .0, second c)
+held-requires c κs = (c .before .before .before .before .before .before .before .before .before .before .pre .0, (omega (arith, first c), second c .0, second c .1))
 
 returns-3 : tie.Need-returns-3
 returns-3 c =
