@@ -1,6 +1,6 @@
 /* Luffinarc: class images, tokens and hashtags by Unicode Standard Annex #31.
  *
- * The functions are those of the static library target/staticlib/libluffinarc.a, which `rt staticlib luffinarc` makes.
+ * The functions are those of the static library target/staticlib/libluffinarc.a, which `host/library` makes.
  * They are proved to answer as their definitions say, for all images, texts and numbers (those whose name ends in
  * `_checked`: for all images that luffinarc_check accepts); they use no heap, keep no state, and may be called from
  * several threads at once. Counting and listing tokens take up to 16 KB of stack, the others less than 4 KB.

@@ -1,4 +1,4 @@
-//! Links the static library that `rt staticlib luffinarc` writes, or the one in the folder `LUFFINARC_LIB_DIR`.
+//! Links the static library that `host/library` makes, or the one in the folder `LUFFINARC_LIB_DIR`.
 
 use std::env;
 use std::path::PathBuf;
@@ -6,7 +6,7 @@ use std::process::exit;
 
 const VARIABLE: &str = "LUFFINARC_LIB_DIR";
 
-/// The folder that `rt staticlib` writes to, two above this crate's.
+/// The folder that `host/library` writes to, two above this crate's.
 fn usual_folder() -> PathBuf {
     let here = PathBuf::from(env::var_os("CARGO_MANIFEST_DIR").unwrap_or_default());
     here.ancestors().nth(2).unwrap_or(&here).join("target/staticlib")
@@ -33,7 +33,7 @@ fn lines() -> Result<String, String> {
     let library = folder.join("libluffinarc.a");
     let (library_name, folder_name) = (library.display(), folder.display());
     if !library.is_file() {
-        let ways = format!("`rt staticlib luffinarc` makes it, or set {VARIABLE} to its folder");
+        let ways = format!("`host/library` makes it, or set {VARIABLE} to its folder");
         return Err(format!("{library_name}: not there; {ways}"));
     }
     Ok(format!(

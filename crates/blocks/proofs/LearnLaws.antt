@@ -13,7 +13,7 @@ use Rattle.image.specs.Check.{refusal_of}
 use Rattle.character.specs.Traits.{token_traits}
 use Rattle.character.specs.declared.Memo.{Memo}
 use Rattle.character.specs.Read.{TokenTableOf, MemoOf}
-use Rattle.character.proofs.TraitLaws.{token_small, token_traits}
+use Rattle.character.proofs.TraitLaws.{token_small, token_traits_lem}
 use Rattle.blocks.specs.Blocks.{block_size, Tells, Fits, Learning, Blank, BlockLong, Put, RowPut, Learns}
 
 -- cells that begin with ASCII, while the rows of Start are filled
@@ -211,7 +211,7 @@ row_put block row e f h g m n p =
 module _ {s : List ℕ} {memo : Memo} (block : ℕ) {len cell : ℕ} (a : refusal_of s ≡ none) (m : MemoOf s memo) (b : BlockLong block len) (e : cell ≡ len * 16 + memo.traits % 16) where
   -- the memo's cell tells its code points
   memo_told : (j : ℕ) → j < block_size → memo.first ≤ block * block_size + j → block * block_size + j ≤ memo.last → Tells s (block * block_size + j) cell
-  memo_told j l h g = told block a b l (omega (arith, m (block * block_size + j) h g, token_traits s (block * block_size + j) a))
+  memo_told j l h g = told block a b l (omega (arith, m (block * block_size + j) h g, token_traits_lem s (block * block_size + j) a))
 
   -- so a row that it was put into is right, if it was
   row_told :

@@ -61,7 +61,7 @@ module _ {f g : ℕ → ℕ} where
   ends_before (two r n) t d (Memᴰ.tail m) = omega (arith, ends_before n (each_tail t) d m, (each_head t).some)
 
   only_one :
-      {l : List Change} {c d : Change} {x : ℕ} → Neighbours Before l → Each (Changed f g) l → Memᴰ c l → Memᴰ d l → Holds c x → Holds d x
+      {c d : Change} {l : List Change} {x : ℕ} → Neighbours Before l → Each (Changed f g) l → Memᴰ c l → Memᴰ d l → Holds c x → Holds d x
       → c ≡ d
   only_one n t (Memᴰ.head e) (Memᴰ.head k) p q = e ∙ sym k
   only_one n t (Memᴰ.head e) (Memᴰ.tail m) p q =
@@ -213,9 +213,9 @@ module _ {f g : ℕ → ℕ} where
     rest_one [] [] r s = refl
     rest_one [] (d ∷ m) r s = absurd (Memᴰ.not-nil (r.covered _ (each_head s.begins) (differs (own s))).1)
     rest_one (c ∷ l) [] r s = absurd (Memᴰ.not-nil (s.covered _ (each_head r.begins) (differs (own r))).1)
-    rest_one (c ∷ l) (d ∷ m) r s =
+    rest_one {x = x} (c ∷ l) (d ∷ m) r s =
         let e = first_one r s in
-        let t = rest_one l m (after r) (subst (λ (c : Change). Rest f g runs (c.last + 1) m) (sym e) (after s)) in
+        let t = rest_one {x = c.last + 1} l m (after r) (subst (λ (c : Change). Rest f g runs (c.last + 1) m) (sym e) (after s)) in
         λ i. e i ∷ t i
 
 module _

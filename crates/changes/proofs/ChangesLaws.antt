@@ -92,7 +92,7 @@ module _ {P : Change → Type 0} where
   not-each (later p k) h = not-each k (each_tail h)
 
   first_is :
-      {f g : ℕ → ℕ} {l : List Change} {c : Change} → Neighbours Before l → Each (Changed f g) l → Memᴰ c l → (P c → ⊥)
+      {f g : ℕ → ℕ} {c : Change} {l : List Change} → Neighbours Before l → Each (Changed f g) l → Memᴰ c l → (P c → ⊥)
       → Each (λ (d : Change). d.first < c.first → P d) l → FirstNot P l c.first
   first_is n t (Memᴰ.head e) q h = rw e (here (rw e at q))
   first_is n t (Memᴰ.tail m) q h =

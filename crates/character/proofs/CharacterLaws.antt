@@ -27,7 +27,7 @@ use Rattle.character.specs.Read.{MemoOf, MemoAt, Settled, ascii_character, ReadB
 use Rattle.character.specs.declared.Character.{Character}
 use Rattle.character.specs.declared.Memo.{Memo}
 use Rattle.character.specs.declared.Stretch.{Stretch}
-use Rattle.character.proofs.TraitLaws.{part_other, part_white_lem, token_small, token_traits}
+use Rattle.character.proofs.TraitLaws.{part_other, part_white_lem, token_small, token_traits_lem}
 
 -- traits by the class part and the role
 abbrev joined : ℕ → ℕ → ℕ
@@ -130,7 +130,7 @@ module _ {size tag base : ℕ} {s t : List ℕ} where
   cut_more {k} a h c =
       let v = tag + get_or t k 0 % 16 in
       record {
-        cut = filled_more v h c.cut (ap (λ (v : ℕ). tag + v % 16) (c.rest k (omega arith) h) ∙ ap (λ (v : ℕ). tag + v) (token_traits s (base + k) a));
+        cut = filled_more v h c.cut (ap (λ (v : ℕ). tag + v % 16) (c.rest k (omega arith) h) ∙ ap (λ (v : ℕ). tag + v) (token_traits_lem s (base + k) a));
         rest = λ y l u. get_or-set_other t k y v 0 (λ q. absurd (omega arith)) ∙ c.rest y (omega arith) u;
       }
 

@@ -96,9 +96,9 @@ module _ (s : List ℕ) (x : ℕ) (accepted : refusal_of s ≡ none) where
   token_small = small_part (class_part (class_of s x) x) (medial_of s x) told.small
 
   -- it is a part of all traits
-  pub token_traits : traits_of s x % 16 ≡ token_traits s x
+  pub token_traits_lem : traits_of s x % 16 ≡ token_traits s x
   unfolding traits_of
-  token_traits = token_part (token_traits s x) (hashtag_of s x) token_small
+  token_traits_lem = token_part (token_traits s x) (hashtag_of s x) token_small
 
   -- what hashtags know
   pub traits_class : part_class (traits_of s x % 8) ≡ class_named (class_of s x)

@@ -36,7 +36,7 @@ const MEDIAL: u32 = 8;
 pub const HASHTAG: u32 = 16;
 
 // Code points from `first` to `last` that have one class in a section of an image.
-#[derive(Drop)]
+#[derive(Clone, Copy)]
 pub struct Stretch {
     pub first: u32,
     pub last: u32,
@@ -45,7 +45,7 @@ pub struct Stretch {
 
 // Code points from `first` to `last` that have the same traits: the class after the profile and kind of White, `MEDIAL` more for a
 // medial, and `HASHTAG` more for role 5.
-#[derive(Drop)]
+#[derive(Clone, Copy)]
 pub struct Memo {
     pub first: u32,
     pub last: u32,

@@ -196,7 +196,7 @@ fn count_pending(state: u32) -> usize
 
 // How far a count has come: the place, the state, the tokens that are complete, where the medial stands that waits, where the last mark
 // began that may be refused, the first that is, or the text's length, the first free row of the blocks, and the memo.
-#[derive(Drop)]
+#[derive(Clone, Copy)]
 pub struct Run {
     pub at: usize,
     pub state: u32,

@@ -99,6 +99,7 @@ module _ (older newer text : List ℕ) (L : Later older newer) where
 
   next_changed : (x p : ℕ) (r : List Character) → Encoded (drop p text) r [] → medial_of older x ≡ true → Changed (meaning_of older) (meaning_of newer) r → NextChanged older newer text x p
   next_changed x p (d ∷ r) e m n = record { medial = m; next = d.code; width = d.width; stands = stands e; another = another d r n }
+  next_changed x p [] e m n = elim n [ ]
 
   excepted : (p : ℕ) (c : Character) (r : List Character) → Encoded (drop p text) (c ∷ r) [] → Touched (meaning_of older) (meaning_of newer) (c ∷ r) → Excepted older newer text p
   unfolding meaning_of

@@ -1,5 +1,7 @@
 // What a call is given beside a text or a number, judged in one place: the image, refusals 1 to 4.
 // Whatever else may be given to a call is judged here too, after the image, in the order of the refusals.
+#![tactic(auto)]
+
 ghost use Rattle.std.specs.Prelude.{◌≡◌};
 ghost use Rattle.given.specs.Given.{judgement_of, given_refusal};
 

@@ -1,5 +1,7 @@
 // Tokens: what is judged before a text, a record and its words, what counting answers, and the refusal where no token begins.
 // What tokens are, and what the token calls answer, is in `specs/`.
+#![tactic(auto)]
+
 ghost use Rattle.std.specs.Prelude.{◌≡◌, ◌≤◌, length, drop};
 ghost use Rattle.lists.specs.Laid.{laid};
 ghost use Rattle.std.proofs.Math.Option.{none};

@@ -41,7 +41,7 @@ const WIDE_SIGNS: u8 = 0xEF;
 const STOP: u8 = line::LOOK;
 
 // A sign that begins a hashtag: its first byte, and one past its last. The same place twice: there is none.
-#[derive(Drop)]
+#[derive(Clone, Copy)]
 pub struct Sign {
     pub at: usize,
     pub next: usize,

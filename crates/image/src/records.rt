@@ -24,7 +24,7 @@ pub const OTHER_ROLE: u32 = 4;
 pub const HASHTAG_ROLE: u32 = 5;
 
 // The two lists of records of an image.
-#[derive(Drop)]
+#[derive(Clone, Copy)]
 pub enum Section {
     Ranges,
     Entries,

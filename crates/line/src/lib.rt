@@ -1,4 +1,6 @@
 // The lines of a text: where they end, by code points.
+#![tactic(auto)]
+
 ghost use Rattle.std.specs.Prelude.{◌≡◌, ◌<◌, length};
 ghost use Rattle.utf8.specs.Text.{characters_at};
 ghost use Rattle.line.specs.Line.{is_line_end, feed_first, ends_line, one};

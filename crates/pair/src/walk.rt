@@ -14,7 +14,7 @@ pub const CODE_POINTS: u32 = LAST_CODE_POINT + 1;
 
 // Code points from a given one to `last` that have one class in the ranges of an image, or one role in its entries; the place
 // of what follows them, and the number of the section's records.
-#[derive(Drop)]
+#[derive(Clone, Copy)]
 pub struct Ahead {
     pub last: u32,
     pub class: u32,
@@ -23,7 +23,7 @@ pub struct Ahead {
 }
 
 // Code points from `first` to `last`, with what each of two images has there. One that begins at `CODE_POINTS` has none.
-#[derive(Drop)]
+#[derive(Clone, Copy)]
 pub struct Overlap {
     pub first: u32,
     pub last: u32,

@@ -1,4 +1,6 @@
 // The named refusals of all calls, with their numbers and what each carries.
+#![tactic(auto)]
+
 ghost use Rattle.std.specs.Prelude.{◌≡◌, [], ◌∷◌};
 ghost use Rattle.refusal.specs.Refusal.{number_of, carried_by, Carries};
 

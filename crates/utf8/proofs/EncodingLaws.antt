@@ -107,17 +107,20 @@ module _ (P : List ℕ → Type 0) where
   row_1 : (g : ByteRange) → ((b : ℕ) → Within g b → P (b ∷ [])) → (q : List ℕ) → Fills (g ∷ []) q → P q
   row_1 g k (b ∷ []) f = k b (f.0, f.1)
   row_1 g k (b ∷ c ∷ q) f = absurd f.2
+  row_1 g k [] f = elim f [ ]
 
   row_2 : (g h : ByteRange) → ((b c : ℕ) → Within g b → Within h c → P (b ∷ c ∷ [])) → (q : List ℕ) → Fills (g ∷ h ∷ []) q → P q
   row_2 g h k (b ∷ []) f = absurd f.2
   row_2 g h k (b ∷ c ∷ []) f = k b c (f.0, f.1) (f.2.0, f.2.1)
   row_2 g h k (b ∷ c ∷ d ∷ q) f = absurd f.2.2
+  row_2 g h k [] f = elim f [ ]
 
   row_3 : (g h i : ByteRange) → ((b c d : ℕ) → Within g b → Within h c → Within i d → P (b ∷ c ∷ d ∷ [])) → (q : List ℕ) → Fills (g ∷ h ∷ i ∷ []) q → P q
   row_3 g h i k (b ∷ []) f = absurd f.2
   row_3 g h i k (b ∷ c ∷ []) f = absurd f.2.2
   row_3 g h i k (b ∷ c ∷ d ∷ []) f = k b c d (f.0, f.1) (f.2.0, f.2.1) (f.2.2.0, f.2.2.1)
   row_3 g h i k (b ∷ c ∷ d ∷ e ∷ q) f = absurd f.2.2.2
+  row_3 g h i k [] f = elim f [ ]
 
   row_4 :
       (g h i j : ByteRange) → ((b c d e : ℕ) → Within g b → Within h c → Within i d → Within j e → P (b ∷ c ∷ d ∷ e ∷ []))
@@ -127,6 +130,7 @@ module _ (P : List ℕ → Type 0) where
   row_4 g h i j k (b ∷ c ∷ d ∷ []) f = absurd f.2.2.2
   row_4 g h i j k (b ∷ c ∷ d ∷ e ∷ []) f = k b c d e (f.0, f.1) (f.2.0, f.2.1) (f.2.2.0, f.2.2.1) (f.2.2.2.0, f.2.2.2.1)
   row_4 g h i j k (b ∷ c ∷ d ∷ e ∷ x ∷ q) f = absurd f.2.2.2.2
+  row_4 g h i j k [] f = elim f [ ]
 
 -- bytes that are the encoding of what they stand for, and that is in a range
 in_range : {g : ByteRange} {q : List ℕ} → q ≡ encoding (code_point q) → Within g (code_point q) → EncodesIn g q
@@ -222,14 +226,17 @@ table_holds (suc (suc (suc (suc (suc (suc (suc (suc (suc k))))))))) = tt
 reads_at : (rs : List TableRow) (k : ℕ) (q : List ℕ) → HoldsAt rs k → FillsAt (byte_columns rs) k q → EncodesAt rs k q
 reads_at (r ∷ rs) zero q a f = a.reads q f
 reads_at (r ∷ rs) (suc k) q a f = reads_at rs k q a f
+reads_at [] k q a f = elim f [ ]
 
 writes_at : (rs : List TableRow) (k : ℕ) (q : List ℕ) → HoldsAt rs k → EncodesAt rs k q → FillsAt (byte_columns rs) k q
 writes_at (r ∷ rs) zero q a e = subst (Fills r.bytes) (sym e.bytes) (a.writes e.code (e.from, e.upto))
 writes_at (r ∷ rs) (suc k) q a e = writes_at rs k q a e
+writes_at [] k q a e = elim e [ ]
 
 scalar_at : (rs : List TableRow) (k : ℕ) (q : List ℕ) → HoldsAt rs k → EncodesAt rs k q → Encodes q
 scalar_at (r ∷ rs) zero q a e = record { code = e.code; scalar = a.scalars e.code (e.from, e.upto); bytes = e.bytes }
 scalar_at (r ∷ rs) (suc k) q a e = scalar_at rs k q a e
+scalar_at [] k q a e = elim e [ ]
 
 -- the sequences that fill a row of Table 3-7 are exactly the encodings of its code points
 pub row_encodes : (k : ℕ) (q : List ℕ) → FillsAt rows k q → EncodesAt table k q
@@ -246,10 +253,12 @@ record InRow (rs : List Row) (q : List ℕ) : Type 0 where
 row_of : (rs : List Row) (q : List ℕ) → FillsSome rs q → InRow rs q
 row_of (r ∷ rs) q (inl f) = record { number = 0; fills = f }
 row_of (r ∷ rs) q (inr f) = let i = row_of rs q f in record { number = suc i.number; fills = i.fills }
+row_of [] q x' = elim x' [ ]
 
 in_some : (rs : List Row) (k : ℕ) (q : List ℕ) → FillsAt rs k q → FillsSome rs q
 in_some (r ∷ rs) zero q f = inl f
 in_some (r ∷ rs) (suc k) q f = inr (in_some rs k q f)
+in_some [] k q f = elim f [ ]
 
 pub row_sequence : (k : ℕ) (q : List ℕ) → FillsAt rows k q → Sequence q
 unfolding Sequence
@@ -260,6 +269,7 @@ pub rises : (rs : List Row) (m b : ℕ) (q : List ℕ) → rising m rs ≡ true 
 rises ([] ∷ rs) m b q t f = impossible (cc)
 rises ((g ∷ gs) ∷ rs) m b q t (inl f) = let p = rising_parts m g gs rs t in omega arith
 rises ((g ∷ gs) ∷ rs) m b q t (inr f) = let p = rising_parts m g gs rs t in omega (arith, rises rs (suc g.high) b q p.2 f)
+rises [] m b q t f = elim f [ ]
 
 same_row : (rs : List Row) (m i j : ℕ) (q : List ℕ) → rising m rs ≡ true → FillsAt rs i q → FillsAt rs j q → i ≡ j
 same_row ([] ∷ rs) m i j q t e f = impossible (cc)
@@ -271,6 +281,9 @@ same_row ((g ∷ gs) ∷ rs) m (suc i) zero (b ∷ q) t e f =
     let p = rising_parts m g gs rs t in
     absurd (omega (arith, f.1, rises rs (suc g.high) b q p.2 (in_some rs i (b ∷ q) e)))
 same_row ((g ∷ gs) ∷ rs) m (suc i) (suc j) q t e f = ap suc (same_row rs (suc g.high) i j q (rising_parts m g gs rs t).2 e f)
+same_row [] m i j q t e f = elim e [ ]
+same_row ((g ∷ gs) ∷ rs) m zero (suc j) [] t e f = elim e [ ]
+same_row ((g ∷ gs) ∷ rs) m (suc i) zero [] t e f = elim f [ ]
 
 pub one_row : (q : List ℕ) → Sequence q → OneRow q
 unfolding Sequence

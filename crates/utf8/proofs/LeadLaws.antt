@@ -48,6 +48,8 @@ leads_low ((g ∷ hs) ∷ rs) m zero b gs t h = let p = rising_parts m g hs rs t
 leads_low ((g ∷ hs) ∷ rs) m (suc k) b gs t h =
     let p = rising_parts m g hs rs t in
     omega (arith, leads_low rs (suc g.high) k b gs p.2 h)
+leads_low [] m k b gs t h = elim h [ ]
+leads_low ([] ∷ rs) m k b gs t h = elim h [ ]
 
 -- .. so it is the row of the byte
 lead_in_lem : (rs : List Row) (m k b : ℕ) (gs : Row) → rising m rs ≡ true → LeadsAt rs k b gs → lead_after gs ≡ lead_in rs b
@@ -55,6 +57,8 @@ lead_in_lem ((g ∷ hs) ∷ rs) m zero b gs t h = rw (inside_in g b h.0 h.1) (ap
 lead_in_lem ((g ∷ hs) ∷ rs) m (suc k) b gs t h =
     let p = rising_parts m g hs rs t in
     rw (inside_above g b (leads_low rs (suc g.high) k b gs p.2 h)) (lead_in_lem rs (suc g.high) k b gs p.2 h)
+lead_in_lem [] m k b gs t h = elim h [ ]
+lead_in_lem ([] ∷ rs) m k b gs t h = elim h [ ]
 
 pub lead_at : (k b : ℕ) (gs : Row) → LeadsAt rows k b gs → lead_after gs ≡ lead_of b
 unfolding lead_of

@@ -81,6 +81,7 @@ AllTrail (b ∷ q) = (is_trail b ≡ true) × AllTrail q
 all_trail : (q : List ℕ) → AllTrail q → (i : ℕ) → i < length q → is_trail (get_or q i 0) ≡ true
 all_trail (b ∷ q) a zero h = a.0
 all_trail (b ∷ q) a (suc i) h = all_trail q a.1 i (omega arith)
+all_trail [] a i h = elim h [ ]
 
 after_first : (b : ℕ) (q : List ℕ) → AllTrail q → (i : ℕ) → 0 < i → i < length (b ∷ q) → is_trail (get_or (b ∷ q) i 0) ≡ true
 after_first b q a zero h l = absurd (omega arith)
@@ -151,6 +152,8 @@ fills_fits [] [] t f = (refl, refl, refl)
 fills_fits (g ∷ gs) (b ∷ q) t f =
     let h = fills_fits gs q t f.2 in
     (rw (inside_in g b f.0 f.1, h.0), ap suc h.1, ap (λ (l : List ℕ). b ∷ l) h.2)
+fills_fits [] (b ∷ q) t f = elim f [ ]
+fills_fits (g ∷ gs) [] t f = elim f [ ]
 
 fits_fills : (gs : Row) (s : List ℕ) → fits gs s ≡ true → Fills gs (take (length gs) s) × (length gs ≡ length (take (length gs) s))
 fits_fills [] s e = (tt, refl)
@@ -169,6 +172,7 @@ Found rs s End = ⊥
 later_row : (r : Row) (rs : List Row) (s : List ℕ) (t : Step) → Found rs s t → Found (r ∷ rs) s t
 later_row r rs s (Scalar x n) f = (inr f.0, f.1, f.2)
 later_row r rs s (IllFormed n) f = f
+later_row r rs s End f = elim f [ ]
 
 found : (rs : List Row) (s : List ℕ) → Found rs s (step_in rs s)
 found [] s = refl
@@ -190,6 +194,7 @@ finds ((g ∷ gs) ∷ rs) m b q t r (inl f) =
 finds ((g ∷ gs) ∷ rs) m b q t r (inr f) =
     let p = rising_parts m g gs rs r in
     rw (inside_above g b (rises rs (suc g.high) b q p.2 f)) (finds rs (suc g.high) b q t p.2 f)
+finds [] m b q t r f = elim f [ ]
 
 -- no sequence begins where nothing is left
 pub none_empty : (s : List ℕ) → s ≡ [] → NoSequence s

@@ -81,6 +81,7 @@ fills_begun (g ∷ gs) (b ∷ q) t v f = rw (inside_in g b f.0 f.1) (let h = fil
 longest_in : (rs : List Row) (q t v : List ℕ) → FillsSome rs (q ++ t) → length q ≤ subpart_in rs (q ++ v)
 longest_in (r ∷ rs) q t v (inl f) = omega (arith, fills_begun r q t v f, larger_le (begun r (q ++ v)) (subpart_in rs (q ++ v)))
 longest_in (r ∷ rs) q t v (inr f) = omega (arith, longest_in rs q t v f, larger_le (begun r (q ++ v)) (subpart_in rs (q ++ v)))
+longest_in [] q t v x' = elim x' [ ]
 
 one_in : (rs : List Row) (s : List ℕ) → 1 ≤ subpart_in rs s
 one_in [] s = omega arith

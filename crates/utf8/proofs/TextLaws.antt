@@ -168,7 +168,7 @@ in_decode {s} (suc k) h (takes q r e f d) =
     let l = ap length e ∙ length-append q r in
     ap (decode_by (decode_in k) s) (ap step_of e ∙ step_of_sequence q r f)
     ∙ ap (λ (u : List ℕ). before (character_of q) (decode_in k u)) (ap (drop (length q)) e ∙ drop-append_seam q r)
-    ∙ ap (before (character_of q)) (in_decode k (omega (arith, (sequence_length q f).0)) d)
+    ∙ ap (before (character_of q)) (in_decode {s = r} k (omega (arith, (sequence_length q f).0)) d)
 
 pub means_decode : {s r : List ℕ} {cs : List Character} → Encoded s cs r → decode s ≡ record { characters = cs; rest = r }
 unfolding decode

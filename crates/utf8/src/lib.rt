@@ -1,4 +1,6 @@
 // UTF-8 of the Unicode Standard, Table 3-7: the sequence at the head of a text, and the first ill-formed place.
+#![tactic(auto)]
+
 ghost use Rattle.std.specs.Prelude.{◌≡◌, not, ◌+◌, ◌*◌, ◌≤◌, ◌<◌, length, drop, [], ◌∷◌};
 ghost use Rattle.utf8.specs.Scalar.{is_scalar};
 ghost use Rattle.utf8.specs.Table.{◌to◌};

@@ -49,11 +49,11 @@ module _ {text : List ℕ} where
   -- characters that end no line
   pub line_stays : {at line : ℕ} → LineAt text at line → (u v : List Character) → characters_at text at ≡ u ++ v →
       All (λ c. is_line_end c.code ≡ false) u → LineAt text (at + width_of u) line
-  line_stays {at} {line} i [] v e a = subst (λ (n : ℕ). LineAt text n line) (sym (add-zero at)) i
-  line_stays {at} {line} i (c ∷ u) v e a =
+  line_stays {at = at} {line = line} i [] v e a = subst (λ (n : ℕ). LineAt text n line) (sym (add-zero at)) i
+  line_stays {at = at} {line = line} i (c ∷ u) v e a =
       let h = head_at text at c (u ++ v) e in
       subst (λ (n : ℕ). LineAt text n line) (add_assoc at c.width (width_of u))
-      (line_stays (line_passes i c.code c.width h.step a.0) u v h.rest a.1)
+      (line_stays {at = at + c.width} (line_passes i c.code c.width h.step a.0) u v h.rest a.1)
 
   pub line_within : {at line : ℕ} → LineAt text at line → at ≤ length text
   line_within {at} i =

@@ -7,7 +7,7 @@ use std::process::{Command, Stdio};
 /// What the program with this name writes for an input.
 pub fn run(name: &str, input: &[u8]) -> String {
     let program = Path::new(env!("CARGO_MANIFEST_DIR")).join("../../target/bin").join(name);
-    assert!(program.exists(), "{}: not there; `rt check {name}` makes it", program.display());
+    assert!(program.exists(), "{}: not there; `host/programs` makes it", program.display());
     let mut child = Command::new(program)
         .stdin(Stdio::piped())
         .stdout(Stdio::piped())

@@ -1,7 +1,7 @@
 -- `character::read_for_tokens` meets its contract: a byte below 80 by the table, another sequence decoded and its traits cut. Assumes nothing.
 use Prim.Native.Nat.{ℕ, ◌%◌}
 use mathlib.Core.Path.{ap, ◌∙◌}
-use Rattle.character.proofs.TraitLaws.{token_traits}
+use Rattle.character.proofs.TraitLaws.{token_traits_lem}
 use Rattle.character.proofs.CharacterLaws.{read_ascii}
 use borrow.Author.Rules.{rules}
 use Rattle.character.proofs.read_for_tokens.Statement.{statement}
@@ -38,7 +38,7 @@ returns_2 c =
     record {
       memo = d.memo;
       none = d.none;
-      some = λ z. ((d.some z).0, c.token_traits.ensures ∙ ap (λ (t : ℕ). t % 16) (d.some z).1 ∙ token_traits _ _ a);
+      some = λ z. ((d.some z).0, c.token_traits.ensures ∙ ap (λ (t : ℕ). t % 16) (d.some z).1 ∙ token_traits_lem _ _ a);
     }
 
 pub read_for_tokens_spec : {M : Type 1} → statement M

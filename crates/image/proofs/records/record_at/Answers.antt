@@ -1,0 +1,20 @@
+-- `image::records::record_at` meets its contract. Assumes nothing.
+use native.Mathlib.Omega.{arith}
+use Rattle.image.proofs.SectionLaws.{within_limits}
+use borrow.Author.Rules.{rules}
+use Rattle.image.proofs.records.record_at.Goals as goal
+
+pub range_at-requires : goal.range_at-requires
+range_at-requires c =
+    let f = within_limits _ c.requires.image_value in
+    let l = rw c.in-Ranges.is at c.requires.i_bound in
+    omega arith
+
+pub entry_at-requires : goal.entry_at-requires
+entry_at-requires c = record { image_value = c.requires.image_value; i_bound = rw c.in-Entries.is at c.requires.i_bound }
+
+pub returns-in-Ranges : goal.returns-in-Ranges
+returns-in-Ranges c = rw c.in-Ranges.is c.range_at.ensures
+
+pub returns-in-Entries : goal.returns-in-Entries
+returns-in-Entries c = rw c.in-Entries.is c.entry_at.ensures

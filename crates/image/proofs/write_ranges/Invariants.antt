@@ -1,0 +1,22 @@
+-- `image::write_ranges` meets its contract. The loop: the first i ranges stand in the buffer. Assumes nothing.
+use Prim.Native.Nat.{ℕ, ◌-◌, ◌*◌}
+use mathlib.Core.Path.{refl, ap, ◌∙◌}
+use mathlib.Core.List.{List}
+use native.Mathlib.Omega.{arith}
+use lib.ListN.{length, take, drop, length-take, length-drop}
+use Rattle.lists.specs.Laid.{laid}
+use Rattle.image.specs.Limits.{words_per_range}
+use Rattle.image.specs.Ranges.{range_at, range_words}
+use Rattle.image.specs.declared.Range.{Range}
+use Rattle.lists.specs.Writing.{Writing}
+use Rattle.lists.proofs.WritingLaws.{writing_begins, writing_lent, writing_ends}
+use Rattle.image.proofs.write_ranges.Given as goal
+
+abbrev pub words_of : List ℕ → ℕ → List ℕ
+words_of s i = range_words (range_at s i)
+
+abbrev pub invariant-loop-i : goal.invariant-loop-i
+invariant-loop-i l = Writing (words_of l.image) words_per_range l.n l.initial.out l.out l.i
+
+abbrev pub decreases-loop-i : goal.decreases-loop-i
+decreases-loop-i l = l.n - l.i

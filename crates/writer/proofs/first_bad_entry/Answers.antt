@@ -1,0 +1,22 @@
+-- `writer::first_bad_entry` meets its contract. The loop: all entries before i are good. Assumes nothing.
+use Prim.Native.Nat.{◌-◌}
+use mathlib.Core.Path.{sym, ◌∙◌}
+use native.Mathlib.Omega.{arith}
+use Rattle.lists.proofs.SearchLaws.{Searching, search_begins, good_next, bad_here, none_bad}
+use Rattle.image.specs.Profile.{good_entry, first_bad_entry}
+use Rattle.writer.specs.Write.{value_at}
+use Rattle.writer.proofs.first_bad_entry.Goals as goal
+
+pub loop-i-init : goal.loop-i-init
+loop-i-init c = search_begins
+
+pub loop-i-preserved : goal.loop-i-preserved
+loop-i-preserved c = good_next c.loop-i.invariant c.loop-i-test.true (sym c.is_good_entry.ensures ∙ c.if-is_good_entry.true)
+
+pub returns-else-is_good_entry : goal.returns-else-is_good_entry
+unfolding first_bad_entry
+returns-else-is_good_entry c = bad_here c.loop-i.invariant c.loop-i-test.true (sym c.is_good_entry.ensures ∙ c.if-is_good_entry.false)
+
+pub returns : goal.returns
+unfolding first_bad_entry
+returns c = none_bad c.loop-i.invariant c.loop-i-test.false

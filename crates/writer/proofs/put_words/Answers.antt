@@ -1,0 +1,32 @@
+-- `writer::put_words` meets its contract. The loop: the bytes of the first i numbers stand in the buffer. Assumes nothing.
+use Prim.Native.Nat.{ℕ, ◌-◌}
+use mathlib.Core.Path.{ap, ◌∙◌}
+use mathlib.Core.List.{List}
+use native.Mathlib.Omega.{arith}
+use lib.ListN.{length, get_or, length-take, length-drop}
+use Rattle.lists.specs.Laid.{laid}
+use Rattle.lists.specs.Each.{each}
+use Rattle.lists.specs.Writing.{Writing}
+use Rattle.lists.proofs.WritingLaws.{writing_begins, writing_lent, writing_ends}
+use Rattle.image.specs.Limits.{word_bytes}
+use Rattle.image.specs.Word.{bytes_of}
+use Rattle.writer.proofs.WordLaws.{length_four, bytes_each_word}
+use Rattle.writer.proofs.put_words.Goals as goal
+
+pub loop-i-init : goal.loop-i-init
+loop-i-init c = writing_begins
+
+pub put_word-requires : goal.put_word-requires
+put_word-requires c = simp (length-take, length-drop) (omega arith)
+
+pub loop-i-preserved : goal.loop-i-preserved
+loop-i-preserved c = writing_lent c.loop-i.invariant (length_four _) (omega arith) (omega arith) _ c.put_word.ensures
+
+pub shape_of-out : goal.shape_of-out
+shape_of-out c = c.loop-i.invariant.size
+
+pub returns : goal.returns
+unfolding each
+returns c =
+    writing_ends c.loop-i.invariant c.loop-i-test.false
+    ∙ ap (laid c.args.out.now 0) (bytes_each_word c.args.words.now (length c.args.words.now) 0 (omega arith))
