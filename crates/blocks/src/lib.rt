@@ -3,6 +3,8 @@
 // sequence, and what the token rules know of it; 0: nothing. The first two rows are ASCII, with no length: so a block with row 0 says nothing.
 // A sequence is known to be well-formed since one was decoded, by the rows of Table 3-7, when its block was learned; only its last byte may
 // be another.
+#![tactic(auto)]
+
 ghost use Rattle.std.specs.Prelude.{◌≡◌, true, List, ℕ, ◌+◌, ◌-◌, ◌*◌, ◌%◌, ◌≤◌, ◌<◌, length, get_or};
 ghost use Rattle.std.proofs.Math.Option.{none};
 ghost use Rattle.image.specs.Check.{refusal_of};

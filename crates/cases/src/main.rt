@@ -1,4 +1,6 @@
 // Runs the calls on the cases of docs/CASES.md and at the edges of its rules, and prints answers as the listers do.
+#![tactic(auto)]
+
 ghost use Rattle.std.specs.Prelude.{◌≤◌};
 
 mod answers;

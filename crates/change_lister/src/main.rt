@@ -1,4 +1,6 @@
 // The change lister: reads an older image and right after it a newer one from standard input, and prints what changed or the refusal.
+#![tactic(auto)]
+
 use input::images::{MAX_ENTRY_WORDS, MAX_INPUT, MAX_RUN_WORDS};
 use libc::STDIN_FILENO;
 

@@ -1,5 +1,7 @@
 // The list of what changed between two class images: runs of scalar values whose class in the ranges differs, and profile
 // entries that were added, removed or given another role.
+#![tactic(auto)]
+
 ghost use Rattle.std.specs.Prelude.{◌≡◌, ◌*◌, ◌≤◌, length, take};
 ghost use Rattle.std.proofs.Math.Option.{none};
 ghost use Rattle.lists.specs.Laid.{laid};

@@ -1,4 +1,6 @@
 // The characters of a text with their classes: a table for ASCII, and a memo of the last stretch of code points.
+#![tactic(auto)]
+
 ghost use Rattle.std.specs.Prelude.{◌≡◌, List, ℕ, ◌+◌, ◌-◌, ◌/◌, ◌%◌, ◌≤◌, ◌<◌, length, ◌&&◌, leb};
 ghost use Rattle.std.proofs.Math.Option.{none};
 ghost use Rattle.image.specs.Profile.{is_medial, is_hashtag};

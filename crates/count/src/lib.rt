@@ -1,6 +1,8 @@
 // Counting a text's tokens under a checked image. The state says what is under way, as in `turns`, and what stands before it as far as a
 // direction mark could part it: so the count knows at each token whether a mark is refused. Most characters cost only a few loads: what
 // is known of a character comes from `blocks`, and what it does from the one before it. What is not known so is read by `look`.
+#![tactic(auto)]
+
 ghost use Rattle.std.specs.Prelude.{◌≡◌, List, ℕ, ◌+◌, ◌-◌, ◌≤◌, ◌<◌, length, get_or};
 ghost use Rattle.std.proofs.Math.Option.{none};
 ghost use Rattle.image.specs.Check.{refusal_of};

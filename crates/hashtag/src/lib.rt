@@ -1,5 +1,7 @@
 // Hashtags in flowing text: the list of a text's hashtags under a class image. The call whose name ends in `_checked` takes an image that was
 // checked and accepted.
+#![tactic(auto)]
+
 ghost use Rattle.std.specs.Prelude.{◌≡◌, Bool, true, false, not, ◌&&◌, ◌||◌, ◌+◌, ◌*◌, ◌%◌, ◌≤◌, ◌<◌, length, drop, leb};
 ghost use Rattle.std.proofs.Math.Option.{none};
 ghost use Rattle.lists.specs.Laid.{laid};

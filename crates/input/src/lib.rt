@@ -1,4 +1,6 @@
 // What the programs do with their input: `script` an image and a text, `images` two images. Here: where an image at the front ends.
+#![tactic(auto)]
+
 ghost use Rattle.std.specs.Prelude.{◌≡◌};
 ghost use Rattle.input.specs.Front.{end_in};
 

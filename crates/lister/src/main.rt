@@ -1,4 +1,6 @@
 // The token lister: reads an image and right after it a text from standard input, and prints the text's tokens or the refusal.
+#![tactic(auto)]
+
 use input::script::{MAX_INPUT, MAX_WORDS};
 use libc::STDIN_FILENO;
 

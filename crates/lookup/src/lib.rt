@@ -1,4 +1,6 @@
 // Looking up the class of a code point in a class image.
+#![tactic(auto)]
+
 ghost use Rattle.std.specs.Prelude.{◌≡◌, ◌≤◌};
 ghost use Rattle.std.proofs.Math.Option.{none};
 ghost use Rattle.image.specs.Check.{refusal_of};

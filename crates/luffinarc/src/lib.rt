@@ -2,6 +2,8 @@
 // The result is 0 where the call gives no refusal, else the refusal's number. The values of the answer, or what the
 // refusal carries, go into `answer`, with zeros past them. A function whose name ends in `_checked` is given an image that
 // `luffinarc_check` or `luffinarc_read` accepted, with the same bytes.
+#![tactic(auto)]
+
 ghost use Rattle.std.specs.Prelude.{◌≡◌, [], ◌∷◌, length};
 ghost use Rattle.std.proofs.Math.Option.{none};
 ghost use Rattle.image.specs.Profile.{profile_by};

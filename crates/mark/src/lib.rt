@@ -1,6 +1,8 @@
 // Marking where a text's tokens start, while they are counted: the loop of `count`, with one store for each character. A start is 16 times
 // the first byte, and traits of a character that begins such a token. The array may be too short for all: then the marks are made in
 // pieces, and `done` is the number of the first token in it.
+#![tactic(auto)]
+
 ghost use Rattle.std.specs.Prelude.{◌≡◌, List, ℕ, ◌+◌, ◌-◌, ◌*◌, ◌≤◌, ◌<◌, length, set};
 ghost use Rattle.std.proofs.Math.Option.{none};
 ghost use Rattle.image.specs.Check.{refusal_of};

@@ -1,4 +1,6 @@
 // The pair check of two class images: whether the newer differs from the older only by permitted changes.
+#![tactic(auto)]
+
 ghost use Rattle.std.specs.Prelude.{◌≡◌};
 ghost use Rattle.std.proofs.Math.Option.{none};
 ghost use Rattle.image.specs.Check.{refusal_of};

@@ -1,4 +1,6 @@
 // A token's bytes, handed back as that part of the caller's own text.
+#![tactic(auto)]
+
 ghost use Rattle.std.specs.Prelude.{◌≡◌};
 ghost use Rattle.part.specs.Part.{part_number, part_bytes};
 

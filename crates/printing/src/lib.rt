@@ -1,4 +1,6 @@
 // Printing to standard output, for the programs: text, numbers and refusals; in `answers` what the listers print.
+#![tactic(auto)]
+
 use libc::STDOUT_FILENO;
 use refusal::Refusal;
 

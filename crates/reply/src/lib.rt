@@ -1,6 +1,8 @@
 // Replies: how the result and the answer array of an exported call tell what the call gave.
 // The result is 0 where the call gives no refusal, else the refusal's number. The values of the answer, or what the
 // refusal carries, go into `answer`, with zeros past them.
+#![tactic(auto)]
+
 ghost use Rattle.std.specs.Prelude.{◌≡◌, [], ◌∷◌};
 ghost use Rattle.std.proofs.Math.Option.{none};
 ghost use Rattle.image.specs.Header.{version_of, range_count};

@@ -4,11 +4,7 @@ use mathlib.Core.Path.{◌≡◌, refl, sym, ap, ◌∙◌}
 use mathlib.Core.List.{List, [], ◌∷◌}
 use mathlib.Core.Option.{Option, none, some}
 use native.Mathlib.Omega.{arith}
-use mathlib.Core.Bool.{Bool, true, false, not}
 use lib.ListN.{length}
-use lib.Dec.{leb}
-use borrow.Author.Tests.{leb-true, leb-false}
-use Rattle.lists.proofs.BoolLaws.{impossible}
 use Rattle.lists.specs.Laid.{laid}
 use Rattle.refusal.specs.declared.Refusal.{Refusal}
 use Rattle.refusal.specs.declared.Refusal.TheVariants as refusal
@@ -27,15 +23,7 @@ use Rattle.grammar.specs.declared.Counted.{Counted}
 use Rattle.grammar.specs.declared.Counted.TheVariants.{Refused, Records}
 use Rattle.grammar.specs.Counted.{counted_by, count_through}
 
--- what the test of room tells
-pub no_room : (n room : ℕ) {b : Bool} → b ≡ leb n room → not b ≡ true → room < n
-no_room n room {b = false} e f = leb-false n room (sym e)
-no_room n room {b = true} e f = impossible (cc)
-
-pub room_for : (n room : ℕ) {b : Bool} → b ≡ leb n room → not b ≡ false → n ≤ room
-room_for n room {b = true} e f = leb-true n room (sym e)
-room_for n room {b = false} e f = impossible (cc)
-
+-- what has room as records has it as words
 pub room_words : (n words : ℕ) → n ≤ room_of words → record_size * n ≤ words
 room_words n words h = omega arith
 

@@ -1,5 +1,7 @@
 // The token calls: counting a text's tokens, writing their list, and taking one token at a place. A call whose name ends in `_checked`
 // takes an image that was checked and accepted.
+#![tactic(auto)]
+
 ghost use Rattle.std.specs.Prelude.{◌≡◌, ◌≤◌, ◌<◌, length, leb};
 ghost use Rattle.std.proofs.Math.Option.{none};
 ghost use Rattle.image.specs.Check.{refusal_of};

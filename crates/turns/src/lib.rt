@@ -1,5 +1,7 @@
 // The one-pass reader of tokens under a checked image: its turns, and the first token; `count` counts them, `write` writes them. Each goes
 // through the text by one step: the state and the next character give the turn.
+#![tactic(auto)]
+
 ghost use Rattle.std.specs.Prelude.{◌≡◌, ◌<◌};
 ghost use Rattle.std.proofs.Math.Option.{none};
 ghost use Rattle.image.specs.Check.{refusal_of};

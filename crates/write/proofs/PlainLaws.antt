@@ -1,7 +1,7 @@
 -- Where line ends are plain, no token but those of line ends holds one. Assumes nothing.
 use Prim.Native.Nat.{ℕ, ◌+◌, ◌/◌, ◌%◌, ◌≤◌, ◌<◌}
 use mathlib.Core.Path.{◌≡◌, refl, sym, ap, subst, ◌∙◌}
-use mathlib.Core.Bool.{Bool, true, false, cond, true≢false, not}
+use mathlib.Core.Bool.{Bool, true, false, cond, true≢false}
 use mathlib.Core.List.{List, [], ◌∷◌, ◌++◌}
 use mathlib.Core.Logic.{inl, inr}
 use mathlib.Core.Option.{none}
@@ -140,8 +140,3 @@ module _ (P : ℕ → Type 0) (early : (x : ℕ) → 0x0A ≤ x → x ≤ 0x0D �
 pub filled_apart : (s : List ℕ) (base : ℕ) {size k : ℕ} {t : List ℕ} → Filled size (λ (j : ℕ). 0 + token_traits s (base + j)) t k → (j : ℕ) → j < k →
     Apart (get_or t j 0) → Apart (token_traits s (base + j))
 filled_apart s base f j l a = subst Apart (f.each j l ∙ zero-add (token_traits s (base + j))) a
-
--- what a test ensures, where it isn't denied
-pub held : {b : Bool} {P : Type 0} → (b ≡ true → P) → not b ≡ false → P
-held {b = true} h e = h refl
-held {b = false} h e = absurd (true≢false e)

@@ -1,4 +1,6 @@
 // Writing the records of a text's tokens from where they start, token by token, once the text is known to be accepted.
+#![tactic(auto)]
+
 ghost use Rattle.std.specs.Prelude.{◌≡◌, true, not, ◌||◌, ◌+◌, ◌*◌, ◌/◌, ◌≤◌, ◌<◌, eqb, length};
 ghost use Rattle.std.proofs.Math.Option.{none};
 ghost use Rattle.line.specs.Line.{LineAt};

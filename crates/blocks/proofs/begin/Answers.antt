@@ -1,0 +1,44 @@
+-- `blocks::begin` meets its contract. The invariant: the rows of Start are filled up to a place. Assumes nothing.
+use Prim.Native.Nat.{ℕ, ◌-◌, ◌≤◌, ◌<◌}
+use mathlib.Core.Path.{◌≡◌, refl, ◌∙◌}
+use native.Mathlib.Omega.{arith}
+use mathlib.Core.List.{List}
+use lib.ListN.{length, take, length-take, length-set}
+use borrow.Rule.Slice.PartMut.{put_mid, same_len_mid}
+use Rattle.lists.specs.Filled.{Filled}
+use borrow.Author.Rules.{rules}
+use Rattle.blocks.proofs.LearnLaws.{Beginning, beginning, beginning_more, begins}
+use Rattle.blocks.proofs.begin.Goals as goal
+
+-- the part that ASCII is put into
+room : (cells : List ℕ) → 128 ≤ length cells → length (take 128 cells) ≡ 128
+room cells h = length-take 128 cells ∙ omega arith
+
+kept_long : (cells : List ℕ) {ys : List ℕ} {f : ℕ → ℕ} {n : ℕ} → Filled (length (take 128 cells)) f ys n → length (put_mid 0 128 cells ys) ≡ length cells
+kept_long cells {ys = ys} f = same_len_mid 0 128 cells ys f.long
+
+pub fill_cells-requires : goal.fill_cells-requires
+fill_cells-requires c = record { image_value = c.requires.image_value; out_bound = omega (arith, length-take 128 c.args.cells.now); tag_bound = omega arith }
+
+pub shape_of-cells-then-cells : goal.shape_of-cells-then-cells
+shape_of-cells-then-cells c = kept_long c.args.cells.now c.fill_cells.ensures
+
+pub returns-then-cells : goal.returns-then-cells
+returns-then-cells c = (begins c.requires.image_value (beginning _ c.requires.in_bounds.1 (room c.args.cells.now c.requires.in_bounds.0) c.fill_cells.ensures) (omega arith) (λ h. absurd (omega (arith, c.if-cells.true))), kept_long c.args.cells.now c.fill_cells.ensures)
+
+pub loop-i-init : goal.loop-i-init
+loop-i-init c = (beginning _ c.requires.in_bounds.1 (room c.args.cells.now c.requires.in_bounds.0) c.fill_cells.ensures, omega arith, refl)
+
+pub bounds-cells-i : goal.bounds-cells-i
+bounds-cells-i c = omega (arith, c.loop-i.invariant.2, c.if-cells.false, c.loop-i-test.true)
+
+pub loop-i-preserved : goal.loop-i-preserved
+loop-i-preserved c =
+    let t : c.loop-i.i < length c.loop-i.cells = omega (arith, c.loop-i.invariant.2, c.if-cells.false, c.loop-i-test.true) in
+    (beginning_more _ t refl c.loop-i.invariant.0, omega (arith, c.loop-i-test.true), length-set c.loop-i.cells c.loop-i.i _ ∙ c.loop-i.invariant.2)
+
+pub shape_of-cells : goal.shape_of-cells
+shape_of-cells c = c.loop-i.invariant.2 ∙ kept_long c.args.cells.now c.fill_cells.ensures
+
+pub returns : goal.returns
+returns c = (begins c.requires.image_value c.loop-i.invariant.0 c.loop-i.invariant.1 (λ h. c.loop-i-test.false), c.loop-i.invariant.2 ∙ kept_long c.args.cells.now c.fill_cells.ensures)

@@ -1,0 +1,45 @@
+-- `blocks::known_four` meets its contract. Assumes nothing.
+use Prim.Native.Nat.{◌+◌, ◌≤◌, ◌<◌}
+use mathlib.Core.Path.{refl, ap}
+use mathlib.Core.Bool.{not}
+use native.Mathlib.Omega.{arith}
+use lib.ListN.{get_or}
+use Rattle.utf8.proofs.EncodingLaws.{encodes_4}
+use Rattle.blocks.proofs.ByteLaws.{trails, found_none, found}
+use borrow.Author.Rules.{rules}
+use Rattle.blocks.proofs.known_four.Goals as goal
+use Rattle.blocks.proofs.known_four.Goals.{After-widen-2}
+
+second : (c : goal.After-widen-2) → let a = c.args in (0x80 ≤ get_or a.text.now (a.at + 1) 0) × (get_or a.text.now (a.at + 1) 0 < 0xC0)
+second c = trails _ c.is_trail.ensures (ap not c.if-not-is_trail.false)
+
+third : (c : goal.After-widen-2) → let a = c.args in (0x80 ≤ get_or a.text.now (a.at + 2) 0) × (get_or a.text.now (a.at + 2) 0 < 0xC0)
+third c = trails _ c.is_trail-2.ensures (ap not c.if-not-is_trail-2.false)
+
+fourth : (c : goal.After-widen-2) → let a = c.args in (0x80 ≤ get_or a.text.now (a.at + 3) 0) × (get_or a.text.now (a.at + 3) 0 < 0xC0)
+fourth c = trails _ c.is_trail-3.ensures (ap not c.if-not-is_trail-3.false)
+
+pub overflow_sub-block : goal.overflow_sub-block
+overflow_sub-block c = omega (arith, second c, third c)
+
+pub held-requires : goal.held-requires
+held-requires c = record { fits = c.requires.fits; block_lt_block_count = (omega (arith, second c, third c), (fourth c).0, (fourth c).1) }
+
+pub returns : goal.returns
+returns c =
+    let d = second (goal.at.returns c).After-widen-2 in
+    let e = third (goal.at.returns c).After-widen-2 in
+    let f = fourth (goal.at.returns c).After-widen-2 in
+    found 3 c.held.ensures (omega arith) (omega arith) (omega arith) refl (omega arith) (encodes_4 _ _ _ _ (omega arith, omega arith) (omega arith, omega arith) (omega arith, omega arith) (omega arith, omega arith))
+
+pub returns-then-text-at : goal.returns-then-text-at
+returns-then-text-at c = found_none
+
+pub returns-then-not-is_trail : goal.returns-then-not-is_trail
+returns-then-not-is_trail c = found_none
+
+pub returns-then-not-is_trail-2 : goal.returns-then-not-is_trail-2
+returns-then-not-is_trail-2 c = found_none
+
+pub returns-then-not-is_trail-3 : goal.returns-then-not-is_trail-3
+returns-then-not-is_trail-3 c = found_none

@@ -1,0 +1,19 @@
+-- `blocks::learn` meets its contract. Assumes nothing.
+use native.Mathlib.Omega.{arith}
+use borrow.Author.Rules.{rules}
+use Rattle.blocks.proofs.LearnLaws.{learns_more, learns_start, learns_row}
+use Rattle.blocks.proofs.learn.Goals as goal
+
+pub put_row-requires : goal.put_row-requires
+put_row-requires c = record { block_size_in_bounds = omega (arith, c.requires.fits.rows c.args.block c.requires.block_in_bounds.0); meets = c.requires.block_in_bounds.4 }
+
+pub returns-then-row-ge-FIRST_ROW : goal.returns-then-row-ge-FIRST_ROW
+returns-then-row-ge-FIRST_ROW c = learns_more c.args.block c.requires.fits c.requires.block_in_bounds.0 c.requires.block_in_bounds.3 c.widen-row.ensures.0 c.if-row-ge-FIRST_ROW.true c.cell_of-cell.ensures c.put_row.ensures
+
+pub returns-then-all_start : goal.returns-then-all_start
+returns-then-all_start c =
+    let a = c.all_start.ensures c.if-all_start.true in
+    learns_start c.args.block c.requires.fits c.requires.block_in_bounds.0 c.requires.block_in_bounds.3 c.requires.block_in_bounds.1 c.requires.block_in_bounds.2 c.if-rows-lt-FIRST_ROW.false c.if-cells.false a.0 a.1 a.2
+
+pub returns : goal.returns
+returns c = learns_row c.args.block c.requires.fits c.requires.block_in_bounds.0 c.requires.block_in_bounds.3 c.if-rows-lt-FIRST_ROW.false c.if-cells-rows.false c.cell_of-cell.ensures c.put_row-2.ensures

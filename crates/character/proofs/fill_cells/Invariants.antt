@@ -1,0 +1,14 @@
+-- `character::fill_cells` meets its contract: the places passed hold what the token rules know, with the tag. Assumes nothing.
+use Prim.Native.Nat.{◌-◌}
+use mathlib.Core.Path.{◌∙◌}
+use native.Mathlib.Omega.{arith}
+use borrow.Author.Rules.{rules}
+use lib.ListN.{length}
+use Rattle.character.proofs.CharacterLaws.{Cut, cut_begins, cut_more}
+use Rattle.character.proofs.fill_cells.Given as goal
+
+abbrev pub invariant-loop-i : goal.invariant-loop-i
+invariant-loop-i l = Cut (length l.initial.out) l.tag l.base l.image l.out l.i
+
+abbrev pub decreases-loop-i : goal.decreases-loop-i
+decreases-loop-i l = length l.initial.out - l.i

@@ -1,0 +1,6 @@
+-- `character::find_stretch` meets its contract. Assumes nothing.
+use borrow.Author.Rules.{rules}
+use Rattle.character.proofs.find_stretch.Goals as goal
+
+pub stretch_at-requires : goal.stretch_at-requires
+stretch_at-requires c = record { image_value = c.requires; placed = c.place_of-i.ensures }

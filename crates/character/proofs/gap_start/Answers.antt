@@ -1,0 +1,15 @@
+-- `character::gap_start` meets its contract. Assumes nothing.
+use mathlib.Core.Path.{ap}
+use native.Mathlib.Omega.{arith}
+use Rattle.image.specs.declared.Range.{Range}
+use borrow.Author.Rules.{rules}
+use Rattle.character.proofs.gap_start.Goals as goal
+
+pub overflow_add-result : goal.overflow_add-result
+overflow_add-result c = let e = ap (λ (r : Range). r.last) c.record_at-r.ensures in omega (arith, c.requires.passed.before (omega arith))
+
+pub returns : goal.returns
+returns c =
+    let e = ap (λ (r : Range). r.last) c.record_at-r.ensures in
+    let h = c.requires.passed.before (omega arith) in
+    (omega arith, λ _. omega arith)

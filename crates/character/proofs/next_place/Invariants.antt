@@ -1,0 +1,16 @@
+-- `character::next_place` meets its contract. The invariant: x has passed the place. Assumes nothing.
+use Prim.Native.Nat.{◌-◌}
+use mathlib.Core.Path.{◌≡◌}
+use native.Mathlib.Omega.{arith}
+use borrow.Author.Rules.{rules}
+use Rattle.image.specs.Records.{record_at, record_count}
+use Rattle.image.specs.Placed.{Passed}
+use Rattle.image.proofs.SectionLaws.{few_records}
+use Rattle.character.proofs.PlaceLaws.{passed_next, placed_here}
+use Rattle.character.proofs.next_place.Given as goal
+
+abbrev pub invariant-loop-i : goal.invariant-loop-i
+invariant-loop-i l = (l.count ≡ record_count l.image l.section) × Passed (record_at l.image l.section) (record_count l.image l.section) l.i l.x
+
+abbrev pub decreases-loop-i : goal.decreases-loop-i
+decreases-loop-i l = l.count - l.i

@@ -1,0 +1,17 @@
+-- `character::place_of` meets its contract. The invariant: the place is from lo to hi. Assumes nothing.
+use Prim.Native.Nat.{◌-◌}
+use mathlib.Core.Path.{◌≡◌}
+use mathlib.Core.Option.{none}
+use native.Mathlib.Omega.{arith}
+use Rattle.image.specs.Check.{refusal_of}
+use Rattle.image.specs.Records.{record_at, record_count}
+use Rattle.image.proofs.SectionLaws.{few_records}
+use Rattle.character.proofs.PlaceLaws.{Between, between_begins, between_above, between_below, between_placed}
+use borrow.Author.Rules.{rules}
+use Rattle.character.proofs.place_of.Given as goal
+
+abbrev pub invariant-loop-lo : goal.invariant-loop-lo
+invariant-loop-lo l = (refusal_of l.image ≡ none) × Between (record_at l.image l.section) (record_count l.image l.section) l.x l.lo l.hi
+
+abbrev pub decreases-loop-lo : goal.decreases-loop-lo
+decreases-loop-lo l = l.hi - l.lo

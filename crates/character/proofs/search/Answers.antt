@@ -1,0 +1,6 @@
+-- `character::search` meets its contract. Assumes nothing.
+use borrow.Author.Rules.{rules}
+use Rattle.character.proofs.search.Goals as goal
+
+pub memo_of-requires : goal.memo_of-requires
+memo_of-requires c = record { image_value = c.requires; stretch_of = c.find_stretch-class.ensures; stretch_of_2 = c.find_stretch-role.ensures }

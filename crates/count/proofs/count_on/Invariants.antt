@@ -1,0 +1,18 @@
+-- `count::count_on` meets its contract. The loop's invariant: what is counted so far, and what blocks hold is right. Assumes nothing.
+use Prim.Native.Nat.{◌-◌, ◌≤◌, ◌<◌}
+use mathlib.Core.Path.{◌≡◌, refl, sym, subst, ◌∙◌}
+use mathlib.Core.Logic.{⊎_elim}
+use native.Mathlib.Omega.{arith}
+use borrow.Author.Rules.{rules}
+use lib.ListN.{length}
+use Rattle.blocks.specs.Blocks.{Learning}
+use Rattle.count.specs.Counting.{CountingAs}
+use Rattle.count.proofs.CountLaws.{counting_few, finishes}
+use Rattle.count.proofs.LookLaws.{looked_refused, looked_on, looked_memo}
+use Rattle.count.proofs.count_on.Given as goal
+
+abbrev pub invariant-loop-run : goal.invariant-loop-run
+invariant-loop-run l = CountingAs l.image l.text l.run × Learning l.image l.index l.cells l.run.rows × (length l.index ≡ length l.initial.index) × (length l.cells ≡ length l.initial.cells)
+
+abbrev pub decreases-loop-run : goal.decreases-loop-run
+decreases-loop-run l = length l.text - l.run.at

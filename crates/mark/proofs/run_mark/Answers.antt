@@ -1,0 +1,230 @@
+-- `mark::run_mark` meets its contract. The loop's invariant: what is counted is so in the state of the row, and the starts are marked up to
+-- the token under way. Assumes nothing.
+use Prim.Native.Nat.{ℕ, ◌+◌, ◌-◌, ◌≤◌, ◌<◌}
+use mathlib.Core.Path.{◌≡◌, refl, sym, ◌∙◌}
+use native.Mathlib.Omega.{arith}
+use borrow.Author.Rules.{rules}
+use lib.ListN.{length}
+use Rattle.turns.proofs.ReachLaws.{Here, here_small}
+use Rattle.blocks.specs.Blocks.{FoundAt}
+use Rattle.count.specs.Rules.{rule_for}
+use Rattle.count.proofs.CountLaws.{counting_few}
+use Rattle.count.proofs.RuleLaws.{rule_state}
+use Rattle.count.proofs.KnownLaws.{here_ascii}
+use Rattle.count.specs.Four.{FourSteps}
+use Rattle.count.proofs.FourLaws.{small_cells}
+use Rattle.mark.proofs.MarkLaws.{Walked, Stepping, walk_begins, walk_ends, steps, steps_known, four_walk}
+use Rattle.mark.proofs.run_mark.Goals as goal
+use Rattle.mark.proofs.run_mark.Goals.{After-widen-traits, Else-step-ge-ODD, Else-step-ge-ODD-2, Else-step-ge-ODD-3, Else-step-ge-ODD-4, Then-four-lt-ODD}
+
+pub row_of-row-requires : goal.row_of-row-requires
+row_of-row-requires c = record { rules_value = c.requires.rules_value; state_lt_count_states = c.requires.marking.counting.counting.less }
+
+pub returns-then-row-ge-NO_ROW : goal.returns-then-row-ge-NO_ROW
+returns-then-row-ge-NO_ROW c = (c.requires.marking, omega arith, omega arith, refl, refl)
+
+pub overflow_sub-k : goal.overflow_sub-k
+overflow_sub-k c = omega (arith, c.requires.marking.from)
+
+pub loop-at-init : goal.loop-at-init
+loop-at-init c = walk_begins _ c.requires.marking c.requires.text_len_bound c.if-row-ge-NO_ROW.false (c.row_of-row.ensures c.if-row-ge-NO_ROW.false)
+
+pub overflow_add-k : goal.overflow_add-k
+overflow_add-k c = omega (arith, c.loop-at.invariant.fits, counting_few c.loop-at.invariant.counting)
+
+-- at a place in the loop four bytes stand
+four_bytes : {at end n : ℕ} → at < end → end ≡ n - 3 → at + 4 ≤ n
+four_bytes h e = omega arith
+
+-- an ASCII byte
+stands : (c : goal.After-widen-traits)
+    → Here c.args.image.now c.args.text.now c.loop-at.at 1 c.widen-traits.result
+stands c = here_ascii _ _ _ _ _ c.requires.cached.ascii (omega (arith, four_bytes c.loop-at-test.true c.known_end-end.ensures)) c.if-a-lt128.true c.widen-traits.ensures
+
+ascii : (c : goal.Else-step-ge-ODD)
+    → let a = c.args in
+    let l = c.loop-at in
+    Stepping a.image.now a.text.now a.done a.run.mark a.run.refused (length a.starts.now) a.run.at (a.done + (a.run.count - a.done)) l.starts c.widen-traits.result c.rule-step.result l.k l.at 1
+ascii c = steps c.requires.image_value c.loop-at.invariant (omega (arith, c.if-starts-k.false)) c.rule-step.ensures c.if-step-ge-ODD.false (stands (record { before = c.before.before.before; type_inv = record { cells = c.type_inv.cells; text = c.type_inv.text; index = c.type_inv.index; image = c.type_inv.image } }))
+
+two : (c : goal.Else-step-ge-ODD-2)
+    → let a = c.args in
+    let l = c.loop-at in
+    Stepping a.image.now a.text.now a.done a.run.mark a.run.refused (length a.starts.now) a.run.at (a.done + (a.run.count - a.done)) l.starts c.known_two-traits.result c.rule-step-then-a-lt224.result l.k l.at 2
+two c = steps_known c.requires.image_value c.loop-at.invariant (omega (arith, c.if-starts-k.false)) (omega (arith, four_bytes c.loop-at-test.true c.known_end-end.ensures)) c.requires.cached c.known_two-traits.ensures c.rule-step-then-a-lt224.ensures c.if-step-ge-ODD-2.false
+
+three : (c : goal.Else-step-ge-ODD-3)
+    → let a = c.args in
+    let l = c.loop-at in
+    Stepping a.image.now a.text.now a.done a.run.mark a.run.refused (length a.starts.now) a.run.at (a.done + (a.run.count - a.done)) l.starts c.known_three-traits.result c.rule-step-then-a-lt240.result l.k l.at 3
+three c = steps_known c.requires.image_value c.loop-at.invariant (omega (arith, c.if-starts-k.false)) (omega (arith, four_bytes c.loop-at-test.true c.known_end-end.ensures)) c.requires.cached c.known_three-traits.ensures c.rule-step-then-a-lt240.ensures c.if-step-ge-ODD-3.false
+
+four : (c : goal.Else-step-ge-ODD-4)
+    → let a = c.args in
+    let l = c.loop-at in
+    Stepping a.image.now a.text.now a.done a.run.mark a.run.refused (length a.starts.now) a.run.at (a.done + (a.run.count - a.done)) l.starts c.known_four-traits.result c.rule-step-in-loop-at.result l.k l.at 4
+four c = steps_known c.requires.image_value c.loop-at.invariant (omega (arith, c.if-starts-k.false)) (omega (arith, four_bytes c.loop-at-test.true c.known_end-end.ensures)) c.requires.cached c.known_four-traits.ensures c.rule-step-in-loop-at.ensures c.if-step-ge-ODD-4.false
+
+pub bounds-text-at : goal.bounds-text-at
+bounds-text-at c = omega (arith, four_bytes c.loop-at-test.true c.known_end-end.ensures)
+
+-- four characters of ASCII
+taken : (c : goal.Then-four-lt-ODD) → FourSteps c.args.cells.now c.args.text.now c.loop-at.at c.loop-at.row c.four_steps-four.result
+taken c = c.four_steps-four.ensures c.if-four-lt-ODD.true
+
+pub four_steps-four-requires : goal.four_steps-four-requires
+four_steps-four-requires c = record { small_cells = small_cells c.requires.cached.ascii c.requires.image_value; rules_value = c.requires.rules_value; row_bound = (c.loop-at.invariant.small, four_bytes c.loop-at-test.true c.known_end-end.ensures, c.if-a-lt128.true) }
+
+pub put_four-k-requires : goal.put_four-k-requires
+put_four-k-requires c = record { small_cells = small_cells c.requires.cached.ascii c.requires.image_value; rules_value = c.requires.rules_value; four_at = record { number = _; steps = taken (goal.at.put_four-k-requires c).Then-four-lt-ODD }; row_bound = (c.loop-at.invariant.small, four_bytes c.loop-at-test.true c.known_end-end.ensures, c.loop-at.invariant.fits, omega (arith, c.loop-at.invariant.fits, counting_few c.loop-at.invariant.counting), omega (arith, c.if-starts-k.false)) }
+
+pub overflow_add-last : goal.overflow_add-last
+overflow_add-last c = omega (arith, four_bytes c.loop-at-test.true c.known_end-end.ensures)
+
+pub bounds-text-last : goal.bounds-text-last
+bounds-text-last c = omega (arith, four_bytes c.loop-at-test.true c.known_end-end.ensures)
+
+pub ascii_cell-row-requires : goal.ascii_cell-row-requires
+ascii_cell-row-requires c = (small_cells c.requires.cached.ascii c.requires.image_value, (taken (goal.at.ascii_cell-row-requires c).Then-four-lt-ODD).fourth)
+
+pub overflow_add-at : goal.overflow_add-at
+overflow_add-at c = omega (arith, four_bytes c.loop-at-test.true c.known_end-end.ensures)
+
+pub loop-at-smaller-then-four-lt-ODD : goal.loop-at-smaller-then-four-lt-ODD
+loop-at-smaller-then-four-lt-ODD c = omega (arith, four_bytes c.loop-at-test.true c.known_end-end.ensures)
+
+pub loop-at-preserved-then-four-lt-ODD : goal.loop-at-preserved-then-four-lt-ODD
+loop-at-preserved-then-four-lt-ODD c = four_walk c.requires.cached.ascii c.requires.image_value c.loop-at.invariant (omega (arith, c.if-starts-k.false)) (taken (goal.at.loop-at-preserved-then-four-lt-ODD c).Then-four-lt-ODD) (four_bytes c.loop-at-test.true c.known_end-end.ensures) _ c.put_four-k.ensures.1 _ _ c.put_four-k.ensures.0 c.ascii_cell-row.ensures.0
+
+-- one
+pub bounds-cells-a : goal.bounds-cells-a
+bounds-cells-a c = omega (arith, c.requires.cached.ascii.long, c.if-a-lt128.true)
+
+pub rule-step-requires : goal.rule-step-requires
+rule-step-requires c = record { rules_value = c.requires.rules_value; row_lt_rule_rows = (omega (arith, c.loop-at.invariant.small), here_small c.requires.image_value (stands c)) }
+
+pub start_at-requires : goal.start_at-requires
+start_at-requires c = let r = ascii c in (omega arith, r.small)
+
+pub overflow_add-starts : goal.overflow_add-starts
+overflow_add-starts c = let r = ascii (goal.at.overflow_add-starts c).Else-step-ge-ODD in omega arith
+
+pub offset_bounds-starts-k : goal.offset_bounds-starts-k
+offset_bounds-starts-k c = let r = ascii (goal.at.offset_bounds-starts-k c).Else-step-ge-ODD in omega arith
+
+pub bounds-starts-k : goal.bounds-starts-k
+bounds-starts-k c = (ascii (goal.at.bounds-starts-k c).Else-step-ge-ODD).place
+
+pub overflow_add-at-then-a-lt128 : goal.overflow_add-at-then-a-lt128
+overflow_add-at-then-a-lt128 c = let r = ascii (goal.at.overflow_add-at-then-a-lt128 c).Else-step-ge-ODD in omega arith
+
+pub loop-at-smaller-then-a-lt128 : goal.loop-at-smaller-then-a-lt128
+loop-at-smaller-then-a-lt128 c = let r = ascii (goal.at.loop-at-smaller-then-a-lt128 c).Else-step-ge-ODD in omega arith
+
+pub loop-at-preserved-then-a-lt128 : goal.loop-at-preserved-then-a-lt128
+loop-at-preserved-then-a-lt128 c = (ascii (goal.at.loop-at-preserved-then-a-lt128 c).Else-step-ge-ODD).next _ c.start_at.ensures
+
+pub known_two-traits-requires : goal.known_two-traits-requires
+known_two-traits-requires c = record { fits = (c.requires.cached.fits, c.if-index-lt-BLOCKS.false); at_in_bounds = search rules }
+
+pub rule-step-requires-then-a-lt224 : goal.rule-step-requires-then-a-lt224
+rule-step-requires-then-a-lt224 c = record { rules_value = c.requires.rules_value; row_lt_rule_rows = (omega (arith, c.loop-at.invariant.small), c.known_two-traits.ensures.small) }
+
+pub start_at-requires-then-a-lt224 : goal.start_at-requires-then-a-lt224
+start_at-requires-then-a-lt224 c = let r = two c in (omega arith, r.small)
+
+pub overflow_add-starts-then-a-lt224 : goal.overflow_add-starts-then-a-lt224
+overflow_add-starts-then-a-lt224 c = let r = two (goal.at.overflow_add-starts-then-a-lt224 c).Else-step-ge-ODD-2 in omega arith
+
+pub offset_bounds-starts-k-then-a-lt224 : goal.offset_bounds-starts-k-then-a-lt224
+offset_bounds-starts-k-then-a-lt224 c = let r = two (goal.at.offset_bounds-starts-k-then-a-lt224 c).Else-step-ge-ODD-2 in omega arith
+
+pub bounds-starts-k-then-a-lt224 : goal.bounds-starts-k-then-a-lt224
+bounds-starts-k-then-a-lt224 c = (two (goal.at.bounds-starts-k-then-a-lt224 c).Else-step-ge-ODD-2).place
+
+pub overflow_add-k-then-a-lt224 : goal.overflow_add-k-then-a-lt224
+overflow_add-k-then-a-lt224 c = let r = two (goal.at.overflow_add-k-then-a-lt224 c).Else-step-ge-ODD-2 in omega arith
+
+pub overflow_add-at-then-a-lt224 : goal.overflow_add-at-then-a-lt224
+overflow_add-at-then-a-lt224 c = let r = two (goal.at.overflow_add-at-then-a-lt224 c).Else-step-ge-ODD-2 in omega arith
+
+pub loop-at-smaller-then-a-lt224 : goal.loop-at-smaller-then-a-lt224
+loop-at-smaller-then-a-lt224 c = let r = two (goal.at.loop-at-smaller-then-a-lt224 c).Else-step-ge-ODD-2 in omega arith
+
+pub loop-at-preserved-then-a-lt224 : goal.loop-at-preserved-then-a-lt224
+loop-at-preserved-then-a-lt224 c = (two (goal.at.loop-at-preserved-then-a-lt224 c).Else-step-ge-ODD-2).next _ c.start_at-then-a-lt224.ensures
+
+pub known_three-traits-requires : goal.known_three-traits-requires
+known_three-traits-requires c = record { fits = (c.requires.cached.fits, c.if-index-lt-BLOCKS.false); at_in_bounds = search rules }
+
+pub rule-step-requires-then-a-lt240 : goal.rule-step-requires-then-a-lt240
+rule-step-requires-then-a-lt240 c = record { rules_value = c.requires.rules_value; row_lt_rule_rows = (omega (arith, c.loop-at.invariant.small), c.known_three-traits.ensures.small) }
+
+pub start_at-requires-then-a-lt240 : goal.start_at-requires-then-a-lt240
+start_at-requires-then-a-lt240 c = let r = three c in (omega arith, r.small)
+
+pub overflow_add-starts-then-a-lt240 : goal.overflow_add-starts-then-a-lt240
+overflow_add-starts-then-a-lt240 c = let r = three (goal.at.overflow_add-starts-then-a-lt240 c).Else-step-ge-ODD-3 in omega arith
+
+pub offset_bounds-starts-k-then-a-lt240 : goal.offset_bounds-starts-k-then-a-lt240
+offset_bounds-starts-k-then-a-lt240 c = let r = three (goal.at.offset_bounds-starts-k-then-a-lt240 c).Else-step-ge-ODD-3 in omega arith
+
+pub bounds-starts-k-then-a-lt240 : goal.bounds-starts-k-then-a-lt240
+bounds-starts-k-then-a-lt240 c = (three (goal.at.bounds-starts-k-then-a-lt240 c).Else-step-ge-ODD-3).place
+
+pub overflow_add-k-then-a-lt240 : goal.overflow_add-k-then-a-lt240
+overflow_add-k-then-a-lt240 c = let r = three (goal.at.overflow_add-k-then-a-lt240 c).Else-step-ge-ODD-3 in omega arith
+
+pub overflow_add-at-then-a-lt240 : goal.overflow_add-at-then-a-lt240
+overflow_add-at-then-a-lt240 c = let r = three (goal.at.overflow_add-at-then-a-lt240 c).Else-step-ge-ODD-3 in omega arith
+
+pub loop-at-smaller-then-a-lt240 : goal.loop-at-smaller-then-a-lt240
+loop-at-smaller-then-a-lt240 c = let r = three (goal.at.loop-at-smaller-then-a-lt240 c).Else-step-ge-ODD-3 in omega arith
+
+pub loop-at-preserved-then-a-lt240 : goal.loop-at-preserved-then-a-lt240
+loop-at-preserved-then-a-lt240 c = (three (goal.at.loop-at-preserved-then-a-lt240 c).Else-step-ge-ODD-3).next _ c.start_at-then-a-lt240.ensures
+
+pub known_four-traits-requires : goal.known_four-traits-requires
+known_four-traits-requires c = record { fits = (c.requires.cached.fits, c.if-index-lt-BLOCKS.false); at_in_bounds = search rules }
+
+pub rule-step-requires-in-loop-at : goal.rule-step-requires-in-loop-at
+rule-step-requires-in-loop-at c = record { rules_value = c.requires.rules_value; row_lt_rule_rows = (omega (arith, c.loop-at.invariant.small), c.known_four-traits.ensures.small) }
+
+pub start_at-requires-in-loop-at : goal.start_at-requires-in-loop-at
+start_at-requires-in-loop-at c = let r = four c in (omega arith, r.small)
+
+pub overflow_add-starts-in-loop-at : goal.overflow_add-starts-in-loop-at
+overflow_add-starts-in-loop-at c = let r = four (goal.at.overflow_add-starts-in-loop-at c).Else-step-ge-ODD-4 in omega arith
+
+pub offset_bounds-starts-k-in-loop-at : goal.offset_bounds-starts-k-in-loop-at
+offset_bounds-starts-k-in-loop-at c = let r = four (goal.at.offset_bounds-starts-k-in-loop-at c).Else-step-ge-ODD-4 in omega arith
+
+pub bounds-starts-k-in-loop-at : goal.bounds-starts-k-in-loop-at
+bounds-starts-k-in-loop-at c = (four (goal.at.bounds-starts-k-in-loop-at c).Else-step-ge-ODD-4).place
+
+pub overflow_add-k-in-loop-at : goal.overflow_add-k-in-loop-at
+overflow_add-k-in-loop-at c = let r = four (goal.at.overflow_add-k-in-loop-at c).Else-step-ge-ODD-4 in omega arith
+
+pub overflow_add-at-in-loop-at : goal.overflow_add-at-in-loop-at
+overflow_add-at-in-loop-at c = let r = four (goal.at.overflow_add-at-in-loop-at c).Else-step-ge-ODD-4 in omega arith
+
+pub loop-at-smaller : goal.loop-at-smaller
+loop-at-smaller c = let r = four (goal.at.loop-at-smaller c).Else-step-ge-ODD-4 in omega arith
+
+pub loop-at-preserved : goal.loop-at-preserved
+loop-at-preserved c = (four (goal.at.loop-at-preserved c).Else-step-ge-ODD-4).next _ c.start_at-in-loop-at.ensures
+
+pub rule-requires : goal.rule-requires
+rule-requires c = record { rules_value = c.requires.rules_value; row_lt_rule_rows = (omega arith, c.loop-at.invariant.small) }
+
+pub overflow_cast-result : goal.overflow_cast-result
+overflow_cast-result c = omega (arith, c.rule.ensures ∙ rule_state _, c.loop-at.invariant.counting.less)
+
+pub overflow_add-result : goal.overflow_add-result
+overflow_add-result c = omega (arith, c.loop-at.invariant.fits, counting_few c.loop-at.invariant.counting)
+
+pub shape_of-starts : goal.shape_of-starts
+shape_of-starts c = c.loop-at.invariant.long
+
+pub returns : goal.returns
+returns c = (walk_ends _ _ _ c.loop-at.invariant (c.rule.ensures ∙ rule_state _) c.requires.marking.counting.memo, c.loop-at.invariant.on, omega (arith, c.loop-at.invariant.more, c.requires.marking.from), refl, c.loop-at.invariant.long)

@@ -1,0 +1,16 @@
+-- `turns::first_token` meets its contract. The loop's invariant: no token is complete. Assumes nothing.
+use Prim.Native.Nat.{◌-◌}
+use mathlib.Core.Path.{refl, ◌∙◌}
+use native.Mathlib.Omega.{arith}
+use borrow.Author.Rules.{rules}
+use lib.ListN.{length}
+use Rattle.character.specs.Read.{MemoOf}
+use Rattle.turns.proofs.ReachLaws.{Here, here, here_small, Look, at_ill, at_end}
+use Rattle.turns.proofs.FirstTokenLaws.{Searching, searching_begins, searching_less, first_ill, first_nothing, first_last, searching_on, searching_waits, first_ends}
+use Rattle.turns.proofs.first_token.Given as goal
+
+abbrev pub invariant-loop-at : goal.invariant-loop-at
+invariant-loop-at l = Searching l.image l.text l.state l.mid l.at × MemoOf l.image l.memo
+
+abbrev pub decreases-loop-at : goal.decreases-loop-at
+decreases-loop-at l = length l.text - l.at

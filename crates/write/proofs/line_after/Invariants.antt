@@ -1,0 +1,16 @@
+-- `write::line_after` meets its contract. The loop: `now` is the line at the place, and characters go from there to the end. Assumes nothing.
+use Prim.Native.Nat.{ℕ, ◌+◌, ◌-◌}
+use mathlib.Core.Path.{◌≡◌, refl, subst}
+use native.Mathlib.Omega.{arith}
+use borrow.Author.Rules.{rules}
+use Rattle.line.specs.Line.{LineAt}
+use Rattle.write.specs.Records.{Spans}
+use Rattle.write.proofs.SpanLaws.{span_rises, span_some, span_step, span_feed}
+use Rattle.line.proofs.LineLaws.{line_few}
+use Rattle.write.proofs.line_after.Given as goal
+
+abbrev pub invariant-loop-at : goal.invariant-loop-at
+invariant-loop-at l = (LineAt l.text l.at l.now) × (Spans l.text l.at l.end)
+
+abbrev pub decreases-loop-at : goal.decreases-loop-at
+decreases-loop-at l = l.end - l.at

@@ -1,0 +1,16 @@
+-- `write::put_records` meets its contract. The loop: k records more are written, and the line is that of the byte after them. Assumes nothing.
+use Prim.Native.Nat.{◌+◌, ◌-◌, ◌/◌, ◌≤◌}
+use mathlib.Core.Path.{◌≡◌, sym, ◌∙◌}
+use native.Mathlib.Omega.{arith}
+use lib.ListN.{length-take, length-drop}
+use borrow.Author.Rules.{rules}
+use Rattle.grammar.specs.Record.{record_size}
+use Rattle.turns.proofs.TableLaws.{after_at}
+use Rattle.write.proofs.WriteLaws.{Going, going_begins, going_ends, going_next, turn_lined, turn_spans, turn_short, turn_room, turn_stays}
+use Rattle.write.proofs.put_records.Given as goal
+
+abbrev pub invariant-loop-k : goal.invariant-loop-k
+invariant-loop-k l = (l.k ≤ l.n) × Going l.image l.text l.initial.out (l.initial.w / record_size) l.total l.out l.w l.line l.k
+
+abbrev pub decreases-loop-k : goal.decreases-loop-k
+decreases-loop-k l = l.n - l.k
