@@ -1,0 +1,12 @@
+-- `hashtag::find_run_end` meets its contract. Assumes nothing.
+use Prim.Native.Nat.{◌-◌}
+use lib.ListN.{length}
+use Rattle.character.specs.Read.{MemoOf}
+use Rattle.hashtag.proofs.SeekLaws.{Running}
+use Rattle.hashtag.proofs.find_run_end.Given as goal
+
+abbrev pub invariant-loop-at : goal.invariant-loop-at
+invariant-loop-at l = Running l.image l.text l.from l.at × MemoOf l.image l.memo
+
+abbrev pub decreases-loop-at : goal.decreases-loop-at
+decreases-loop-at l = length l.text - l.at

@@ -1,0 +1,12 @@
+-- `hashtag::seek_known` meets its contract. The loop's invariant: no hashtag begins in what was passed over, and the place is where a
+-- character begins, on this line. Assumes nothing.
+use Prim.Native.Nat.{◌-◌}
+use lib.ListN.{length}
+use Rattle.hashtag.proofs.KnownLaws.{Walked}
+use Rattle.hashtag.proofs.seek_known.Given as goal
+
+abbrev pub invariant-loop-at : goal.invariant-loop-at
+invariant-loop-at l = Walked l.image l.text l.from l.at l.line
+
+abbrev pub decreases-loop-at : goal.decreases-loop-at
+decreases-loop-at l = length l.text - l.at

@@ -1,0 +1,9 @@
+-- `hashtag::step_back` meets its contract. Assumes nothing.
+use Rattle.hashtag.proofs.KnownLaws.{Back}
+use Rattle.hashtag.proofs.step_back.Given as goal
+
+abbrev pub invariant-loop-at : goal.invariant-loop-at
+invariant-loop-at l = Back l.text l.from l.to l.at
+
+abbrev pub decreases-loop-at : goal.decreases-loop-at
+decreases-loop-at l = l.at

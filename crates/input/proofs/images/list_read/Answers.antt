@@ -1,0 +1,19 @@
+-- `input::images::list_read` meets its contract: no more of the input matters than is read. Assumes nothing.
+use mathlib.Core.Path.{◌∙◌}
+use native.Mathlib.Omega.{arith}
+use lib.ListN.{length-take}
+use Rattle.input.proofs.ImagesLaws.{whole_answer_lem}
+use borrow.Author.Rules.{rules}
+use Rattle.input.proofs.images.list_read.Goals as goal
+
+pub returns : goal.returns
+returns c =
+    record {
+      value = c.list_input.ensures.value;
+      by_index = λ whole h. c.list_input.ensures.value ∙ whole_answer_lem whole _ c.requires.max_image_in_bounds.0 _ h _ _ c.requires.max_image_in_bounds.1.0 c.requires.max_image_in_bounds.1.1;
+      runs_after = c.list_input.ensures.runs_after;
+      entries_after = c.list_input.ensures.entries_after;
+    }
+
+pub slice_bounds-list_input-end : goal.slice_bounds-list_input-end
+slice_bounds-list_input-end c = simp length-take (omega arith)
