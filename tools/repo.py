@@ -25,7 +25,7 @@ def asked(arguments):
     """The arguments of a crate's tool. From here on the folder is the repository's root."""
     given = arguments.parse_args()
     os.chdir(ROOT)
-    listed = re.findall(r'^(\w+):', (ROOT / 'crates.txt').read_text(), re.M)
+    listed = re.findall(r'^(\w+)(?: staticlib)?:', (ROOT / 'crates.txt').read_text(), re.M)
     if given.crate not in listed:
         arguments.error(f'crates.txt lists no crate {given.crate!r}; it lists: {" ".join(listed)}')
     if not shutil.which('rt'):
@@ -33,15 +33,15 @@ def asked(arguments):
     return given
 
 
-def rt(*words):
-    """Runs rt. Gives its exit status and all that it printed, with paths from the root."""
-    run = subprocess.run(['rt', *words], stdout=subprocess.PIPE, stderr=subprocess.STDOUT, text=True, env=dict(os.environ, RT_CUT='0'))
-    return run.returncode, run.stdout.replace(f'{ROOT}/', '')
+def rt(crate, *words):
+    """Runs rt in a crate's folder. Gives its exit status and all that it printed."""
+    run = subprocess.run(['rt', *words], cwd=ROOT / 'crates' / crate, stdout=subprocess.PIPE, stderr=subprocess.STDOUT, text=True)
+    return run.returncode, run.stdout
 
 
 def stop_if_unready(text):
     """Ends the tool where a crate below is not proved, since rt then does not look at the crate itself."""
-    unready = re.search(r'^rt: FAILED: *(\S+)', text, re.M)
+    unready = re.search(r'^rt: the library (\S+) did not build', text, re.M)
     if unready:
         raise SystemExit(f'{unready[1]}, on which the crate stands, is not proved; begin there: tools/proof-check {unready[1]}')
 
@@ -52,7 +52,7 @@ def is_error(line):
 
 def follows(line):
     """Whether an error says only that something it needs has an error or a hole."""
-    return 'was not admitted' in line
+    return 'was not admitted' in line or 'not checked' in line
 
 
 def cut(text, most):

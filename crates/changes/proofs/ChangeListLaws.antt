@@ -219,12 +219,12 @@ module _ {f g : ℕ → ℕ} where
         λ i. e i ∷ t i
 
 module _
-    (f g : ℕ → ℕ) (f-none : (x : ℕ) → is_scalar x ≡ false → f x ≡ 0) (g-none : (x : ℕ) → is_scalar x ≡ false → g x ≡ 0)
+    (f g : ℕ → ℕ) (f_none : (x : ℕ) → is_scalar x ≡ false → f x ≡ 0) (g_none : (x : ℕ) → is_scalar x ≡ false → g x ≡ 0)
   where
     -- only scalar values change
     pub changes_scalar : (x : ℕ) → (f x ≡ g x → ⊥) → (b : Bool) → is_scalar x ≡ b → b ≡ true
     changes_scalar x d true e = refl
-    changes_scalar x d false e = absurd (d (f-none x e ∙ sym (g-none x e)))
+    changes_scalar x d false e = absurd (d (f_none x e ∙ sym (g_none x e)))
 
     pub is_changed : {c : Change} → c.first ≤ c.last → ((x : ℕ) → Holds c x → Has f g c x) → (c.older ≡ c.newer → ⊥) → Changed f g c
     is_changed l h d =
@@ -240,7 +240,7 @@ module _
     past_all h =
         record {
           told = λ c m. absurd (Memᴰ.not-nil m);
-          covered = λ y u d. let e = means_scalar y false (past_last (omega arith)) in absurd (d (f-none y e ∙ sym (g-none y e)));
+          covered = λ y u d. let e = means_scalar y false (past_last (omega arith)) in absurd (d (f_none y e ∙ sym (g_none y e)));
           begins = λ c m. absurd (Memᴰ.not-nil m);
           rises = empty;
           whole = λ t. empty;

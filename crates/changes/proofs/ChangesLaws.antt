@@ -13,7 +13,7 @@ use Rattle.lists.proofs.BoolLaws.{and_left, and_right, and_in, impossible}
 use Rattle.utf8.specs.Scalar.{is_scalar}
 use Rattle.refusal.specs.declared.Refusal.TheVariants as refusal
 use Rattle.image.specs.Class.{class_named}
-use Rattle.image.specs.Permitted.{Permitted, same}
+use Rattle.image.specs.Permitted.{same}
 use Rattle.image.specs.Profile.{point_at}
 use Rattle.image.specs.Same.{SameProfile}
 use Rattle.image.specs.Accepted.{Accepted}
@@ -113,9 +113,9 @@ module _ {f g : ℕ → ℕ} where
   applied :
       {l : List Change} → AllChanges f g l → ((x : ℕ) → is_scalar x ≡ false → f x ≡ 0) → ((x : ℕ) → is_scalar x ≡ false → g x ≡ 0)
       → (x : ℕ) → changed_by l x (f x) ≡ g x
-  applied {l} a f-none g-none x =
+  applied {l} a f_none g_none x =
       changed_by_lem (λ (v : ℕ). v ≡ g x) l x (f x) (λ c m h. sym ((a.told c m).newer_is x h))
-      (λ n. stable (λ d. let (c, m, h) = a.covered x (changes_scalar f g f-none g-none x d _ refl) d in n c m h))
+      (λ n. stable (λ d. let (c, m, h) = a.covered x (changes_scalar f g f_none g_none x d _ refl) d in n c m h))
 
 module _ (older newer : List ℕ) (a : Accepted older) (b : Accepted newer) where
   -- the lists are what they should be, and no other lists are

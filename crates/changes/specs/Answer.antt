@@ -1,5 +1,5 @@
 -- What the list of changes answers, and what the two lent buffers then hold (docs/RULES.md, "What changed"; refusals 1 to 4 and 8).
--- `limit` is how many profile entries an image may have; the names without `Within` have the limit in force.
+-- `limit` is how many profile entries an image may have; the names without `_within` have the limit in force.
 --
 --   changes_of                          the list of each section: the runs, or the entries
 --   change_words, change_size            the words of a change in a section; how many they are
@@ -44,10 +44,10 @@ list_words section (c ∷ l) = change_words section c ++ list_words section l
 
 -- 8 carries the records needed; `Listed` holds the number of runs, then that of entries, as it is declared
 unfoldable pub listed_of : List ℕ → List ℕ → ℕ → ℕ → Changes
-listed_of older newer runWords entry_words =
+listed_of older newer run_words entry_words =
     let runs = length (runs_of older newer) in
     let entries = length (entries_of older newer) in
-    cond (ltb (runWords / change_size Ranges) runs) (changes.Refused (refusal.Room runs))
+    cond (ltb (run_words / change_size Ranges) runs) (changes.Refused (refusal.Room runs))
     (cond (ltb (entry_words / change_size Entries) entries) (changes.Refused (refusal.Room entries)) (changes.Listed runs entries))
 
 abbrev pub changes_by : Judged → Changes → Changes
@@ -56,11 +56,11 @@ changes_by (judged.Newer r) c = changes.Newer r
 changes_by judged.Accepted c = c
 
 unfoldable pub answer_within : ℕ → List ℕ → List ℕ → ℕ → ℕ → Changes
-answer_within limit older newer runWords entry_words =
-    changes_by (judged_by (refusal_within limit older) (refusal_within limit newer)) (listed_of older newer runWords entry_words)
+answer_within limit older newer run_words entry_words =
+    changes_by (judged_by (refusal_within limit older) (refusal_within limit newer)) (listed_of older newer run_words entry_words)
 
 abbrev pub answer_of : List ℕ → List ℕ → ℕ → ℕ → Changes
-answer_of older newer runWords entry_words = answer_within max_entries older newer runWords entry_words
+answer_of older newer run_words entry_words = answer_within max_entries older newer run_words entry_words
 
 -- the list at its front, and past it what was there; a refusal leaves it as it was
 abbrev pub words_by : Changes → List ℕ → List ℕ → List ℕ

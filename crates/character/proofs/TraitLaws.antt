@@ -12,7 +12,7 @@ use Rattle.lists.proofs.BoolLaws.{impossible}
 use Rattle.image.specs.Class.{Class, White, class_named}
 use Rattle.image.specs.Check.{refusal_of, class_of, medial_of, hashtag_of}
 use Rattle.image.proofs.SectionLaws.{class_of_known}
-use Rattle.grammar.specs.White.{WhiteKind, blank, lineEnd, mark, white_of}
+use Rattle.grammar.specs.White.{WhiteKind, blank, line_end, mark, white_of}
 use Rattle.character.specs.Traits.{white_part, class_part, medial_part, hashtag_part, token_traits, traits_of, part_class, part_white}
 
 -- the part p tells the class a and, if that is White, its kind w
@@ -23,7 +23,7 @@ record Told (a : Class) (w : WhiteKind) (p : ℕ) : Type 0 where
 
 white_told : (w : WhiteKind) → Told White w (white_part w)
 white_told blank = record { small = omega arith; class = refl; white = λ e. refl }
-white_told lineEnd = record { small = omega arith; class = refl; white = λ e. refl }
+white_told line_end = record { small = omega arith; class = refl; white = λ e. refl }
 white_told mark = record { small = omega arith; class = refl; white = λ e. refl }
 
 part_told : (k x : ℕ) → k ≤ 5 → Told (class_named k) (white_of x) (class_part k x)

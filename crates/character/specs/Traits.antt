@@ -3,12 +3,12 @@
 use Rattle.std.specs.Prelude.{ℕ, ◌+◌, Bool, true, false, cond, List, leb, eqb}
 use Rattle.image.specs.Class.{Class, White, class_number, class_named}
 use Rattle.image.specs.Check.{class_of, medial_of, hashtag_of}
-use Rattle.grammar.specs.White.{WhiteKind, blank, lineEnd, mark, white_of}
+use Rattle.grammar.specs.White.{WhiteKind, blank, line_end, mark, white_of}
 
 -- a class as a part of traits: its number, but for White one for each of its kinds
 abbrev pub white_part : WhiteKind → ℕ
 white_part blank = 4
-white_part lineEnd = 6
+white_part line_end = 6
 white_part mark = 7
 
 unfoldable pub class_part : ℕ → ℕ → ℕ
@@ -35,4 +35,4 @@ abbrev pub part_class : ℕ → Class
 part_class n = cond (leb 6 n) White (class_named n)
 
 abbrev pub part_white : ℕ → WhiteKind
-part_white n = cond (eqb n 6) lineEnd (cond (eqb n 7) mark blank)
+part_white n = cond (eqb n 6) line_end (cond (eqb n 7) mark blank)

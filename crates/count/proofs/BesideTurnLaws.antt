@@ -8,59 +8,59 @@ use native.Mathlib.Omega.{arith}
 use lib.Dec.{leb}
 use borrow.Author.Tests.{eq-eqb, ne_eqb}
 use Rattle.lists.proofs.BoolLaws.{impossible}
-use Rattle.grammar.specs.White.{blank, lineEnd, mark}
+use Rattle.grammar.specs.White.{blank, line_end, mark}
 use Rattle.grammar.specs.Grammar.{Kind, identifier, syntax, whitespace}
 use Rattle.grammar.specs.Kinds.{kind_number, kind_of, goes_with}
-use Rattle.grammar.specs.Beside.{View, other, afterIdentifier, next_view, parted_by, refused_by, either}
+use Rattle.grammar.specs.Beside.{View, other, after_identifier, next_view, parted_by, refused_by, either}
 use Rattle.turns.specs.Turns.{waiting, trait_meaning, begun_by, turn_by, turn_of}
 use Rattle.turns.proofs.TurnLaws.{phase_waits}
-use Rattle.count.specs.Turns.{Side, free, ofIdentifier, ofMedial, ofIdentifierMark, ofMedialMark, ofMarkMedial, placed, side_named, plain_of, view_by, beside_by, goes_by, count_turn_by, state_for, count_waiting, refused_beside}
+use Rattle.count.specs.Turns.{Side, free, of_identifier, of_medial, of_identifier_mark, of_medial_mark, of_mark_medial, placed, side_named, plain_of, view_by, beside_by, goes_by, count_turn_by, state_for, count_waiting, refused_beside}
 use Rattle.count.specs.Counting.{RefusedAt}
 
 -- the view of a token beside which no mark stands
 abbrev pub plain_view : Kind → View
-plain_view identifier = afterIdentifier
+plain_view identifier = after_identifier
 plain_view syntax = other
 plain_view (whitespace w) = other
 
 -- what the turn of a token that begins tells: d stands before it, with its mark at byte q
 pub data Beside (d : Side) (q : ℕ) (k : Kind) (b : Bool) : ℕ → Type 0 where
   apart : ((p : ℕ) → next_view (placed d q) p k b ≡ plain_view k) → refused_by (placed d q) k ≡ none → Beside d q k b 1
-  marks : k ≡ whitespace mark → (d ≡ ofIdentifier) ⊎ (d ≡ ofMedial) → Beside d q k b 5
-  links : k ≡ syntax → b ≡ true → d ≡ ofIdentifierMark → Beside d q k b 6
+  marks : k ≡ whitespace mark → (d ≡ of_identifier) ⊎ (d ≡ of_medial) → Beside d q k b 5
+  links : k ≡ syntax → b ≡ true → d ≡ of_identifier_mark → Beside d q k b 6
   joins : k ≡ identifier → parted_by (placed d q) ≡ some q → Beside d q k b 7
-  waits : d ≡ ofIdentifier → k ≡ syntax → b ≡ true → Beside d q k b 9
+  waits : d ≡ of_identifier → k ≡ syntax → b ≡ true → Beside d q k b 9
 
 beside_identifier : (d : Side) (q : ℕ) (b : Bool) → Beside d q identifier b (beside_by d identifier b)
 beside_identifier free q b = apart (λ p. refl) refl
-beside_identifier ofIdentifier q b = apart (λ p. refl) refl
-beside_identifier ofMedial q b = apart (λ p. refl) refl
-beside_identifier ofIdentifierMark q b = joins refl refl
-beside_identifier ofMedialMark q b = joins refl refl
-beside_identifier ofMarkMedial q b = joins refl refl
+beside_identifier of_identifier q b = apart (λ p. refl) refl
+beside_identifier of_medial q b = apart (λ p. refl) refl
+beside_identifier of_identifier_mark q b = joins refl refl
+beside_identifier of_medial_mark q b = joins refl refl
+beside_identifier of_mark_medial q b = joins refl refl
 
 beside_medial : (d : Side) (q : ℕ) → Beside d q syntax true (beside_by d syntax true)
 beside_medial free q = apart (λ p. refl) refl
-beside_medial ofIdentifier q = waits refl refl refl
-beside_medial ofMedial q = apart (λ p. refl) refl
-beside_medial ofIdentifierMark q = links refl refl refl
-beside_medial ofMedialMark q = apart (λ p. refl) refl
-beside_medial ofMarkMedial q = apart (λ p. refl) refl
+beside_medial of_identifier q = waits refl refl refl
+beside_medial of_medial q = apart (λ p. refl) refl
+beside_medial of_identifier_mark q = links refl refl refl
+beside_medial of_medial_mark q = apart (λ p. refl) refl
+beside_medial of_mark_medial q = apart (λ p. refl) refl
 
 beside_mark : (d : Side) (q : ℕ) (b : Bool) → Beside d q (whitespace mark) b (beside_by d (whitespace mark) b)
 beside_mark free q b = apart (λ p. refl) refl
-beside_mark ofIdentifier q b = marks refl (inl refl)
-beside_mark ofMedial q b = marks refl (inr refl)
-beside_mark ofIdentifierMark q b = apart (λ p. refl) refl
-beside_mark ofMedialMark q b = apart (λ p. refl) refl
-beside_mark ofMarkMedial q b = apart (λ p. refl) refl
+beside_mark of_identifier q b = marks refl (inl refl)
+beside_mark of_medial q b = marks refl (inr refl)
+beside_mark of_identifier_mark q b = apart (λ p. refl) refl
+beside_mark of_medial_mark q b = apart (λ p. refl) refl
+beside_mark of_mark_medial q b = apart (λ p. refl) refl
 
 beside : (d : Side) (q : ℕ) (k : Kind) (b : Bool) → Beside d q k b (beside_by d k b)
 beside d q identifier b = beside_identifier d q b
 beside d q syntax true = beside_medial d q
 beside d q syntax false = apart (λ p. refl) refl
 beside d q (whitespace blank) b = apart (λ p. refl) refl
-beside d q (whitespace lineEnd) b = apart (λ p. refl) refl
+beside d q (whitespace line_end) b = apart (λ p. refl) refl
 beside d q (whitespace mark) b = beside_mark d q b
 
 -- what a turn of counting tells, where n is the turn in `turns` and o the kind of token that the character begins
@@ -75,11 +75,11 @@ pub data Told (d : Side) (q : ℕ) (b : Bool) : ℕ → Option Kind → ℕ → 
 
 told_goes : (d : Side) (q : ℕ) (b : Bool) (o : Option Kind) → Told d q b 0 o (goes_by d)
 told_goes free q b o = goes refl
-told_goes ofIdentifier q b o = goes refl
-told_goes ofMedial q b o = goes refl
-told_goes ofIdentifierMark q b o = stays refl
-told_goes ofMedialMark q b o = stays refl
-told_goes ofMarkMedial q b o = goes refl
+told_goes of_identifier q b o = goes refl
+told_goes of_medial q b o = goes refl
+told_goes of_identifier_mark q b o = stays refl
+told_goes of_medial_mark q b o = stays refl
+told_goes of_mark_medial q b o = goes refl
 
 pub told : (d : Side) (q : ℕ) (b : Bool) (n : ℕ) (o : Option Kind) → Told d q b n o (count_turn_by d n o b)
 told d q b zero o = told_goes d q b o
@@ -108,21 +108,21 @@ pub plain_state : (k : Kind) → plain_of (state_for (kind_number k)) ≡ kind_n
 plain_state identifier = refl
 plain_state syntax = refl
 plain_state (whitespace blank) = refl
-plain_state (whitespace lineEnd) = refl
+plain_state (whitespace line_end) = refl
 plain_state (whitespace mark) = refl
 
 pub plain_side : (k : Kind) (q : ℕ) → view_by (state_for (kind_number k)) q ≡ plain_view k
 plain_side identifier q = refl
 plain_side syntax q = refl
 plain_side (whitespace blank) q = refl
-plain_side (whitespace lineEnd) q = refl
+plain_side (whitespace line_end) q = refl
 plain_side (whitespace mark) q = refl
 
 pub state_less : (k : Kind) → state_for (kind_number k) < count_waiting
 state_less identifier = omega arith
 state_less syntax = omega arith
 state_less (whitespace blank) = omega arith
-state_less (whitespace lineEnd) = omega arith
+state_less (whitespace line_end) = omega arith
 state_less (whitespace mark) = omega arith
 
 -- those of a medial after an identifier that stands for itself
@@ -130,23 +130,23 @@ pub settled_state : (k : Kind) → plain_of (kind_number k) ≡ kind_number k
 settled_state identifier = refl
 settled_state syntax = refl
 settled_state (whitespace blank) = refl
-settled_state (whitespace lineEnd) = refl
+settled_state (whitespace line_end) = refl
 settled_state (whitespace mark) = refl
 
-pub settled_view : (k : Kind) (q : ℕ) → view_by (kind_number k) q ≡ next_view afterIdentifier q k true
+pub settled_view : (k : Kind) (q : ℕ) → view_by (kind_number k) q ≡ next_view after_identifier q k true
 settled_view identifier q = refl
 settled_view syntax q = refl
 settled_view (whitespace blank) q = refl
-settled_view (whitespace lineEnd) q = refl
+settled_view (whitespace line_end) q = refl
 settled_view (whitespace mark) q = refl
 
 -- the numbers of states: those that wait, and those of some sides
 pub record Stated (n : ℕ) : Type 0 where
-  pub waits : count_waiting ≤ n → (plain_of n ≡ n - 4) × (side_named n ≡ ofIdentifier)
+  pub waits : count_waiting ≤ n → (plain_of n ≡ n - 4) × (side_named n ≡ of_identifier)
   pub plain : waiting ≤ plain_of n → count_waiting ≤ n
   pub nothing : plain_of n ≡ 0 → n ≡ 0
-  pub identifier : n < count_waiting → side_named n ≡ ofIdentifier → n ≡ 1
-  pub medial : side_named n ≡ ofMedial → n ≡ 2
+  pub identifier : n < count_waiting → side_named n ≡ of_identifier → n ≡ 1
+  pub medial : side_named n ≡ of_medial → n ≡ 2
   pub marked : goes_by (side_named n) ≡ 4 → plain_of n ≡ kind_number (whitespace mark)
 
 pub stated : (n : ℕ) → Stated n

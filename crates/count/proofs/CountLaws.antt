@@ -19,7 +19,7 @@ use Rattle.utf8.specs.declared.Text.TheVariants as form
 use Rattle.utf8.specs.Head.{IllHead}
 use Rattle.utf8.specs.Text.{Character, decode, text_of, shift, characters_at}
 use Rattle.utf8.proofs.TextLaws.{text_ill, end_here}
-use Rattle.grammar.specs.White.{blank, lineEnd, mark}
+use Rattle.grammar.specs.White.{blank, line_end, mark}
 use Rattle.grammar.specs.Scan.{units_of}
 use Rattle.grammar.specs.Step.{idle, under, held, tok, under_way_of, preceded, tokens_left, settle, finish}
 use Rattle.grammar.specs.Division.{Division}
@@ -28,7 +28,7 @@ use Rattle.grammar.specs.Grammar.{Kind, identifier, syntax, whitespace, Token}
 use Rattle.grammar.specs.Kinds.{kind_number, kind_of}
 use Rattle.grammar.specs.Record.{tokens_width}
 use Rattle.grammar.specs.Second.{first_refused}
-use Rattle.grammar.specs.Beside.{View, other, afterIdentifier, afterMedial, markAfterIdentifier, markAfterMedial, medialAfterMark, next_view, marked_view, refused_by, either, medial_first, refused_from}
+use Rattle.grammar.specs.Beside.{View, other, after_identifier, after_medial, mark_after_identifier, mark_after_medial, medial_after_mark, next_view, marked_view, refused_by, either, medial_first, refused_from}
 use Rattle.grammar.specs.Reading.{meaning_of, reading_of, tokens_of, form_refusal_by, mark_refusal_by, mark_refusal, judged}
 use Rattle.grammar.proofs.DivisionLaws.{division_covers}
 use Rattle.grammar.proofs.GrammarLaws.{tokens_divide}
@@ -41,7 +41,7 @@ use Rattle.grammar.specs.Reading.{read_through}
 use Rattle.grammar.specs.Counted.{counted_by, count_through, stop_refusal}
 use Rattle.turns.proofs.TurnLaws.{Tokens, Under, L, Stands, kind_less, number_less, Going, Comes, first, grown, passed, begun, done_by, left}
 use Rattle.turns.proofs.ReachLaws.{Place, Look, at_end, Reached, reached_begins, After, complete_few, after_settling, left_settled, settles_none, read_end, after_turn, after_waiting, settles_here, left_here}
-use Rattle.count.specs.Turns.{Side, free, ofIdentifier, ofMedial, ofIdentifierMark, ofMedialMark, ofMarkMedial, placed, side_named, plain_of, view_by, goes_by, count_turn_of, count_waiting, count_states, count_after_of, count_waiting_of, count_pending_of, count_beside, state_beside, mark_beside, refused_beside, state_for}
+use Rattle.count.specs.Turns.{Side, free, of_identifier, of_medial, of_identifier_mark, of_medial_mark, of_mark_medial, placed, side_named, plain_of, view_by, goes_by, count_turn_of, count_waiting, count_states, count_after_of, count_waiting_of, count_pending_of, count_beside, state_beside, mark_beside, refused_beside, state_for}
 use Rattle.count.specs.Counting.{RefusedAt, Seen, Counting, CountingAs, CountLook, finished_by}
 use Rattle.count.specs.declared.Run.{Run}
 use Rattle.count.proofs.BesideTurnLaws.{plain_view, Told, goes, stays, begins, begins_none, waits, settles, stops, told, told_same, apart, marks, links, joins, plain_state, plain_side, state_less, settled_state, settled_view, stated, waits_turn, identifier_turn, refused_more}
@@ -106,33 +106,33 @@ seen_grown s text ts k u v {state} {q} {refused} n i =
 -- the view of a token that goes on and isn't a mark that may be refused
 abbrev may_mark : View → Bool
 may_mark other = true
-may_mark afterIdentifier = false
-may_mark afterMedial = false
-may_mark (markAfterIdentifier q) = true
-may_mark (markAfterMedial q) = true
-may_mark (medialAfterMark q) = false
+may_mark after_identifier = false
+may_mark after_medial = false
+may_mark (mark_after_identifier q) = true
+may_mark (mark_after_medial q) = true
+may_mark (medial_after_mark q) = false
 
 marked_may : (v : View) (p : ℕ) → may_mark (marked_view v p) ≡ true
 marked_may other p = refl
-marked_may afterIdentifier p = refl
-marked_may afterMedial p = refl
-marked_may (markAfterIdentifier q) p = refl
-marked_may (markAfterMedial q) p = refl
-marked_may (medialAfterMark q) p = refl
+marked_may after_identifier p = refl
+marked_may after_medial p = refl
+marked_may (mark_after_identifier q) p = refl
+marked_may (mark_after_medial q) p = refl
+marked_may (medial_after_mark q) p = refl
 
 side_plain : (d : Side) (q : ℕ) → goes_by d ≡ 0 → may_mark (placed d q) ≡ true → placed d q ≡ other
 side_plain free q g e = refl
-side_plain ofIdentifier q g e = absurd (false≢true e)
-side_plain ofMedial q g e = absurd (false≢true e)
-side_plain ofIdentifierMark q g e = absurd (omega arith)
-side_plain ofMedialMark q g e = absurd (omega arith)
-side_plain ofMarkMedial q g e = absurd (false≢true e)
+side_plain of_identifier q g e = absurd (false≢true e)
+side_plain of_medial q g e = absurd (false≢true e)
+side_plain of_identifier_mark q g e = absurd (omega arith)
+side_plain of_medial_mark q g e = absurd (omega arith)
+side_plain of_mark_medial q g e = absurd (false≢true e)
 
 plain_next : (v : View) (p : ℕ) (k : Kind) (b : Bool) (n q : ℕ) → (k ≡ syntax → ⊥) → goes_by (side_named n) ≡ 0 → view_by n q ≡ next_view v p k b → view_by n q ≡ plain_view k
 plain_next v p identifier b n q h g e = e
 plain_next v p syntax b n q h g e = absurd (h refl)
 plain_next v p (whitespace blank) b n q h g e = e
-plain_next v p (whitespace lineEnd) b n q h g e = e
+plain_next v p (whitespace line_end) b n q h g e = e
 plain_next v p (whitespace mark) b n q h g e = side_plain (side_named n) q g (ap may_mark e ∙ marked_may v p)
 
 other_next : (p : ℕ) (k : Kind) (b : Bool) → next_view other p k b ≡ plain_view k
@@ -140,7 +140,7 @@ other_next p identifier b = refl
 other_next p syntax true = refl
 other_next p syntax false = refl
 other_next p (whitespace blank) b = refl
-other_next p (whitespace lineEnd) b = refl
+other_next p (whitespace line_end) b = refl
 other_next p (whitespace mark) b = refl
 
 other_refuses : (k : Kind) → refused_by other k ≡ none
@@ -148,7 +148,7 @@ other_refuses identifier = refl
 other_refuses syntax = refl
 other_refuses (whitespace w) = refl
 
-identifier_refuses : (k : Kind) → refused_by afterIdentifier k ≡ none
+identifier_refuses : (k : Kind) → refused_by after_identifier k ≡ none
 identifier_refuses identifier = refl
 identifier_refuses syntax = refl
 identifier_refuses (whitespace w) = refl
@@ -171,7 +171,7 @@ module _ {s text : List ℕ} {ts ts' : Tokens} {state q refused mid at n mid' at
       let f : k ≡ identifier = h.stands.3 in
       let x = seen_grown s text ts k u v (λ z. impossible (cc)) i in
       let w = sym (view_snoc (M s) ts (tok k v) ∙ ap (λ j. next_view (view_of (M s) ts) (tokens_width ts) j (medial_first (M s) v)) f) in
-      let e : view_by (state_for n) q ≡ afterIdentifier = ap (λ (m : ℕ). view_by (state_for m) q) h'.stands.0 ∙ plain_side k q ∙ ap plain_view f in
+      let e : view_by (state_for n) q ≡ after_identifier = ap (λ (m : ℕ). view_by (state_for m) q) h'.stands.0 ∙ plain_side k q ∙ ap plain_view f in
       subst (λ z. Seen s text (z ++ tok k v ∷ []) (state_for n) q refused) (sym (append-nil ts)) (record { view = e ∙ w; first = x.first })
 
   -- .. or a mark goes on that may be refused
@@ -192,10 +192,10 @@ begun_of : {s : List ℕ} {q₀ next : Under} {o : Option Kind} {b : Bool} → C
 begun_of (begun {k = j} {u = u} e f) k g = let z : j ≡ k = cc in record { units = u; is = ap (λ i. under i u) z; medial = f }
 
 -- while a medial waits, an identifier stands before it
-waits_identifier : {s text : List ℕ} {n mid at : ℕ} {ts : Tokens} {q₀ : Under} → Reached s text n mid at ts q₀ → waiting ≤ n → view_of (M s) (ts ++ under_way_of q₀) ≡ afterIdentifier
+waits_identifier : {s text : List ℕ} {n mid at : ℕ} {ts : Tokens} {q₀ : Under} → Reached s text n mid at ts q₀ → waiting ≤ n → view_of (M s) (ts ++ under_way_of q₀) ≡ after_identifier
 waits_identifier {s} {n = n} {mid = mid} {at = at} {ts = ts} {q₀ = q₀} i h = go q₀ i.stands
   where
-    go : (p : Under) → Stands s p n (tokens_width ts) mid at → view_of (M s) (ts ++ under_way_of p) ≡ afterIdentifier
+    go : (p : Under) → Stands s p n (tokens_width ts) mid at → view_of (M s) (ts ++ under_way_of p) ≡ after_identifier
     go idle e = absurd (omega (arith, e.0))
     go (under k u) e = absurd (omega (arith, e.0, kind_less k))
     go (held k u d) e = view_snoc (M s) ts (tok k u) ∙ ap (λ j. next_view (view_of (M s) ts) (tokens_width ts) j (medial_first (M s) u)) e.3
@@ -287,7 +287,7 @@ module _ {s text : List ℕ} {state count start mid q refused at : ℕ} (i : Cou
         let (p, d) = (stated state).waits w in
         let (j, e, a) = after_settling i.reached h (omega arith) (λ z. n (omega arith)) in
         let m : state - count_waiting ≡ kind_number j = omega arith in
-        let v : view_by state q ≡ afterIdentifier = ap (λ d. placed d q) d in
+        let v : view_by state q ≡ after_identifier = ap (λ d. placed d q) d in
         counting_by a (state - count_waiting) mid refused (ap plain_of m ∙ settled_state j ∙ omega (arith, e)) (omega (arith, kind_less j)) (waits_before i.reached (omega arith))
         (began_seen a j refl (state - count_waiting) mid (ap (λ v. refused_by v j) v ∙ identifier_refuses j)
         (ap (λ (n : ℕ). view_by n mid) m ∙ settled_view j mid ∙ (λ l. next_view (sym v l) (a.began l) j true)))

@@ -3,23 +3,23 @@
 -- `proofs/CountLaws.antt` join them to the steps of `grammar` and to its local test of marks.
 use Rattle.std.specs.Prelude.{ℕ, zero, suc, ◌+◌, Bool, cond, leb, ltb, eqb}
 use Rattle.std.proofs.Math.Option.{Option, none, some}
-use Rattle.grammar.specs.White.{WhiteKind, blank, lineEnd, mark}
+use Rattle.grammar.specs.White.{WhiteKind, blank, line_end, mark}
 use Rattle.grammar.specs.Grammar.{Kind, identifier, syntax, whitespace}
 use Rattle.grammar.specs.Kinds.{kind_of}
-use Rattle.grammar.specs.Beside.{View, other, afterIdentifier, afterMedial, markAfterIdentifier, markAfterMedial, medialAfterMark}
+use Rattle.grammar.specs.Beside.{View, other, after_identifier, after_medial, mark_after_identifier, mark_after_medial, medial_after_mark}
 use Rattle.turns.specs.Turns.{waiting, number_by, trait_meaning, turn_of, after_of}
 
 -- what stands before a place, as far as a mark could part it: a view without its byte
 pub data Side : Type 0 where
-  free ofIdentifier ofMedial ofIdentifierMark ofMedialMark ofMarkMedial : Side
+  free of_identifier of_medial of_identifier_mark of_medial_mark of_mark_medial : Side
 
 abbrev pub placed : Side → ℕ → View
 placed free q = other
-placed ofIdentifier q = afterIdentifier
-placed ofMedial q = afterMedial
-placed ofIdentifierMark q = markAfterIdentifier q
-placed ofMedialMark q = markAfterMedial q
-placed ofMarkMedial q = medialAfterMark q
+placed of_identifier q = after_identifier
+placed of_medial q = after_medial
+placed of_identifier_mark q = mark_after_identifier q
+placed of_medial_mark q = mark_after_medial q
+placed of_mark_medial q = medial_after_mark q
 
 -- a state's number: 0 to 9, or `count_waiting` and the state that a medial begins which waits after an identifier
 abbrev pub count_waiting : ℕ
@@ -30,16 +30,16 @@ count_states = 16
 
 abbrev pub side_named : ℕ → Side
 side_named zero = free
-side_named (suc zero) = ofIdentifier
-side_named (suc (suc zero)) = ofMedial
+side_named (suc zero) = of_identifier
+side_named (suc (suc zero)) = of_medial
 side_named (suc (suc (suc zero))) = free
 side_named (suc (suc (suc (suc zero)))) = free
-side_named (suc (suc (suc (suc (suc zero))))) = ofIdentifierMark
+side_named (suc (suc (suc (suc (suc zero))))) = of_identifier_mark
 side_named (suc (suc (suc (suc (suc (suc zero)))))) = free
 side_named (suc (suc (suc (suc (suc (suc (suc zero))))))) = free
-side_named (suc (suc (suc (suc (suc (suc (suc (suc zero)))))))) = ofMedialMark
-side_named (suc (suc (suc (suc (suc (suc (suc (suc (suc zero))))))))) = ofMarkMedial
-side_named (suc (suc (suc (suc (suc (suc (suc (suc (suc (suc n)))))))))) = ofIdentifier
+side_named (suc (suc (suc (suc (suc (suc (suc (suc zero)))))))) = of_medial_mark
+side_named (suc (suc (suc (suc (suc (suc (suc (suc (suc zero))))))))) = of_mark_medial
+side_named (suc (suc (suc (suc (suc (suc (suc (suc (suc (suc n)))))))))) = of_identifier
 
 -- .. and the state in which `turns` is
 abbrev pub plain_of : ℕ → ℕ
@@ -62,31 +62,31 @@ view_by n q = placed (side_named n) q
 -- part something, 5; a medial Syntax follows such a mark, 6; an identifier makes it refused, 7. A medial after an identifier waits: 9 is none
 abbrev pub identifier_turn : Side → ℕ
 identifier_turn free = 1
-identifier_turn ofIdentifier = 1
-identifier_turn ofMedial = 1
-identifier_turn ofIdentifierMark = 7
-identifier_turn ofMedialMark = 7
-identifier_turn ofMarkMedial = 7
+identifier_turn of_identifier = 1
+identifier_turn of_medial = 1
+identifier_turn of_identifier_mark = 7
+identifier_turn of_medial_mark = 7
+identifier_turn of_mark_medial = 7
 
 abbrev pub medial_turn : Side → ℕ
 medial_turn free = 1
-medial_turn ofIdentifier = 9
-medial_turn ofMedial = 1
-medial_turn ofIdentifierMark = 6
-medial_turn ofMedialMark = 1
-medial_turn ofMarkMedial = 1
+medial_turn of_identifier = 9
+medial_turn of_medial = 1
+medial_turn of_identifier_mark = 6
+medial_turn of_medial_mark = 1
+medial_turn of_mark_medial = 1
 
 abbrev pub mark_turn : Side → ℕ
 mark_turn free = 1
-mark_turn ofIdentifier = 5
-mark_turn ofMedial = 5
-mark_turn ofIdentifierMark = 1
-mark_turn ofMedialMark = 1
-mark_turn ofMarkMedial = 1
+mark_turn of_identifier = 5
+mark_turn of_medial = 5
+mark_turn of_identifier_mark = 1
+mark_turn of_medial_mark = 1
+mark_turn of_mark_medial = 1
 
 abbrev pub white_turn : Side → WhiteKind → ℕ
 white_turn d blank = 1
-white_turn d lineEnd = 1
+white_turn d line_end = 1
 white_turn d mark = mark_turn d
 
 abbrev pub beside_by : Side → Kind → Bool → ℕ
@@ -101,11 +101,11 @@ begins_by d (some k) b = beside_by d k b
 -- the turn of a token that goes on: a mark that may be refused stays what it is, 4
 abbrev pub goes_by : Side → ℕ
 goes_by free = 0
-goes_by ofIdentifier = 0
-goes_by ofMedial = 0
-goes_by ofIdentifierMark = 4
-goes_by ofMedialMark = 4
-goes_by ofMarkMedial = 0
+goes_by of_identifier = 0
+goes_by of_medial = 0
+goes_by of_identifier_mark = 4
+goes_by of_medial_mark = 4
+goes_by of_mark_medial = 0
 
 -- by the turn in `turns`, the kind of token that the character begins, and whether it is a medial; no token begins, 8
 abbrev pub count_turn_by : Side → ℕ → Option Kind → Bool → ℕ

@@ -145,22 +145,22 @@ module _ (older newer text : List ℕ) (L : Later older newer) where
       others : {r : Refusal} → ((p : ℕ) → r ≡ Characters p → ⊥) → CountMeans older text (refused r) → CountMeans newer text (refused r)
       others n (count_refuses x) = count_refuses (refused_other n x)
 
-  module _ (out newOut : List ℕ) (room : room_of (length newOut) ≡ room_of (length out)) where
-    writing : Promise older newer text (list_of older text (length out)) (list_of newer text (length newOut))
+  module _ (out new_out : List ℕ) (room : room_of (length new_out) ≡ room_of (length out)) where
+    writing : Promise older newer text (list_of older text (length out)) (list_of newer text (length new_out))
     writing =
         record {
-          accepted = λ n e. means_list newer text (length newOut) (given n) (accepted (list_means older text (length out) (given n) e));
-          characters = λ p e. ⊎_map (λ x. means_list newer text (length newOut) _ (list_refuses x)) (λ x. x) (characters (list_means older text (length out) _ e));
-          others = λ r e n. means_list newer text (length newOut) _ (others n (list_means older text (length out) _ e));
+          accepted = λ n e. means_list newer text (length new_out) (given n) (accepted (list_means older text (length out) (given n) e));
+          characters = λ p e. ⊎_map (λ x. means_list newer text (length new_out) _ (list_refuses x)) (λ x. x) (characters (list_means older text (length out) _ e));
+          others = λ r e n. means_list newer text (length new_out) _ (others n (list_means older text (length out) _ e));
         }
       where
-        accepted : {n : ℕ} → ListMeans older text (length out) (given n) → ListMeans newer text (length newOut) (given n)
+        accepted : {n : ℕ} → ListMeans older text (length out) (given n) → ListMeans newer text (length new_out) (given n)
         accepted (lists d m n h) = lists (divided_stable tt d) (unmarked d m) n (rw room h)
 
         characters : {p : ℕ} → ListMeans older text (length out) (refused (Characters p)) → Refuses newer text (Characters p) ⊎ Excepted older newer text p
         characters (list_refuses x) = refused_characters x
 
-        others : {r : Refusal} → ((p : ℕ) → r ≡ Characters p → ⊥) → ListMeans older text (length out) (refused r) → ListMeans newer text (length newOut) (refused r)
+        others : {r : Refusal} → ((p : ℕ) → r ≡ Characters p → ⊥) → ListMeans older text (length out) (refused r) → ListMeans newer text (length new_out) (refused r)
         others n (no_room d m k h) = no_room (divided_stable tt d) (unmarked d m) k (rw room h)
         others n (list_refuses x) = list_refuses (refused_other n x)
 
@@ -169,23 +169,23 @@ module _ (older newer text : List ℕ) (L : Later older newer) where
     front buffer ts n l =
         take_at (listed_words text ts) (drop (0 + length (listed_words text ts)) buffer) (record_size * n) (length_listed text ts ∙ ap (λ (k : ℕ). record_size * k) l)
 
-    same_list_lem : (n : ℕ) → list_of older text (length out) ≡ given n → list_in n (list_words newer text newOut) ≡ list_in n (list_words older text out)
+    same_list_lem : (n : ℕ) → list_of older text (length out) ≡ given n → list_in n (list_words newer text new_out) ≡ list_in n (list_words older text out)
     same_list_lem n e =
         let (ts, d, l, w) = list_written older text out n e in
-        let (us, f, k, v) = list_written newer text newOut n (writing.accepted n e) in
+        let (us, f, k, v) = list_written newer text new_out n (writing.accepted n e) in
         let u = (divided_unique f (divided_stable tt d)).0 in
-        ap (list_in n) v ∙ front newOut us n k ∙ ap (listed_words text) u ∙ sym (front out ts n l) ∙ ap (list_in n) (sym w)
+        ap (list_in n) v ∙ front new_out us n k ∙ ap (listed_words text) u ∙ sym (front out ts n l) ∙ ap (list_in n) (sym w)
 
-pub demand_3 : (older newer : List ℕ) → Later older newer → (text out newOut : List ℕ) → room_of (length newOut) ≡ room_of (length out) → Demand3 older newer text out newOut
-demand_3 older newer L text out newOut room =
+pub demand_3 : (older newer : List ℕ) → Later older newer → (text out new_out : List ℕ) → room_of (length new_out) ≡ room_of (length out) → Demand3 older newer text out new_out
+demand_3 older newer L text out new_out room =
     record {
       division = λ ts d. divided_stable older newer text L tt d;
       stopped = λ p t. stopped older newer text L t;
       marked = λ p f. marked older newer text L f;
       unmarked = λ ts d n. unmarked older newer text L d n;
       counting = counting older newer text L;
-      writing = writing older newer text L out newOut room;
-      same_list = same_list_lem older newer text L out newOut room;
+      writing = writing older newer text L out new_out room;
+      same_list = same_list_lem older newer text L out new_out room;
     }
 
 -- the pair check says yes exactly where the premise of demand 3 holds
@@ -199,5 +199,5 @@ module _ (older newer : List ℕ) where
   pair_of_later L = means_pair older newer pair.Permitted (all_permitted L.older_accepted L.newer_accepted L.profiles L.permitted)
 
   -- then demand 3 holds for every text, whatever its bytes, and any two token buffers with the same room
-  pub demand_3_of_pair : SaysYes older newer → (text out newOut : List ℕ) → room_of (length newOut) ≡ room_of (length out) → Demand3 older newer text out newOut
+  pub demand_3_of_pair : SaysYes older newer → (text out new_out : List ℕ) → room_of (length new_out) ≡ room_of (length out) → Demand3 older newer text out new_out
   demand_3_of_pair y = demand_3 older newer (later_of_pair y)

@@ -11,7 +11,7 @@ use native.Mathlib.Decide.{dec_lt}
 use lib.ListN.{length, length-append}
 use Rattle.lists.proofs.BoolLaws.{impossible}
 use Rattle.utf8.specs.Text.{Character}
-use Rattle.image.specs.Class.{Class, White, class-discrete}
+use Rattle.image.specs.Class.{Class, White, class_discrete}
 use Rattle.image.specs.Permitted.{
   Permitted,
   same,
@@ -96,7 +96,7 @@ module _ {A : Type 0} (older newer : Meaning A) where
 
   settled_or_changed : (r : List A) → ClassSettled older newer r ⊎ Changed older newer r
   settled_or_changed [] = inl tt
-  settled_or_changed (c ∷ r) = go (class-discrete (newer.class c) (older.class c))
+  settled_or_changed (c ∷ r) = go (class_discrete (newer.class c) (older.class c))
     where
       go : Dec (newer.class c ≡ older.class c) → ClassSettled older newer (c ∷ r) ⊎ Changed older newer (c ∷ r)
       go (yes p) = inl p

@@ -74,8 +74,8 @@ module _ (older newer text : List ℕ) where
 abbrev pub list_in : ℕ → List ℕ → List ℕ
 list_in n out = take (record_size * n) out
 
--- the list is written into the buffers `out` and `newOut`
-pub record Demand3 (older newer text out newOut : List ℕ) : Type 0 where
+-- the list is written into the buffers `out` and `new_out`
+pub record Demand3 (older newer text out new_out : List ℕ) : Type 0 where
   -- of demand 2's division itself
   pub division : (ts : List (Tok Character Kind)) → Divided older text ts [] → Divided newer text ts []
   pub stopped : (p : ℕ) → Stopped older text p → Stopped newer text p ⊎ Excepted older newer text p
@@ -84,5 +84,5 @@ pub record Demand3 (older newer text out newOut : List ℕ) : Type 0 where
   pub unmarked : (ts : List (Tok Character Kind)) → Divided older text ts [] → NoMark older text → NoMark newer text
   -- of the answers, and "word for word, the same list"
   pub counting : Promise older newer text (count_of older text) (count_of newer text)
-  pub writing : Promise older newer text (list_of older text (length out)) (list_of newer text (length newOut))
-  pub same_list : (n : ℕ) → list_of older text (length out) ≡ given n → list_in n (list_words newer text newOut) ≡ list_in n (list_words older text out)
+  pub writing : Promise older newer text (list_of older text (length out)) (list_of newer text (length new_out))
+  pub same_list : (n : ℕ) → list_of older text (length out) ≡ given n → list_in n (list_words newer text new_out) ≡ list_in n (list_words older text out)

@@ -3,7 +3,6 @@ use mathlib.Core.Path.{◌≡◌, refl, sym, ap, ◌∙◌}
 use mathlib.Core.Option.{Option, none, some}
 use Rattle.lists.proofs.BoolLaws.{impossible}
 use Rattle.refusal.specs.declared.Refusal.{Refusal}
-use Rattle.refusal.specs.Outcome.{or_else}
 use Rattle.given.specs.Given.{judgement_of}
 use Rattle.given.specs.declared.Judgement.{Judgement}
 use Rattle.given.specs.declared.Judgement.TheVariants.{Refused, Accepted}

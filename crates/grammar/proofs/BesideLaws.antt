@@ -10,7 +10,7 @@ use lib.ListN.{length}
 use Rattle.lists.proofs.BoolLaws.{impossible, or_none}
 use Rattle.utf8.specs.Text.{Character}
 use Rattle.grammar.specs.All.{All}
-use Rattle.grammar.specs.White.{WhiteKind, blank, lineEnd, mark}
+use Rattle.grammar.specs.White.{WhiteKind, blank, line_end, mark}
 use Rattle.grammar.specs.Scan.{Tok, units_of, reading}
 use Rattle.grammar.specs.Step.{Local, State, idle, under, held, Move, moves, stops, tok, after, follow, goes_first, more_by, begin, complete, continue, resume, step, run, settle, finish, closed}
 use Rattle.grammar.specs.Division.{Division}
@@ -20,7 +20,7 @@ use Rattle.grammar.specs.Kinds.{is_continue, kind_by, kind_of, goes_with, links_
 use Rattle.grammar.specs.Record.{token_width, tokens_width}
 use Rattle.grammar.specs.Marks.{not_white, first_not_white, last_not_white}
 use Rattle.grammar.specs.Second.{parts_still, refuses_mark, first_refused}
-use Rattle.grammar.specs.Beside.{View, other, afterIdentifier, afterMedial, markAfterIdentifier, markAfterMedial, medialAfterMark, medial_view, marked_view, white_view, next_view, parted_by, refused_by, either, medial_first, view_next, view_after, refused_from}
+use Rattle.grammar.specs.Beside.{View, other, after_identifier, after_medial, mark_after_identifier, mark_after_medial, medial_after_mark, medial_view, marked_view, white_view, next_view, parted_by, refused_by, either, medial_first, view_next, view_after, refused_from}
 use Rattle.grammar.proofs.GrammarLaws.{first_class, fits, tokens_divide, tokens_unique}
 use Rattle.grammar.proofs.DivisionLaws.{none_at_end, division_front, division_tokens}
 use Rattle.grammar.proofs.StepLaws.{steps_read}
@@ -38,57 +38,57 @@ place_of (some before) = some (tokens_width before)
 -- after a mark it matters only whether an identifier or such a medial stands before it
 mark_marked : (v : View) (p q : ℕ) → marked_view (marked_view v p) q ≡ other
 mark_marked other p q = refl
-mark_marked afterIdentifier p q = refl
-mark_marked afterMedial p q = refl
-mark_marked (markAfterIdentifier r) p q = refl
-mark_marked (markAfterMedial r) p q = refl
-mark_marked (medialAfterMark r) p q = refl
+mark_marked after_identifier p q = refl
+mark_marked after_medial p q = refl
+mark_marked (mark_after_identifier r) p q = refl
+mark_marked (mark_after_medial r) p q = refl
+mark_marked (medial_after_mark r) p q = refl
 
 white_marked : (v : View) (p q : ℕ) (w : WhiteKind) → marked_view (white_view v p w) q ≡ other
 white_marked v p q blank = refl
-white_marked v p q lineEnd = refl
+white_marked v p q line_end = refl
 white_marked v p q mark = mark_marked v p q
 
-medial_marked : (v : View) (b : Bool) (q : ℕ) → (b ≡ true → v ≡ afterIdentifier → ⊥) → marked_view (cond b (medial_view v) other) q ≡ other
+medial_marked : (v : View) (b : Bool) (q : ℕ) → (b ≡ true → v ≡ after_identifier → ⊥) → marked_view (cond b (medial_view v) other) q ≡ other
 medial_marked v false q n = refl
 medial_marked other true q n = refl
-medial_marked afterIdentifier true q n = absurd (n refl refl)
-medial_marked afterMedial true q n = refl
-medial_marked (markAfterIdentifier r) true q n = refl
-medial_marked (markAfterMedial r) true q n = refl
-medial_marked (medialAfterMark r) true q n = refl
+medial_marked after_identifier true q n = absurd (n refl refl)
+medial_marked after_medial true q n = refl
+medial_marked (mark_after_identifier r) true q n = refl
+medial_marked (mark_after_medial r) true q n = refl
+medial_marked (medial_after_mark r) true q n = refl
 
 -- only an identifier leaves the view of one
 abbrev is_after_identifier : View → Bool
 is_after_identifier other = false
-is_after_identifier afterIdentifier = true
-is_after_identifier afterMedial = false
-is_after_identifier (markAfterIdentifier q) = false
-is_after_identifier (markAfterMedial q) = false
-is_after_identifier (medialAfterMark q) = false
+is_after_identifier after_identifier = true
+is_after_identifier after_medial = false
+is_after_identifier (mark_after_identifier q) = false
+is_after_identifier (mark_after_medial q) = false
+is_after_identifier (medial_after_mark q) = false
 
 medial_view_lem : (v : View) → is_after_identifier (medial_view v) ≡ false
 medial_view_lem other = refl
-medial_view_lem afterIdentifier = refl
-medial_view_lem afterMedial = refl
-medial_view_lem (markAfterIdentifier q) = refl
-medial_view_lem (markAfterMedial q) = refl
-medial_view_lem (medialAfterMark q) = refl
+medial_view_lem after_identifier = refl
+medial_view_lem after_medial = refl
+medial_view_lem (mark_after_identifier q) = refl
+medial_view_lem (mark_after_medial q) = refl
+medial_view_lem (medial_after_mark q) = refl
 
 marked_view_lem : (v : View) (p : ℕ) → is_after_identifier (marked_view v p) ≡ false
 marked_view_lem other p = refl
-marked_view_lem afterIdentifier p = refl
-marked_view_lem afterMedial p = refl
-marked_view_lem (markAfterIdentifier q) p = refl
-marked_view_lem (markAfterMedial q) p = refl
-marked_view_lem (medialAfterMark q) p = refl
+marked_view_lem after_identifier p = refl
+marked_view_lem after_medial p = refl
+marked_view_lem (mark_after_identifier q) p = refl
+marked_view_lem (mark_after_medial q) p = refl
+marked_view_lem (medial_after_mark q) p = refl
 
-pub next_identifier : (v : View) (p : ℕ) (k : Kind) (b : Bool) → next_view v p k b ≡ afterIdentifier → k ≡ identifier
+pub next_identifier : (v : View) (p : ℕ) (k : Kind) (b : Bool) → next_view v p k b ≡ after_identifier → k ≡ identifier
 next_identifier v p identifier b e = refl
 next_identifier v p syntax true e = absurd (true≢false (ap is_after_identifier (sym e) ∙ medial_view_lem v))
 next_identifier v p syntax false e = absurd (true≢false (ap is_after_identifier (sym e)))
 next_identifier v p (whitespace blank) b e = absurd (true≢false (ap is_after_identifier (sym e)))
-next_identifier v p (whitespace lineEnd) b e = absurd (true≢false (ap is_after_identifier (sym e)))
+next_identifier v p (whitespace line_end) b e = absurd (true≢false (ap is_after_identifier (sym e)))
 next_identifier v p (whitespace mark) b e = absurd (true≢false (ap is_after_identifier (sym e) ∙ marked_view_lem v p))
 
 pub either_assoc : (o x y : Option ℕ) → either o (either x y) ≡ either (either o x) y
@@ -130,7 +130,7 @@ module _ (m : Meaning Character) where
   -- what a state has to do with the tokens ts before it: a Syntax under way that is a medial doesn't follow an identifier, since it would wait
   abbrev Sees : Tokens → State Character Kind → Type 0
   Sees ts idle = view_of ts ≡ other
-  Sees ts (under k u) = k ≡ syntax → medial_first m u ≡ true → view_of ts ≡ afterIdentifier → ⊥
+  Sees ts (under k u) = k ≡ syntax → medial_first m u ≡ true → view_of ts ≡ after_identifier → ⊥
   Sees ts (held k u d) = (k ≡ identifier) × (m.medial d ≡ true) × (is_continue (m.class d) ≡ false)
 
   abbrev SeesAfter : Tokens → Move Character Kind → Type 0
@@ -169,7 +169,7 @@ module _ (m : Meaning Character) where
     where
       go : (o : Option Kind) → SeesAfter ts (begin L o c)
       go none = tt
-      go (some k) = λ e f g. let z : other ≡ afterIdentifier = sym h ∙ rw (append-nil ts) at g in true≢false (ap is_after_identifier (sym z))
+      go (some k) = λ e f g. let z : other ≡ after_identifier = sym h ∙ rw (append-nil ts) at g in true≢false (ap is_after_identifier (sym z))
   sees_step ts (under k u) c h = sees_continue ts k u c
   sees_step ts (held k u d) c h = go (goes_with m k c) refl
     where
@@ -197,11 +197,11 @@ module _ (m : Meaning Character) where
 
   abbrev pub medial_ahead : View → Tokens → Option ℕ
   medial_ahead other ts = none
-  medial_ahead afterIdentifier ts = none
-  medial_ahead afterMedial ts = none
-  medial_ahead (markAfterIdentifier q) ts = if_identifier q ts
-  medial_ahead (markAfterMedial q) ts = none
-  medial_ahead (medialAfterMark q) ts = none
+  medial_ahead after_identifier ts = none
+  medial_ahead after_medial ts = none
+  medial_ahead (mark_after_identifier q) ts = if_identifier q ts
+  medial_ahead (mark_after_medial q) ts = none
+  medial_ahead (medial_after_mark q) ts = none
 
   abbrev pub ahead_by : View → Kind → Bool → Tokens → Option ℕ
   ahead_by v identifier b ts = parted_by v
@@ -252,7 +252,7 @@ module _ (m : Meaning Character) where
   abbrev pub given_if : Bool → ℕ → Option ℕ
   given_if b q = cond b (some q) none
 
-  identifier_ahead : (q : ℕ) (ts : Tokens) → AllTokens ts → ahead (markAfterIdentifier q) ts ≡ given_if (first_not_white ts && more_by L identifier (units_of ts)) q
+  identifier_ahead : (q : ℕ) (ts : Tokens) → AllTokens ts → ahead (mark_after_identifier q) ts ≡ given_if (first_not_white ts && more_by L identifier (units_of ts)) q
   identifier_ahead q [] a = refl
   identifier_ahead q (t ∷ ts) a = go t.kind refl (begins_with t a.0)
     where
@@ -265,14 +265,14 @@ module _ (m : Meaning Character) where
       linked true n = refl
       linked false n = refl
 
-      go : (k : Kind) → t.kind ≡ k → Begins t → ahead (markAfterIdentifier q) (t ∷ ts) ≡ given_if (first_not_white (t ∷ ts) && more_by L identifier (units_of (t ∷ ts))) q
+      go : (k : Kind) → t.kind ≡ k → Begins t → ahead (mark_after_identifier q) (t ∷ ts) ≡ given_if (first_not_white (t ∷ ts) && more_by L identifier (units_of (t ∷ ts))) q
       go identifier e b = rw (more b, e)
       go syntax e b =
           let f : goes_first L identifier (b.others ++ units_of ts) ≡ first_identifier ts = ap (λ u. goes_first L identifier (u ++ units_of ts)) (b.alone e) ∙ first_goes ts a.1 in
           rw (more b, e, b.whole, f) (linked (m.medial b.first) (first_identifier ts))
       go (whitespace w) e b = rw e
 
-  medial_ahead_lem : (q : ℕ) (ts : Tokens) → AllTokens ts → ahead (markAfterMedial q) ts ≡ given_if (first_not_white ts && goes_first L identifier (units_of ts)) q
+  medial_ahead_lem : (q : ℕ) (ts : Tokens) → AllTokens ts → ahead (mark_after_medial q) ts ≡ given_if (first_not_white ts && goes_first L identifier (units_of ts)) q
   medial_ahead_lem q [] a = refl
   medial_ahead_lem q (t ∷ ts) a = go t.kind refl
     where
@@ -280,7 +280,7 @@ module _ (m : Meaning Character) where
       nothing true = refl
       nothing false = refl
 
-      go : (k : Kind) → t.kind ≡ k → ahead (markAfterMedial q) (t ∷ ts) ≡ given_if (first_not_white (t ∷ ts) && goes_first L identifier (units_of (t ∷ ts))) q
+      go : (k : Kind) → t.kind ≡ k → ahead (mark_after_medial q) (t ∷ ts) ≡ given_if (first_not_white (t ∷ ts) && goes_first L identifier (units_of (t ∷ ts))) q
       go identifier e = rw (first_goes (t ∷ ts) a, e)
       go syntax e = rw (first_goes (t ∷ ts) a, e) (nothing (medial_first m t.units))
       go (whitespace w) e = rw e
@@ -300,11 +300,11 @@ module _ (m : Meaning Character) where
   other_ahead ts = quiet_ahead other ts refl (λ us. refl)
 
   -- a medial Syntax after a mark: what follows it
-  after_medial : (q : ℕ) (ts : Tokens) → ahead (medialAfterMark q) ts ≡ if_identifier q ts
-  after_medial q [] = refl
-  after_medial q (t ∷ ts) = go t.kind (medial_first m t.units)
+  after_medial_lem : (q : ℕ) (ts : Tokens) → ahead (medial_after_mark q) ts ≡ if_identifier q ts
+  after_medial_lem q [] = refl
+  after_medial_lem q (t ∷ ts) = go t.kind (medial_first m t.units)
     where
-      go : (k : Kind) (b : Bool) → ahead_by (medialAfterMark q) k b ts ≡ given_if (is_identifier k) q
+      go : (k : Kind) (b : Bool) → ahead_by (medial_after_mark q) k b ts ≡ given_if (is_identifier k) q
       go identifier b = refl
       go syntax true = refl
       go syntax false = refl
@@ -313,11 +313,11 @@ module _ (m : Meaning Character) where
   medials_ahead : (v : View) (b : Bool) (ts : Tokens) → ahead (cond b (medial_view v) other) ts ≡ cond b (medial_ahead v ts) none
   medials_ahead v false ts = other_ahead ts
   medials_ahead other true ts = other_ahead ts
-  medials_ahead afterIdentifier true ts = quiet_ahead afterMedial ts refl (λ us. refl)
-  medials_ahead afterMedial true ts = other_ahead ts
-  medials_ahead (markAfterIdentifier q) true ts = after_medial q ts
-  medials_ahead (markAfterMedial q) true ts = other_ahead ts
-  medials_ahead (medialAfterMark q) true ts = other_ahead ts
+  medials_ahead after_identifier true ts = quiet_ahead after_medial ts refl (λ us. refl)
+  medials_ahead after_medial true ts = other_ahead ts
+  medials_ahead (mark_after_identifier q) true ts = after_medial_lem q ts
+  medials_ahead (mark_after_medial q) true ts = other_ahead ts
+  medials_ahead (medial_after_mark q) true ts = other_ahead ts
 
   last_not_white_lem : (ts : Tokens) (t : Tok Character Kind) → last_not_white (ts ++ t ∷ []) ≡ not_white t.kind
   last_not_white_lem [] t = refl
@@ -396,7 +396,7 @@ module _ (m : Meaning Character) where
         whole : before ≡ front ++ tok j (d ∷ []) ∷ []
         whole = f ∙ sym (append_assoc ts (tok identifier u ∷ []) (tok j (d ∷ []) ∷ []))
 
-        view : view_of before ≡ next_view afterIdentifier (tokens_width front) j true
+        view : view_of before ≡ next_view after_identifier (tokens_width front) j true
         view = ap view_of whole ∙ view_snoc front (tok j (d ∷ [])) ∙ (λ i. next_view (view_snoc ts (tok identifier u) i) (tokens_width front) j (h i))
 
         seen : last_not_white before ≡ not_white j
@@ -408,12 +408,12 @@ module _ (m : Meaning Character) where
         go : (k : Kind) → j ≡ k → Agrees
         go identifier i = absurd (true≢false (sym (identifier_goes d j g ∙ ap is_identifier i) ∙ n))
         go syntax i =
-            ap (λ v. ahead (marked_view v q) after) (view ∙ ap (λ k. next_view afterIdentifier (tokens_width front) k true) i) ∙ medial_ahead_lem q after right
+            ap (λ v. ahead (marked_view v q) after) (view ∙ ap (λ k. next_view after_identifier (tokens_width front) k true) i) ∙ medial_ahead_lem q after right
             ∙ given_by (goes_first L identifier (units_of after)) (seen ∙ ap not_white i)
             (parts ∙ ap (λ k. not (goes_first L identifier (units_of after) || more_by L k (units_of after))) i
             ∙ ap (λ b. not (goes_first L identifier (units_of after) || b)) (more_syntax (units_of after)) ∙ ap not (or_none (goes_first L identifier (units_of after))))
         go (whitespace w) i =
-            hidden (seen ∙ ap not_white i) (ap (λ v. marked_view v q) (view ∙ ap (λ k. next_view afterIdentifier (tokens_width front) k true) i) ∙ white_marked afterIdentifier (tokens_width front) q w)
+            hidden (seen ∙ ap not_white i) (ap (λ v. marked_view v q) (view ∙ ap (λ k. next_view after_identifier (tokens_width front) k true) i) ∙ white_marked after_identifier (tokens_width front) q w)
 
     idle_agrees : (ts : Tokens) → run L idle (units_of before) ≡ moves ts idle → view_of ts ≡ other → before ≡ ts → Agrees
     unfolding parts_still
@@ -475,10 +475,10 @@ module _ (m : Meaning Character) where
       go : (k : Kind) → t.kind ≡ k →
           either (refused_by (view_of before) t.kind) (either (ahead (view_next m (view_of before) (tokens_width before) t) ts) (place_of (first_refused m (before ++ t ∷ []) ts)))
           ≡ either (ahead (view_of before) (t ∷ ts)) (place_of (first_refused m before (t ∷ ts)))
-      go identifier e = rw (e, quiet_ahead afterIdentifier ts refl (λ us. refl))
+      go identifier e = rw (e, quiet_ahead after_identifier ts refl (λ us. refl))
       go syntax e = rw (e, medials_ahead (view_of before) (medial_first m t.units) ts)
       go (whitespace blank) e = rw (e, other_ahead ts)
-      go (whitespace lineEnd) e = rw (e, other_ahead ts)
+      go (whitespace line_end) e = rw (e, other_ahead ts)
       go (whitespace mark) e =
           let l = division_front (Token m) (none_at_end (Token m) (rules m) (fits m)) before (t ∷ ts) (units_of (t ∷ ts)) (units_append before (t ∷ ts)) d in
           let r = (all_after before (t ∷ ts) (division_tokens (Token m) d)).1 in

@@ -24,12 +24,12 @@ append_same (x ∷ u) (y ∷ v) r s e h =
 
 module _ {A K : Type 0} (Token : K → List A → Type 0) where
   -- where no units are tokens of two kinds, there is one division
-  module _ (one-kind : (u : List A) (j k : K) → Token j u → Token k u → j ≡ k) where
+  module _ (one_kind : (u : List A) (j k : K) → Token j u → Token k u → j ≡ k) where
     longest_unique : {s : List A} (j k : K) (u v r t : List A) → Longest Token s j u r → Longest Token s k v t → (j ≡ k) × (u ≡ v) × (r ≡ t)
     longest_unique j k u v r t L M =
         let n : length u ≡ length v = omega (arith, L.longest k v t M.whole M.token, M.longest j u r L.whole L.token) in
         let p : (u ≡ v) × (r ≡ t) = append_same u v r t (sym L.whole ∙ M.whole) n in
-        (one-kind v j k (rw p.0 at L.token) M.token, p.0, p.1)
+        (one_kind v j k (rw p.0 at L.token) M.token, p.0, p.1)
 
     pub unique : {s l l' : List A} {ts ts' : List (Tok A K)} → Division Token s ts l → Division Token s ts' l' → (ts ≡ ts') × (l ≡ l')
     unique (ends n) (ends m) = (refl, refl)

@@ -11,7 +11,7 @@ use Rattle.image.specs.Class.{Class, Unassigned, Start, Nonstart, Syntax, White,
 use Rattle.grammar.specs.All.{All}
 use Rattle.grammar.specs.Scan.{Tok, walk, reading}
 use Rattle.grammar.specs.Division.{Division}
-use Rattle.grammar.specs.White.{WhiteKind, blank, lineEnd, mark, same_white}
+use Rattle.grammar.specs.White.{WhiteKind, blank, line_end, mark, same_white}
 use Rattle.grammar.specs.Meaning.{Meaning}
 use Rattle.grammar.specs.Grammar.{Kind, identifier, syntax, whitespace, Continue, IsContinue, IsMedial, IsWhite, Token}
 use Rattle.grammar.specs.Kinds.{is_continue, is_white, kind_by, continues, kind_of, goes_with, local_rules, rules}
@@ -43,18 +43,18 @@ white_means Other e = absurd (false≢true e)
 
 pub white_same : (w v : WhiteKind) → same_white w v ≡ true → v ≡ w
 white_same blank blank e = refl
-white_same blank lineEnd e = absurd (false≢true e)
+white_same blank line_end e = absurd (false≢true e)
 white_same blank mark e = absurd (false≢true e)
-white_same lineEnd blank e = absurd (false≢true e)
-white_same lineEnd lineEnd e = refl
-white_same lineEnd mark e = absurd (false≢true e)
+white_same line_end blank e = absurd (false≢true e)
+white_same line_end line_end e = refl
+white_same line_end mark e = absurd (false≢true e)
 white_same mark blank e = absurd (false≢true e)
-white_same mark lineEnd e = absurd (false≢true e)
+white_same mark line_end e = absurd (false≢true e)
 white_same mark mark e = refl
 
 same_white_lem : (w : WhiteKind) → same_white w w ≡ true
 same_white_lem blank = refl
-same_white_lem lineEnd = refl
+same_white_lem line_end = refl
 same_white_lem mark = refl
 
 -- the class and the kind of White that begin a kind of token

@@ -7,7 +7,7 @@ use mathlib.Core.Option.{Option, none, some}
 use mathlib.Core.Logic.{◌↔◌}
 use Rattle.lists.proofs.BoolLaws.{impossible}
 use Rattle.utf8.specs.Text.{Character}
-use Rattle.grammar.specs.White.{blank, lineEnd, mark}
+use Rattle.grammar.specs.White.{blank, line_end, mark}
 use Rattle.grammar.specs.Scan.{Tok, units_of}
 use Rattle.grammar.specs.Step.{tok}
 use Rattle.grammar.specs.Division.{Division}
@@ -17,7 +17,7 @@ use Rattle.grammar.specs.Kinds.{rules}
 use Rattle.grammar.specs.Record.{tokens_width}
 use Rattle.grammar.specs.Marks.{first_not_white, last_not_white, RefusedMark}
 use Rattle.grammar.specs.Second.{is_mark_kind, parts_still, refuses_mark}
-use Rattle.grammar.specs.Beside.{View, other, afterIdentifier, afterMedial, markAfterIdentifier, markAfterMedial, medialAfterMark, medial_view, marked_view, next_view, medial_first, Parts, identifiers, medial_right, medial_left}
+use Rattle.grammar.specs.Beside.{View, other, after_identifier, after_medial, mark_after_identifier, mark_after_medial, medial_after_mark, medial_view, marked_view, next_view, medial_first, Parts, identifiers, medial_right, medial_left}
 use Rattle.grammar.proofs.DivisionLaws.{none_at_end, division_front, division_tokens}
 use Rattle.grammar.proofs.GrammarLaws.{fits}
 use Rattle.grammar.proofs.JoinLaws.{units_append}
@@ -31,50 +31,50 @@ Tokens = List (Tok Character Kind)
 record Links (v : View) (k : Kind) (b : Bool) : Type 0 where
   kind : k ≡ syntax
   medial : b ≡ true
-  before : v ≡ afterIdentifier
+  before : v ≡ after_identifier
 
 abbrev is_after_medial : View → Bool
 is_after_medial other = false
-is_after_medial afterIdentifier = false
-is_after_medial afterMedial = true
-is_after_medial (markAfterIdentifier q) = false
-is_after_medial (markAfterMedial q) = false
-is_after_medial (medialAfterMark q) = false
+is_after_medial after_identifier = false
+is_after_medial after_medial = true
+is_after_medial (mark_after_identifier q) = false
+is_after_medial (mark_after_medial q) = false
+is_after_medial (medial_after_mark q) = false
 
-view_medial : (v : View) → is_after_medial (medial_view v) ≡ true → v ≡ afterIdentifier
+view_medial : (v : View) → is_after_medial (medial_view v) ≡ true → v ≡ after_identifier
 view_medial other e = absurd (true≢false (sym e))
-view_medial afterIdentifier e = refl
-view_medial afterMedial e = absurd (true≢false (sym e))
-view_medial (markAfterIdentifier q) e = absurd (true≢false (sym e))
-view_medial (markAfterMedial q) e = absurd (true≢false (sym e))
-view_medial (medialAfterMark q) e = absurd (true≢false (sym e))
+view_medial after_identifier e = refl
+view_medial after_medial e = absurd (true≢false (sym e))
+view_medial (mark_after_identifier q) e = absurd (true≢false (sym e))
+view_medial (mark_after_medial q) e = absurd (true≢false (sym e))
+view_medial (medial_after_mark q) e = absurd (true≢false (sym e))
 
 view_marked : (v : View) (p : ℕ) → is_after_medial (marked_view v p) ≡ false
 view_marked other p = refl
-view_marked afterIdentifier p = refl
-view_marked afterMedial p = refl
-view_marked (markAfterIdentifier q) p = refl
-view_marked (markAfterMedial q) p = refl
-view_marked (medialAfterMark q) p = refl
+view_marked after_identifier p = refl
+view_marked after_medial p = refl
+view_marked (mark_after_identifier q) p = refl
+view_marked (mark_after_medial q) p = refl
+view_marked (medial_after_mark q) p = refl
 
-next_medial : (v : View) (p : ℕ) (k : Kind) (b : Bool) → next_view v p k b ≡ afterMedial → Links v k b
+next_medial : (v : View) (p : ℕ) (k : Kind) (b : Bool) → next_view v p k b ≡ after_medial → Links v k b
 next_medial v p identifier b e = absurd (true≢false (ap is_after_medial (sym e)))
 next_medial v p syntax true e = record { kind = refl; medial = refl; before = view_medial v (ap is_after_medial e) }
 next_medial v p syntax false e = absurd (true≢false (ap is_after_medial (sym e)))
 next_medial v p (whitespace blank) b e = absurd (true≢false (ap is_after_medial (sym e)))
-next_medial v p (whitespace lineEnd) b e = absurd (true≢false (ap is_after_medial (sym e)))
+next_medial v p (whitespace line_end) b e = absurd (true≢false (ap is_after_medial (sym e)))
 next_medial v p (whitespace mark) b e = absurd (true≢false (ap is_after_medial (sym e) ∙ view_marked v p))
 
 module _ (m : Meaning Character) where
   -- what the views of an identifier and of a medial after one tell of the last tokens
-  ends_identifier : (bs : Tokens) → view_of m bs ≡ afterIdentifier → (ts : Tokens) × (u : List Character) × (bs ≡ ts ++ tok identifier u ∷ [])
+  ends_identifier : (bs : Tokens) → view_of m bs ≡ after_identifier → (ts : Tokens) × (u : List Character) × (bs ≡ ts ++ tok identifier u ∷ [])
   ends_identifier [] e = impossible (cc)
   ends_identifier (b ∷ bs) e =
       let (xs, x, w) = last_of m b bs in
       let k = next_identifier (view_of m xs) (tokens_width xs) x.kind (medial_first m x.units) (sym (view_snoc m xs x) ∙ sym (ap (view_of m) w) ∙ e) in
       (xs, x.units, w ∙ ap (λ j. xs ++ tok j x.units ∷ []) k)
 
-  ends_medial : (bs : Tokens) → AllTokens m bs → view_of m bs ≡ afterMedial →
+  ends_medial : (bs : Tokens) → AllTokens m bs → view_of m bs ≡ after_medial →
       (ts : Tokens) × (u : List Character) × (d : Character) × (bs ≡ ts ++ tok identifier u ∷ tok syntax (d ∷ []) ∷ []) × (m.medial d ≡ true)
   ends_medial [] a e = impossible (cc)
   ends_medial (b ∷ bs) a e =
@@ -99,7 +99,7 @@ module _ (m : Meaning Character) where
   given_true false e = impossible (cc)
 
   module _ (before : Tokens) (ts : Tokens) (u : List Character) (w : before ≡ ts ++ tok identifier u ∷ []) where
-    right_parts : (after : Tokens) → AllTokens m after → ahead m (markAfterIdentifier 0) after ≡ some 0 → Parts m before after
+    right_parts : (after : Tokens) → AllTokens m after → ahead m (mark_after_identifier 0) after ≡ some 0 → Parts m before after
     right_parts [] a e = impossible (cc)
     right_parts (t ∷ us) a e = go t.kind refl (medial_first m t.units) refl
       where
@@ -115,7 +115,7 @@ module _ (m : Meaning Character) where
         go (whitespace w) h b f = let z : ◌≡◌ {A = Option ℕ} none (some 0) = rw h at e in impossible (cc)
 
   left_parts : (before after ts : Tokens) (u : List Character) (d : Character) → before ≡ ts ++ tok identifier u ∷ tok syntax (d ∷ []) ∷ [] → m.medial d ≡ true →
-      ahead m (markAfterMedial 0) after ≡ some 0 → Parts m before after
+      ahead m (mark_after_medial 0) after ≡ some 0 → Parts m before after
   left_parts before [] ts u d w f e = impossible (cc)
   left_parts before (t ∷ us) ts u d w f e = go t.kind refl (medial_first m t.units) refl
     where
@@ -144,14 +144,14 @@ module _ (m : Meaning Character) where
         nothing e = let z = other_ahead m after in impossible (cc)
 
         go : (v : View) → view_of m before ≡ v → ahead m (marked_view (view_of m before) 0) after ≡ some 0 → Parts m before after
-        go afterIdentifier h e = let (ts, u, w) = ends_identifier before h in right_parts before ts u w after rest (sym (ap (λ v. ahead m (marked_view v 0) after) h) ∙ e)
-        go afterMedial h e =
+        go after_identifier h e = let (ts, u, w) = ends_identifier before h in right_parts before ts u w after rest (sym (ap (λ v. ahead m (marked_view v 0) after) h) ∙ e)
+        go after_medial h e =
             let (ts, u, c, w, f) = ends_medial before (division_tokens (Token m) front) h in
             left_parts before after ts u c w f (sym (ap (λ v. ahead m (marked_view v 0) after) h) ∙ e)
         go other h e = nothing (sym (ap (λ v. ahead m (marked_view v 0) after) h) ∙ e)
-        go (markAfterIdentifier q) h e = nothing (sym (ap (λ v. ahead m (marked_view v 0) after) h) ∙ e)
-        go (markAfterMedial q) h e = nothing (sym (ap (λ v. ahead m (marked_view v 0) after) h) ∙ e)
-        go (medialAfterMark q) h e = nothing (sym (ap (λ v. ahead m (marked_view v 0) after) h) ∙ e)
+        go (mark_after_identifier q) h e = nothing (sym (ap (λ v. ahead m (marked_view v 0) after) h) ∙ e)
+        go (mark_after_medial q) h e = nothing (sym (ap (λ v. ahead m (marked_view v 0) after) h) ∙ e)
+        go (medial_after_mark q) h e = nothing (sym (ap (λ v. ahead m (marked_view v 0) after) h) ∙ e)
 
     parts_refused : Parts m before after → RefusedMark m before t after
     parts_refused p = (refuses_mark_lem m before t after).0 (given_true (refuses_mark m before t after) (sym refuses_by ∙ go p))
@@ -164,7 +164,7 @@ module _ (m : Meaning Character) where
             ∙ ap (λ b. cond b (given_if m true 0) none) f
         go (medial_left ts us u v c w f z) =
             let x = ts ++ tok identifier u ∷ [] in
-            let y : view_of m before ≡ afterMedial = ap (view_of m) (w ∙ sym (append_assoc ts (tok identifier u ∷ []) (tok syntax (c ∷ []) ∷ []))) ∙ view_snoc m x (tok syntax (c ∷ []))
+            let y : view_of m before ≡ after_medial = ap (view_of m) (w ∙ sym (append_assoc ts (tok identifier u ∷ []) (tok syntax (c ∷ []) ∷ []))) ∙ view_snoc m x (tok syntax (c ∷ []))
             ∙ (λ i. cond (f i) (medial_view (view_snoc m ts (tok identifier u) i)) other) in
             (λ i. ahead m (marked_view (y i) 0) (z i))
 

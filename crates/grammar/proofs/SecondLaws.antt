@@ -1,5 +1,5 @@
 -- The reader's form of refusal 14 is its meaning: the mark that it finds is the first that is refused. Assumes nothing.
-use Prim.Native.Nat.{ℕ, ◌+◌, ◌-◌}
+use Prim.Native.Nat.{ℕ, ◌-◌}
 use mathlib.Core.Path.{◌≡◌, refl, sym, ap, subst, ◌∙◌}
 use mathlib.Core.Bool.{Bool, true, false, not, false≢true, true≢false, ◌&&◌, cond}
 use mathlib.Core.List.{List, [], ◌∷◌, ◌++◌, append_assoc, append-nil}
@@ -10,7 +10,7 @@ use lib.ListN.{length, length-append}
 use lib.Dec.{leb, eqb}
 use borrow.Author.Tests.{leb-true, eqb-true, not-true}
 use Rattle.lists.proofs.BoolLaws.{or_cases, and_left, and_right, split}
-use Rattle.grammar.specs.White.{blank, lineEnd, mark}
+use Rattle.grammar.specs.White.{blank, line_end, mark}
 use Rattle.grammar.specs.Scan.{Tok, units_of, reading}
 use Rattle.grammar.specs.Meaning.{Meaning}
 use Rattle.grammar.specs.Grammar.{Kind, identifier, syntax, whitespace}
@@ -25,7 +25,7 @@ mark_means : (k : Kind) → is_mark_kind k ≡ true → k ≡ whitespace mark
 mark_means identifier e = absurd (false≢true e)
 mark_means syntax e = absurd (false≢true e)
 mark_means (whitespace blank) e = absurd (false≢true e)
-mark_means (whitespace lineEnd) e = absurd (false≢true e)
+mark_means (whitespace line_end) e = absurd (false≢true e)
 mark_means (whitespace mark) e = refl
 
 module _ {A : Type 0} where

@@ -1,5 +1,5 @@
 -- What is judged before a text is read (docs/RULES.md, "Named refusals"): what is given with it, then its length.
--- `limit` is how many profile entries an image may have; the names without `Within` have the limit in force.
+-- `limit` is how many profile entries an image may have; the names without `_within` have the limit in force.
 use Rattle.std.specs.Prelude.{ℕ, ◌≤◌, ◌<◌, List, length, ltb}
 use Rattle.std.proofs.Math.Option.{Option, none, some}
 use Rattle.refusal.specs.declared.Refusal.{Refusal}

@@ -14,7 +14,7 @@
 use Rattle.std.specs.Prelude.{ℕ, ◌+◌, ◌≡◌, Bool, true, false, cond, List, [], ◌∷◌, ◌++◌}
 use Rattle.std.proofs.Math.Option.{Option, none, some}
 use Rattle.utf8.specs.Text.{Character}
-use Rattle.grammar.specs.White.{WhiteKind, blank, lineEnd, mark}
+use Rattle.grammar.specs.White.{WhiteKind, blank, line_end, mark}
 use Rattle.grammar.specs.Scan.{Tok}
 use Rattle.grammar.specs.Step.{tok}
 use Rattle.grammar.specs.Meaning.{Meaning}
@@ -24,44 +24,44 @@ use Rattle.grammar.specs.Record.{token_width}
 -- nothing that a mark could part; an identifier; a medial Syntax right after an identifier; a mark at a byte after an identifier; one
 -- after such a medial; a medial Syntax after a mark after an identifier
 pub data View : Type 0 where
-  other afterIdentifier afterMedial : View
-  markAfterIdentifier markAfterMedial medialAfterMark : ℕ → View
+  other after_identifier after_medial : View
+  mark_after_identifier mark_after_medial medial_after_mark : ℕ → View
 
 abbrev pub medial_view : View → View
 medial_view other = other
-medial_view afterIdentifier = afterMedial
-medial_view afterMedial = other
-medial_view (markAfterIdentifier q) = medialAfterMark q
-medial_view (markAfterMedial q) = other
-medial_view (medialAfterMark q) = other
+medial_view after_identifier = after_medial
+medial_view after_medial = other
+medial_view (mark_after_identifier q) = medial_after_mark q
+medial_view (mark_after_medial q) = other
+medial_view (medial_after_mark q) = other
 
 -- the mark stands at byte p
 abbrev pub marked_view : View → ℕ → View
 marked_view other p = other
-marked_view afterIdentifier p = markAfterIdentifier p
-marked_view afterMedial p = markAfterMedial p
-marked_view (markAfterIdentifier q) p = other
-marked_view (markAfterMedial q) p = other
-marked_view (medialAfterMark q) p = other
+marked_view after_identifier p = mark_after_identifier p
+marked_view after_medial p = mark_after_medial p
+marked_view (mark_after_identifier q) p = other
+marked_view (mark_after_medial q) p = other
+marked_view (medial_after_mark q) p = other
 
 abbrev pub white_view : View → ℕ → WhiteKind → View
 white_view v p blank = other
-white_view v p lineEnd = other
+white_view v p line_end = other
 white_view v p mark = marked_view v p
 
 -- the token stands at byte p; b: whether its first unit is a medial
 abbrev pub next_view : View → ℕ → Kind → Bool → View
-next_view v p identifier b = afterIdentifier
+next_view v p identifier b = after_identifier
 next_view v p syntax b = cond b (medial_view v) other
 next_view v p (whitespace w) b = white_view v p w
 
 abbrev pub parted_by : View → Option ℕ
 parted_by other = none
-parted_by afterIdentifier = none
-parted_by afterMedial = none
-parted_by (markAfterIdentifier q) = some q
-parted_by (markAfterMedial q) = some q
-parted_by (medialAfterMark q) = some q
+parted_by after_identifier = none
+parted_by after_medial = none
+parted_by (mark_after_identifier q) = some q
+parted_by (mark_after_medial q) = some q
+parted_by (medial_after_mark q) = some q
 
 abbrev pub refused_by : View → Kind → Option ℕ
 refused_by v identifier = parted_by v

@@ -10,7 +10,7 @@
 use Rattle.std.specs.Prelude.{ℕ, Bool, true, false, ◌&&◌}
 use Rattle.std.proofs.Math.Option.{Option, none, some}
 use Rattle.image.specs.Class.{Class, Unassigned, Start, Nonstart, Syntax, White, Other}
-use Rattle.grammar.specs.White.{WhiteKind, blank, lineEnd, mark, same_white}
+use Rattle.grammar.specs.White.{WhiteKind, blank, line_end, mark, same_white}
 use Rattle.grammar.specs.Scan.{Rules}
 use Rattle.grammar.specs.Step.{Local, rules_by}
 use Rattle.grammar.specs.Meaning.{Meaning}
@@ -20,7 +20,7 @@ abbrev pub kind_number : Kind → ℕ
 kind_number identifier = 1
 kind_number syntax = 2
 kind_number (whitespace blank) = 3
-kind_number (whitespace lineEnd) = 4
+kind_number (whitespace line_end) = 4
 kind_number (whitespace mark) = 5
 
 abbrev pub is_continue : Class → Bool

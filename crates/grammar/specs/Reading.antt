@@ -1,6 +1,6 @@
 -- What counting a text's tokens and writing their list answer under an image (docs/RULES.md, "Tokens" and "Named refusals").
 -- An image and a text are lists of bytes.
--- `limit` is how many profile entries an image may have; the names without `Within` have the limit in force.
+-- `limit` is how many profile entries an image may have; the names without `_within` have the limit in force.
 --
 --   meaning_of, rules_of           what the rules of tokens know of a character under an image; the rules
 --   reading_of, tokens_of          the reading of a text's characters under an image; its tokens

@@ -1,6 +1,6 @@
 -- The answers of writing the list of hashtags, from what is judged before the text and the count under it. Assumes nothing.
 use Prim.Native.Nat.{ℕ, ◌*◌, ◌≤◌, ◌<◌}
-use mathlib.Core.Path.{◌≡◌, refl, ap, ◌∙◌}
+use mathlib.Core.Path.{◌≡◌, refl, ◌∙◌}
 use mathlib.Core.List.{List}
 use mathlib.Core.Option.{none, some}
 use native.Mathlib.Omega.{arith}
@@ -9,7 +9,7 @@ use Rattle.lists.specs.Laid.{laid}
 use Rattle.lists.proofs.BoolLaws.{impossible}
 use Rattle.refusal.specs.declared.Refusal.{Refusal}
 use Rattle.refusal.specs.declared.Refusal.TheVariants as refusal
-use Rattle.refusal.specs.Outcome.{Outcome, given, refused, unless, outcome_map}
+use Rattle.refusal.specs.Outcome.{given, refused, unless, outcome_map}
 use Rattle.utf8.specs.declared.Text.{Text}
 use Rattle.utf8.specs.declared.Text.TheVariants.{WellFormed, IllFormed}
 use Rattle.utf8.specs.Text.{text_of}

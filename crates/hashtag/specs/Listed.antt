@@ -1,6 +1,6 @@
 -- What writing the list of a text's hashtags answers under an image, and what the buffer then holds
 -- (docs/RULES.md, "Hashtags", "Lines" and "Named refusals").
--- `limit` is how many profile entries an image may have; the names without `Within` have the limit in force.
+-- `limit` is how many profile entries an image may have; the names without `_within` have the limit in force.
 --
 --   hashtag_kind                              the kind of a hashtag in its record
 --   span_words, spans_words                    the words of a hashtag's record; of the records of hashtags
@@ -12,7 +12,7 @@
 --   hashtag_list_within, hashtag_list_of         the answer of writing the list
 --   hashtag_words_within, hashtag_list_words     what the buffer then holds
 use Rattle.std.specs.Prelude.{ℕ, ◌+◌, List, [], ◌∷◌, ◌++◌, length}
-use Rattle.refusal.specs.Outcome.{Outcome, given, refused, unless, outcome_map}
+use Rattle.refusal.specs.Outcome.{Outcome, given, unless, outcome_map}
 use Rattle.refusal.specs.declared.Refusal.TheVariants as refusal
 use Rattle.utf8.specs.declared.Text.{Text}
 use Rattle.utf8.specs.declared.Text.TheVariants.{WellFormed, IllFormed}

@@ -35,7 +35,7 @@ use Rattle.image.specs.Header.{
 use Rattle.image.specs.Ranges.{range_at}
 use Rattle.image.specs.Profile.{point_at, role_at, point_in, role_in, profile_within, profile_of}
 use Rattle.image.specs.Same.{SameProfile}
-use Rattle.image.specs.Accepted.{SizedWithin, HeadedWithin, AcceptedWithin, Accepted}
+use Rattle.image.specs.Accepted.{SizedWithin, HeadedWithin, AcceptedWithin}
 use Rattle.image.specs.Means.{
   RefusalMeansWithin,
   RefusalMeans,

@@ -1,5 +1,5 @@
 -- What checking and reading an image give (docs/RULES.md, "Named refusals" 1 to 4 and 8), and what an image says of a code point.
--- `limit` is how many profile entries an image may have; the names without `Within` have the limit in force.
+-- `limit` is how many profile entries an image may have; the names without `_within` have the limit in force.
 --
 --   refuse_at                           the refusal of an index, where it is below a count
 --   records_refusal                     3 where one of n ranges is bad, else 4 where one of m entries is, else the rest

@@ -3,7 +3,7 @@ use Rattle.std.specs.Prelude.{ℕ, zero, suc}
 
 pub data Class : Type 0 where
   Unassigned Start Nonstart Syntax White Other : Class
-  deriving Discrete as class-discrete
+  deriving Discrete as class_discrete
 
 -- the number of each class in an image; 0 is the class of a scalar value in no range
 abbrev pub class_number : Class → ℕ

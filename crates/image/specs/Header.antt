@@ -1,5 +1,5 @@
 -- The header of a class image: eight numbers in 32 bytes (docs/RULES.md, "The class image"; refusals 1 and 2).
--- `limit` is how many profile entries an image may have; the names without `Within` have the limit in force.
+-- `limit` is how many profile entries an image may have; the names without `_within` have the limit in force.
 --
 --   format_of, version_of, total_of   format, version and total length
 --   range_count, range_offset        the number of ranges, n, and where they begin

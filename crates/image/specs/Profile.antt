@@ -1,5 +1,5 @@
 -- Profiles: code points with roles (docs/RULES.md, "The class image"; refusal 4).
--- `limit` is how many entries a record has room for; the names without `Within` have the limit in force.
+-- `limit` is how many entries a record has room for; the names without `_within` have the limit in force.
 --
 --   point_at, role_at              the code point and the role of entry i of an image
 --   profile_by                    the record with these code points, roles and used length

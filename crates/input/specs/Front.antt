@@ -1,5 +1,5 @@
 -- An image at the front of a program's input, and what follows it (docs/RULES.md, "The programs").
--- `limit` is how many profile entries an image may have; the names without `Within` have the limit in force.
+-- `limit` is how many profile entries an image may have; the names without `_within` have the limit in force.
 use Rattle.std.specs.Prelude.{ℕ, ◌≤◌, Bool, cond, ◌&&◌, List, length, take, drop, leb}
 use Rattle.image.specs.Limits.{max_entries, header_bytes, largest_within}
 use Rattle.image.specs.Header.{total_of}

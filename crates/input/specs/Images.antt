@@ -1,5 +1,5 @@
 -- Two images one right after the other, as the change lister reads them (docs/RULES.md, "The programs").
--- `limit` is how many profile entries an image may have; the names without `Within` have the limit in force.
+-- `limit` is how many profile entries an image may have; the names without `_within` have the limit in force.
 use Rattle.std.specs.Prelude.{ℕ, ◌+◌, ◌-◌, ◌*◌, List}
 use Rattle.refusal.specs.declared.Refusal.TheVariants as refusal
 use Rattle.image.specs.Limits.{max_ranges, max_entries}

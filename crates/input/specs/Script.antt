@@ -1,5 +1,5 @@
 -- An image and right after it a text, as the token lister reads them (docs/RULES.md, "The programs").
--- `limit` is how many profile entries an image may have; the names without `Within` have the limit in force.
+-- `limit` is how many profile entries an image may have; the names without `_within` have the limit in force.
 --
 --   max_script                        the most bytes of the lister's text
 --   script_within, script_written      the tokens of a text under an image, written into a buffer of so many words

@@ -31,7 +31,7 @@ module _ (k l : ℕ) where
   -- the calls on two images
   pub record AgreeOnPair (older newer : List ℕ) : Type 0 where
     pub compared : pair_within k older newer ≡ pair_within l older newer
-    pub changes : (runWords entry_words : ℕ) → answer_within k older newer runWords entry_words ≡ answer_within l older newer runWords entry_words
+    pub changes : (run_words entry_words : ℕ) → answer_within k older newer run_words entry_words ≡ answer_within l older newer run_words entry_words
     pub runs : (out more : List ℕ) → runs_after_within k older newer out more ≡ runs_after_within l older newer out more
     pub entries : (out more : List ℕ) → entries_after_within k older newer out more ≡ entries_after_within l older newer out more
 
@@ -48,7 +48,7 @@ module _ (k l : ℕ) where
 
   -- the change lister's call and program, on two images one after the other
   pub record AgreeOnChanges (input : List ℕ) : Type 0 where
-    pub changes : (runWords entry_words : ℕ) → answer_from_within k input runWords entry_words ≡ answer_from_within l input runWords entry_words
+    pub changes : (run_words entry_words : ℕ) → answer_from_within k input run_words entry_words ≡ answer_from_within l input run_words entry_words
     pub runs : (out more : List ℕ) → runs_from_within k input out more ≡ runs_from_within l input out more
     pub entries : (out more : List ℕ) → entries_from_within k input out more ≡ entries_from_within l input out more
     pub whole : whole_changes k input ≡ whole_changes l input

@@ -37,7 +37,7 @@ module _ (limit : ℕ) where
     pub bytes : (version : ℕ) (out : List ℕ) → bytes_within limit version words p out ≡ out
 
   pub record RefusesChanges (older newer : List ℕ) (c : Changes) : Type 0 where
-    pub answer : (runWords entry_words : ℕ) → answer_within limit older newer runWords entry_words ≡ c
+    pub answer : (run_words entry_words : ℕ) → answer_within limit older newer run_words entry_words ≡ c
     pub runs : (out more : List ℕ) → runs_after_within limit older newer out more ≡ out
     pub entries : (out more : List ℕ) → entries_after_within limit older newer out more ≡ more
 
@@ -47,7 +47,7 @@ module _ (limit : ℕ) where
     pub whole : whole_list limit input ≡ counted.Refused r
 
   pub record RefusesInput (input : List ℕ) (c : Changes) : Type 0 where
-    pub answer : (runWords entry_words : ℕ) → answer_from_within limit input runWords entry_words ≡ c
+    pub answer : (run_words entry_words : ℕ) → answer_from_within limit input run_words entry_words ≡ c
     pub runs : (out more : List ℕ) → runs_from_within limit input out more ≡ out
     pub entries : (out more : List ℕ) → entries_from_within limit input out more ≡ more
     pub whole : whole_changes limit input ≡ c

@@ -1,5 +1,5 @@
 -- What a lookup answers (docs/RULES.md, "Lookup and its count", and refusals 1 to 4 and 9).
--- `limit` is how many profile entries an image may have; the names without `Within` have the limit in force.
+-- `limit` is how many profile entries an image may have; the names without `_within` have the limit in force.
 use Rattle.std.specs.Prelude.{ℕ, List, cond}
 use Rattle.std.proofs.Math.Option.{Option, none, some}
 use Rattle.utf8.specs.Scalar.{is_scalar}

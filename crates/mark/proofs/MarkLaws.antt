@@ -6,7 +6,6 @@ use mathlib.Core.List.{List}
 use mathlib.Core.Option.{none}
 use native.Mathlib.Omega.{arith}
 use lib.ListN.{length, get_or, set, length-set}
-use lib.Dec.{eqb, leb}
 use borrow.Author.Tests.{le-leb, lt-leb, eq-eqb, ne_eqb}
 use Rattle.lists.specs.Each.{each_from, each, column}
 use Rattle.image.specs.Check.{refusal_of}
@@ -17,7 +16,7 @@ use Rattle.blocks.specs.Blocks.{Cached, FoundAt}
 use Rattle.turns.specs.Turns.{after_of, start_by}
 use Rattle.turns.specs.Starts.{StartOf, Started}
 use Rattle.turns.proofs.ReachLaws.{Here, here_small}
-use Rattle.turns.proofs.StartLaws.{under_kind, start_under, started_fewer, started_set, started_more}
+use Rattle.turns.proofs.StartLaws.{under_kind, start_under, started_set, started_more}
 use Rattle.count.specs.Turns.{plain_of, count_states, count_waiting, count_after_of}
 use Rattle.count.specs.Steps.{row_state, step_for}
 use Rattle.count.specs.Rules.{traits_for, rule_for}

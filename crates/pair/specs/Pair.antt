@@ -1,5 +1,5 @@
 -- What the pair check of two images answers (docs/RULES.md, "Permitted changes", and refusals 10 and 11).
--- `limit` is how many profile entries an image may have; the names without `Within` have the limit in force.
+-- `limit` is how many profile entries an image may have; the names without `_within` have the limit in force.
 use Rattle.std.specs.Prelude.{ℕ, List, Bool, not, ◌&&◌, ◌||◌, cond, ltb, eqb}
 use Rattle.lists.specs.First.{first_where}
 use Rattle.utf8.specs.Scalar.{is_scalar}

@@ -1,5 +1,5 @@
 -- The replies of the calls on images, and what the arrays lent for a profile then hold (docs/RULES.md, "The calls").
-use Rattle.std.specs.Prelude.{ℕ, ◌≡◌, List, [], ◌∷◌}
+use Rattle.std.specs.Prelude.{ℕ, ◌≡◌, List}
 use Rattle.image.specs.declared.Answer.{Answer}
 use Rattle.image.specs.declared.Answer.TheVariants as answer
 use Rattle.image.specs.declared.Checked.{Checked}
@@ -27,10 +27,10 @@ array_by (answer.Refused r) new old = old
 array_by (answer.Accepted version n) new old = new
 
 -- result, answer array, and the two arrays lent for the profile are those of what a check gave
-pub record TellsChecked (k : Checked) (points roles : List ℕ) (n : ℕ) (answer newPoints newRoles : List ℕ) : Type 0 where
+pub record TellsChecked (k : Checked) (points roles : List ℕ) (n : ℕ) (answer new_points new_roles : List ℕ) : Type 0 where
   pub told : Tells (check_reply k) n answer
-  pub points_kept : newPoints ≡ array_by k.answer k.profile.points points
-  pub roles_kept : newRoles ≡ array_by k.answer k.profile.roles roles
+  pub points_kept : new_points ≡ array_by k.answer k.profile.points points
+  pub roles_kept : new_roles ≡ array_by k.answer k.profile.roles roles
 
 -- looking up: the class after the profile, and how many ranges were looked at
 abbrev pub found_reply : Found → Reply

@@ -77,7 +77,7 @@ use Rattle.pair.specs.declared.Pair.TheVariants as pair
 use Rattle.pair.specs.Change.{permitted}
 use Rattle.changes.specs.declared.Changes.TheVariants as changes
 use Rattle.changes.specs.Answer.{change_words, change_size}
-use Rattle.grammar.specs.White.{WhiteKind, blank, lineEnd, mark, is_mark, white_of}
+use Rattle.grammar.specs.White.{WhiteKind, blank, line_end, mark, is_mark, white_of}
 use Rattle.grammar.specs.Meaning.{Meaning}
 use Rattle.grammar.specs.Grammar.{Kind, identifier, syntax, whitespace}
 use Rattle.grammar.specs.Kinds.{kind_number, is_continue, is_white, kind_by, goes_with, links_with}
@@ -269,10 +269,10 @@ kind_begun w class = number_or_zero (kind_by w (class_named class))
 -- the kinds by number; those that the classes 0 to 5 begin; the classes that are Continue, and White
 abbrev pub KindNumbers : Type 0
 KindNumbers =
-    (map kind_number (identifier ∷ syntax ∷ whitespace blank ∷ whitespace lineEnd ∷ whitespace mark ∷ []) ≡ 1 ∷ 2 ∷ 3 ∷ 4 ∷ 5 ∷ [])
+    (map kind_number (identifier ∷ syntax ∷ whitespace blank ∷ whitespace line_end ∷ whitespace mark ∷ []) ≡ 1 ∷ 2 ∷ 3 ∷ 4 ∷ 5 ∷ [])
     × (hashtag_kind ≡ 6)
     × (map (kind_begun blank) class_numbers ≡ 0 ∷ 1 ∷ 0 ∷ 2 ∷ 3 ∷ 0 ∷ [])
-    × (map (kind_begun lineEnd) class_numbers ≡ 0 ∷ 1 ∷ 0 ∷ 2 ∷ 4 ∷ 0 ∷ [])
+    × (map (kind_begun line_end) class_numbers ≡ 0 ∷ 1 ∷ 0 ∷ 2 ∷ 4 ∷ 0 ∷ [])
     × (map (kind_begun mark) class_numbers ≡ 0 ∷ 1 ∷ 0 ∷ 2 ∷ 5 ∷ 0 ∷ [])
     × (chosen (λ (class : ℕ). is_continue (class_named class)) class_numbers ≡ 1 ∷ 2 ∷ [])
     × (chosen (λ (class : ℕ). is_white (class_named class)) class_numbers ≡ 4 ∷ [])
@@ -292,9 +292,9 @@ abbrev pub TokensGoOn : WhiteKind → Type 0
 TokensGoOn w =
     (going_on identifier w ≡ 1 ∷ 2 ∷ [])
     × (going_on syntax w ≡ [])
-    × (map (going_on (whitespace blank)) (blank ∷ lineEnd ∷ mark ∷ []) ≡ (4 ∷ []) ∷ [] ∷ [] ∷ [])
-    × (map (going_on (whitespace lineEnd)) (blank ∷ lineEnd ∷ mark ∷ []) ≡ [] ∷ (4 ∷ []) ∷ [] ∷ [])
-    × (map (going_on (whitespace mark)) (blank ∷ lineEnd ∷ mark ∷ []) ≡ [] ∷ [] ∷ (4 ∷ []) ∷ [])
+    × (map (going_on (whitespace blank)) (blank ∷ line_end ∷ mark ∷ []) ≡ (4 ∷ []) ∷ [] ∷ [] ∷ [])
+    × (map (going_on (whitespace line_end)) (blank ∷ line_end ∷ mark ∷ []) ≡ [] ∷ (4 ∷ []) ∷ [] ∷ [])
+    × (map (going_on (whitespace mark)) (blank ∷ line_end ∷ mark ∷ []) ≡ [] ∷ [] ∷ (4 ∷ []) ∷ [])
     × (linked_by identifier true ≡ 0 ∷ 1 ∷ 2 ∷ 3 ∷ 4 ∷ 5 ∷ [])
     × (linked_by identifier false ≡ [])
     × (linked_by syntax true ≡ [])

@@ -1,6 +1,6 @@
 -- The answers of counting and of writing the list, from what is judged before the text and the count under it. Assumes nothing.
 use Prim.Native.Nat.{ℕ, ◌*◌, ◌≤◌, ◌<◌}
-use mathlib.Core.Path.{◌≡◌, refl, sym, ap, ◌∙◌}
+use mathlib.Core.Path.{◌≡◌, sym, ap, ◌∙◌}
 use mathlib.Core.List.{List, [], ◌∷◌}
 use mathlib.Core.Option.{Option, none, some}
 use native.Mathlib.Omega.{arith}
@@ -12,7 +12,7 @@ use Rattle.utf8.specs.Text.{Character}
 use Rattle.image.specs.Check.{refusal_of}
 use Rattle.grammar.specs.Scan.{Tok}
 use Rattle.grammar.specs.Grammar.{Kind}
-use Rattle.refusal.specs.Outcome.{Outcome, given, refused, unless, outcome_map}
+use Rattle.refusal.specs.Outcome.{given, refused, unless, outcome_map}
 use Rattle.grammar.specs.Record.{record_size, room_of, listed_words}
 use Rattle.grammar.specs.Before.{max_text, before_text, allowed}
 use Rattle.grammar.specs.Reading.{reading_of, tokens_of, form_refusal, mark_refusal, judged, read_through, outcome_within, outcome_of, count_within, count_of, written_within, list_within, list_of, list_words_within, list_words}

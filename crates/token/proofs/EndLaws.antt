@@ -1,12 +1,12 @@
 -- What the starts of a text's tokens tell at its end. Assumes nothing.
 use Prim.Native.Nat.{ℕ, zero, suc, ◌+◌, ◌-◌, ◌*◌, ◌/◌, ◌≤◌, ◌<◌}
 use mathlib.Core.Path.{◌≡◌, refl, sym, ap, subst, ◌∙◌}
-use mathlib.Core.Bool.{Bool, true, false, cond}
+use mathlib.Core.Bool.{Bool, true, false}
 use mathlib.Core.List.{List, [], ◌∷◌, ◌++◌, append-nil}
 use mathlib.Core.Option.{Option, none, some}
 use native.Mathlib.Omega.{arith}
 use native.Mathlib.Decide.{dec_lt}
-use lib.ListN.{length, take, get_or, set, length-append, length-drop, length-set}
+use lib.ListN.{length, get_or, set, length-append, length-drop, length-set}
 use lib.Seq.{take_all, get_or-set_same}
 use lib.Dec.{eqb, ltb}
 use borrow.Author.Tests.{eqb-false, ne_eqb, lt-ltb, le-ltb}
@@ -23,8 +23,7 @@ use Rattle.grammar.specs.Scan.{Tok, units_of}
 use Rattle.grammar.specs.Grammar.{Kind, Token}
 use Rattle.grammar.specs.Record.{tokens_width, listed_words}
 use Rattle.grammar.specs.Reading.{meaning_of, reading_of, tokens_of, form_refusal_by, mark_refusal, judged, read_through}
-use Rattle.grammar.specs.declared.Counted.{Counted}
-use Rattle.grammar.specs.declared.Counted.TheVariants.{Refused, Records}
+use Rattle.grammar.specs.declared.Counted.TheVariants.{Records}
 use Rattle.grammar.specs.Counted.{counted_by, count_through}
 use Rattle.grammar.proofs.DivisionLaws.{division_covers}
 use Rattle.grammar.proofs.GrammarLaws.{tokens_divide}

@@ -1,5 +1,5 @@
 -- The records of a text's tokens, written piece by piece from their starts. Assumes nothing.
-use Prim.Native.Nat.{ℕ, ◌+◌, ◌-◌, ◌*◌, ◌/◌, ◌≤◌, ◌<◌}
+use Prim.Native.Nat.{ℕ, ◌+◌, ◌-◌, ◌/◌, ◌≤◌, ◌<◌}
 use mathlib.Core.Path.{◌≡◌, refl, sym, ap, subst, ◌∙◌}
 use mathlib.Core.Bool.{cond}
 use mathlib.Core.List.{List}
@@ -15,7 +15,6 @@ use Rattle.lists.specs.Laid.{laid}
 use Rattle.lists.specs.Each.{each}
 use Rattle.lists.specs.Writing.{Writing}
 use Rattle.lists.proofs.WritingLaws.{writing_begins, writing_ends}
-use Rattle.line.specs.Line.{LineAt}
 use Rattle.line.proofs.LineLaws.{line_begins}
 use Rattle.grammar.specs.Record.{record_size, listed_words}
 use Rattle.grammar.specs.Reading.{tokens_of}

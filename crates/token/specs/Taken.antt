@@ -1,5 +1,5 @@
 -- One token at a place (docs/RULES.md, "Tokens" and "Named refusals").
--- `limit` is how many profile entries an image may have; the names without `Within` have the limit in force.
+-- `limit` is how many profile entries an image may have; the names without `_within` have the limit in force.
 --
 --   unless_taken            a refusal, if there is one, else the answer
 --   place_refusal           13: the place lies past the text's end

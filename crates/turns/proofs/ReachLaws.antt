@@ -26,7 +26,7 @@ use Rattle.grammar.proofs.RecordLaws.{tokens_append}
 use Rattle.grammar.proofs.FewLaws.{few_tokens}
 use Rattle.grammar.proofs.StepLaws.{preceded_append, read_from, meant, read_step, Settles, read_settles, read_finish}
 use Rattle.turns.specs.Turns.{waiting, trait_meaning, waiting_of, turn_of, after_of, start_by}
-use Rattle.turns.proofs.TurnLaws.{Tokens, Under, L, Stands, done_by, Going, Comes, Moved, Turned, turned, settled, Left, left}
+use Rattle.turns.proofs.TurnLaws.{Tokens, Under, L, Stands, done_by, Going, Comes, Moved, Turned, turned, settled, Left}
 
 -- a place of the text up to which it is well-formed
 pub record Place (text : List ℕ) (p : ℕ) : Type 0 where

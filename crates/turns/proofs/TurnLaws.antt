@@ -16,7 +16,7 @@ use Rattle.character.specs.Traits.{token_traits, part_class, part_white}
 use Rattle.character.proofs.TraitLaws.{token_class, token_white, token_medial}
 use Rattle.grammar.specs.Scan.{Tok}
 use Rattle.grammar.specs.Step.{Local, State, idle, under, held, moves, stops, under_way_of, begin, step, settle}
-use Rattle.grammar.specs.White.{WhiteKind, blank, lineEnd, mark, same_white}
+use Rattle.grammar.specs.White.{WhiteKind, blank, line_end, mark, same_white}
 use Rattle.grammar.specs.Meaning.{Meaning}
 use Rattle.grammar.specs.Grammar.{Kind, identifier, syntax, whitespace}
 use Rattle.grammar.specs.Kinds.{kind_number, is_continue, is_white, kind_by, kind_of, goes_with, links_with, local_rules}
@@ -48,7 +48,7 @@ pub kind_less : (k : Kind) → (0 < kind_number k) × (kind_number k < waiting)
 kind_less identifier = (omega arith, omega arith)
 kind_less syntax = (omega arith, omega arith)
 kind_less (whitespace blank) = (omega arith, omega arith)
-kind_less (whitespace lineEnd) = (omega arith, omega arith)
+kind_less (whitespace line_end) = (omega arith, omega arith)
 kind_less (whitespace mark) = (omega arith, omega arith)
 
 pub number_less : (o : Option Kind) → number_by o < waiting
@@ -64,7 +64,7 @@ phase_kind : (k : Kind) → phase_named (kind_number k) ≡ within k
 phase_kind identifier = refl
 phase_kind syntax = refl
 phase_kind (whitespace blank) = refl
-phase_kind (whitespace lineEnd) = refl
+phase_kind (whitespace line_end) = refl
 phase_kind (whitespace mark) = refl
 
 pub phase_waits : (n : ℕ) → waiting ≤ n → phase_named n ≡ waits
@@ -81,7 +81,7 @@ phase_under zero h l = absurd (h refl)
 phase_under (suc zero) h l = (identifier, refl, refl)
 phase_under (suc (suc zero)) h l = (syntax, refl, refl)
 phase_under (suc (suc (suc zero))) h l = (whitespace blank, refl, refl)
-phase_under (suc (suc (suc (suc zero)))) h l = (whitespace lineEnd, refl, refl)
+phase_under (suc (suc (suc (suc zero)))) h l = (whitespace line_end, refl, refl)
 phase_under (suc (suc (suc (suc (suc zero))))) h l = (whitespace mark, refl, refl)
 phase_under (suc (suc (suc (suc (suc (suc n)))))) h l = absurd (omega arith)
 

@@ -16,7 +16,7 @@
 use Rattle.std.specs.Prelude.{ℕ, zero, suc, ◌+◌, ◌%◌, cond, List, [], ◌∷◌, leb}
 use Rattle.std.proofs.Math.Option.{Option, none, some}
 use Rattle.character.specs.Traits.{part_class, part_white}
-use Rattle.grammar.specs.White.{blank, lineEnd, mark}
+use Rattle.grammar.specs.White.{blank, line_end, mark}
 use Rattle.grammar.specs.Meaning.{Meaning}
 use Rattle.grammar.specs.Grammar.{Kind, identifier, syntax, whitespace}
 use Rattle.grammar.specs.Kinds.{kind_number, kind_of, goes_with, links_with}
@@ -46,7 +46,7 @@ phase_named zero = nothing
 phase_named (suc zero) = within identifier
 phase_named (suc (suc zero)) = within syntax
 phase_named (suc (suc (suc zero))) = within (whitespace blank)
-phase_named (suc (suc (suc (suc zero)))) = within (whitespace lineEnd)
+phase_named (suc (suc (suc (suc zero)))) = within (whitespace line_end)
 phase_named (suc (suc (suc (suc (suc zero))))) = within (whitespace mark)
 phase_named (suc (suc (suc (suc (suc (suc n)))))) = waits
 

@@ -21,7 +21,7 @@ use Rattle.character.specs.Traits.{token_traits, part_class}
 use Rattle.character.proofs.TraitLaws.{token_class, token_medial}
 use Rattle.grammar.specs.All.{All}
 use Rattle.grammar.specs.Scan.{Tok}
-use Rattle.grammar.specs.White.{WhiteKind, blank, lineEnd, mark, is_mark, white_of}
+use Rattle.grammar.specs.White.{WhiteKind, blank, line_end, mark, is_mark, white_of}
 use Rattle.grammar.specs.Grammar.{Kind, identifier, syntax, whitespace, IsContinue, IsWhite, Groups, no_group, group, Token}
 use Rattle.grammar.specs.Kinds.{kind_number}
 use Rattle.grammar.specs.Reading.{meaning_of}
@@ -88,9 +88,9 @@ module _ (s : List ℕ) (ok : refusal_of s ≡ none) (p : Plain s) where
   by_medial c e =
       unless_end c.code (λ f. true≢false (sym e ∙ sym (token_medial s c.code ok) ∙ apart_medial (token_traits s c.code) (p c.code f)))
 
-  by_white : (w : WhiteKind) → (w ≡ lineEnd → ⊥) → (c : Character) → IsWhite (meaning_of s) w c → NoEnd c
+  by_white : (w : WhiteKind) → (w ≡ line_end → ⊥) → (c : Character) → IsWhite (meaning_of s) w c → NoEnd c
   unfolding meaning_of white_of
-  by_white w n c h = unless_end c.code (λ f. n (sym h.1 ∙ ap (λ (b : Bool). cond b lineEnd (cond (is_mark c.code) mark blank)) f))
+  by_white w n c h = unless_end c.code (λ f. n (sym h.1 ∙ ap (λ (b : Bool). cond b line_end (cond (is_mark c.code) mark blank)) f))
 
   in_groups : (u : List Character) → Groups (meaning_of s) u → All NoEnd u
   in_groups _ no_group = tt

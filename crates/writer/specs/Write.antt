@@ -1,5 +1,5 @@
 -- What writing an image gives (docs/RULES.md, "Named refusals").
--- `limit` is how many profile entries an image may have; the names without `Within` have the limit in force.
+-- `limit` is how many profile entries an image may have; the names without `_within` have the limit in force.
 --
 --   ranges_in, bytes_needed              the number of ranges of a list of words; the bytes of the image with these
 --   value_at                            the value at each index of an array

@@ -1,6 +1,5 @@
 -- `blocks::all_start` meets its contract. Assumes nothing.
 use native.Mathlib.Omega.{arith}
-use borrow.Author.Rules.{rules}
 use borrow.Author.Tests.{eqb-true}
 use Rattle.lists.proofs.BoolLaws.{impossible}
 use Rattle.blocks.proofs.all_start.Goals as goal

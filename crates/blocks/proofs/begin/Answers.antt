@@ -1,13 +1,12 @@
 -- `blocks::begin` meets its contract. The invariant: the rows of Start are filled up to a place. Assumes nothing.
-use Prim.Native.Nat.{ℕ, ◌-◌, ◌≤◌, ◌<◌}
+use Prim.Native.Nat.{ℕ, ◌≤◌, ◌<◌}
 use mathlib.Core.Path.{◌≡◌, refl, ◌∙◌}
 use native.Mathlib.Omega.{arith}
 use mathlib.Core.List.{List}
 use lib.ListN.{length, take, length-take, length-set}
 use borrow.Rule.Slice.PartMut.{put_mid, same_len_mid}
 use Rattle.lists.specs.Filled.{Filled}
-use borrow.Author.Rules.{rules}
-use Rattle.blocks.proofs.LearnLaws.{Beginning, beginning, beginning_more, begins}
+use Rattle.blocks.proofs.LearnLaws.{beginning, beginning_more, begins}
 use Rattle.blocks.proofs.begin.Goals as goal
 
 -- the part that ASCII is put into

@@ -6,7 +6,6 @@ use native.Mathlib.Omega.{arith}
 use lib.ListN.{get_or}
 use Rattle.utf8.proofs.EncodingLaws.{encodes_4}
 use Rattle.blocks.proofs.ByteLaws.{trails, found_none, found}
-use borrow.Author.Rules.{rules}
 use Rattle.blocks.proofs.known_four.Goals as goal
 use Rattle.blocks.proofs.known_four.Goals.{After-widen-2}
 

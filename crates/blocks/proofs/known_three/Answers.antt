@@ -6,7 +6,6 @@ use native.Mathlib.Omega.{arith}
 use lib.ListN.{get_or}
 use Rattle.utf8.proofs.EncodingLaws.{encodes_3}
 use Rattle.blocks.proofs.ByteLaws.{trails, found_none, found}
-use borrow.Author.Rules.{rules}
 use Rattle.blocks.proofs.known_three.Goals as goal
 use Rattle.blocks.proofs.known_three.Goals.{After-widen-2}
 

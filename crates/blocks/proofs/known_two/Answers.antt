@@ -6,7 +6,6 @@ use native.Mathlib.Omega.{arith}
 use lib.ListN.{get_or}
 use Rattle.utf8.proofs.EncodingLaws.{encodes_2}
 use Rattle.blocks.proofs.ByteLaws.{trails, leads, found_none, found}
-use borrow.Author.Rules.{rules}
 use Rattle.blocks.proofs.known_two.Goals as goal
 use Rattle.blocks.proofs.known_two.Goals.{After-widen}
 

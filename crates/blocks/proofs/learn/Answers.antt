@@ -1,6 +1,5 @@
 -- `blocks::learn` meets its contract. Assumes nothing.
 use native.Mathlib.Omega.{arith}
-use borrow.Author.Rules.{rules}
 use Rattle.blocks.proofs.LearnLaws.{learns_more, learns_start, learns_row}
 use Rattle.blocks.proofs.learn.Goals as goal
 

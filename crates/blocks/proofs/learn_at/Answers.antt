@@ -3,7 +3,6 @@ use native.Mathlib.Omega.{arith}
 use lib.ListN.{drop, length-drop}
 use Rattle.utf8.proofs.TextLaws.{step_bounds, unpacked}
 use Rattle.blocks.proofs.ByteLaws.{block_long}
-use borrow.Author.Rules.{rules}
 use Rattle.blocks.proofs.learn_at.Goals as goal
 
 pub learn-requires : goal.learn-requires

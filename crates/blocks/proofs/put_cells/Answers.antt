@@ -1,7 +1,5 @@
 -- `blocks::put_cells` meets its contract. The invariant: the cell was put up to a place. Assumes nothing.
-use Prim.Native.Nat.{◌-◌, ◌≤◌}
 use native.Mathlib.Omega.{arith}
-use Rattle.blocks.specs.Blocks.{Put}
 use Rattle.blocks.proofs.LearnLaws.{put_none, put_more}
 use Rattle.blocks.proofs.put_cells.Goals as goal
 

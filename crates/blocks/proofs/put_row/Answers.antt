@@ -1,7 +1,6 @@
 -- `blocks::put_row` meets its contract. Assumes nothing.
 use mathlib.Core.Path.{refl}
 use native.Mathlib.Omega.{arith}
-use borrow.Author.Rules.{rules}
 use Rattle.blocks.proofs.LearnLaws.{row_put}
 use Rattle.blocks.proofs.put_row.Goals as goal
 

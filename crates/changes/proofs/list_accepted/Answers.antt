@@ -3,7 +3,6 @@ use Prim.Native.Nat.{ℕ}
 use mathlib.Core.Path.{refl, sym, ap, ◌∙◌}
 use native.Mathlib.Omega.{arith}
 use lib.Seq.{take_all}
-use borrow.Author.Rules.{rules}
 use Rattle.refusal.specs.declared.Refusal.TheVariants as refusal
 use Rattle.changes.specs.declared.Changes.TheVariants as changes
 use Rattle.changes.proofs.RoomLaws.{needed, none_needed, lacks_runs, lacks_entries, lists_both}

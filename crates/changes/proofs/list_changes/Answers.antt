@@ -2,7 +2,6 @@
 use mathlib.Core.Path.{refl, sym, ◌∙◌}
 use Rattle.pair.proofs.JudgedLaws.{both_accepted}
 use Rattle.changes.proofs.RoomLaws.{answered_by}
-use borrow.Author.Rules.{rules}
 use Rattle.changes.proofs.list_changes.Goals as goal
 
 pub list_accepted-requires : goal.list_accepted-requires

@@ -1,10 +1,7 @@
 -- `character::fill_cells` meets its contract: the places passed hold what the token rules know, with the tag. Assumes nothing.
 use Prim.Native.Nat.{◌-◌}
-use mathlib.Core.Path.{◌∙◌}
-use native.Mathlib.Omega.{arith}
-use borrow.Author.Rules.{rules}
 use lib.ListN.{length}
-use Rattle.character.proofs.CharacterLaws.{Cut, cut_begins, cut_more}
+use Rattle.character.proofs.CharacterLaws.{Cut}
 use Rattle.character.proofs.fill_cells.Given as goal
 
 abbrev pub invariant-loop-i : goal.invariant-loop-i

@@ -1,17 +1,13 @@
 -- `character::fill_part` meets its contract: the places passed hold their traits, and the walk has come to the next. Assumes nothing.
-use Prim.Native.Nat.{ℕ, ◌+◌, ◌-◌, ◌≤◌}
-use mathlib.Core.Path.{◌≡◌, refl, sym, ◌∙◌}
+use Prim.Native.Nat.{◌+◌}
+use mathlib.Core.Path.{refl, sym, ◌∙◌}
 use native.Mathlib.Omega.{arith}
-use borrow.Author.Rules.{rules}
 use borrow.Author.Tests.{leb-true}
-use lib.ListN.{length}
 use lib.Dec.{leb}
-use Rattle.lists.specs.Filled.{Filled}
 use Rattle.lists.proofs.BoolLaws.{and_left, and_right}
 use Rattle.lists.proofs.FilledLaws.{filled_none, filled_more, filled_all}
-use Rattle.character.specs.Traits.{traits_of}
 use Rattle.character.proofs.CharacterLaws.{traits_small}
-use Rattle.character.proofs.PlaceLaws.{WalkOf, WalkAt, walk_begins, walk_on, walk_same}
+use Rattle.character.proofs.PlaceLaws.{WalkAt, walk_begins, walk_on, walk_same}
 use Rattle.character.proofs.fill_part.Goals as goal
 use Rattle.character.proofs.fill_part.Goals.{Joined-not-is_known, then-not-is_known, else-not-is_known}
 

@@ -1,5 +1,4 @@
 -- `character::find_stretch` meets its contract. Assumes nothing.
-use borrow.Author.Rules.{rules}
 use Rattle.character.proofs.find_stretch.Goals as goal
 
 pub stretch_at-requires : goal.stretch_at-requires

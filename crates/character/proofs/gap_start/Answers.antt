@@ -2,7 +2,6 @@
 use mathlib.Core.Path.{ap}
 use native.Mathlib.Omega.{arith}
 use Rattle.image.specs.declared.Range.{Range}
-use borrow.Author.Rules.{rules}
 use Rattle.character.proofs.gap_start.Goals as goal
 
 pub overflow_add-result : goal.overflow_add-result

@@ -2,7 +2,6 @@
 use mathlib.Core.Path.{sym, ◌∙◌}
 use native.Mathlib.Omega.{arith}
 use Rattle.image.proofs.RoleLaws.{medial_alone}
-use borrow.Author.Rules.{rules}
 use Rattle.character.proofs.join_traits.Goals as goal
 
 pub returns-then-is_medial : goal.returns-then-is_medial

@@ -3,7 +3,6 @@ use native.Mathlib.Omega.{arith}
 use Rattle.grammar.specs.White.{white_of}
 use Rattle.character.proofs.TraitLaws.{white_small}
 use Rattle.character.proofs.CharacterLaws.{after_small, memo_other, memo_white, joined_small, white_joined}
-use borrow.Author.Rules.{rules}
 use Rattle.character.proofs.memo_of.Goals as goal
 
 pub join_traits-traits-requires : goal.join_traits-traits-requires

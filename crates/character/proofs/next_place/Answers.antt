@@ -1,10 +1,5 @@
 -- `character::next_place` meets its contract. The invariant: x has passed the place. Assumes nothing.
-use Prim.Native.Nat.{◌-◌}
-use mathlib.Core.Path.{◌≡◌}
 use native.Mathlib.Omega.{arith}
-use borrow.Author.Rules.{rules}
-use Rattle.image.specs.Records.{record_at, record_count}
-use Rattle.image.specs.Placed.{Passed}
 use Rattle.image.proofs.SectionLaws.{few_records}
 use Rattle.character.proofs.PlaceLaws.{passed_next, placed_here}
 use Rattle.character.proofs.next_place.Goals as goal

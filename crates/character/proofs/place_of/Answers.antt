@@ -1,13 +1,7 @@
 -- `character::place_of` meets its contract. The invariant: the place is from lo to hi. Assumes nothing.
-use Prim.Native.Nat.{◌-◌}
-use mathlib.Core.Path.{◌≡◌}
-use mathlib.Core.Option.{none}
 use native.Mathlib.Omega.{arith}
-use Rattle.image.specs.Check.{refusal_of}
-use Rattle.image.specs.Records.{record_at, record_count}
 use Rattle.image.proofs.SectionLaws.{few_records}
-use Rattle.character.proofs.PlaceLaws.{Between, between_begins, between_above, between_below, between_placed}
-use borrow.Author.Rules.{rules}
+use Rattle.character.proofs.PlaceLaws.{between_begins, between_above, between_below, between_placed}
 use Rattle.character.proofs.place_of.Goals as goal
 
 pub loop-lo-init : goal.loop-lo-init

@@ -2,12 +2,9 @@
 use Prim.Native.Nat.{◌-◌}
 use mathlib.Core.Path.{◌≡◌}
 use mathlib.Core.Option.{none}
-use native.Mathlib.Omega.{arith}
 use Rattle.image.specs.Check.{refusal_of}
 use Rattle.image.specs.Records.{record_at, record_count}
-use Rattle.image.proofs.SectionLaws.{few_records}
-use Rattle.character.proofs.PlaceLaws.{Between, between_begins, between_above, between_below, between_placed}
-use borrow.Author.Rules.{rules}
+use Rattle.character.proofs.PlaceLaws.{Between}
 use Rattle.character.proofs.place_of.Given as goal
 
 abbrev pub invariant-loop-lo : goal.invariant-loop-lo

@@ -1,6 +1,5 @@
 -- `character::read` meets its contract: a byte below 80 by the table, another sequence decoded. Assumes nothing.
 use Rattle.character.proofs.CharacterLaws.{read_ascii}
-use borrow.Author.Rules.{rules}
 use Rattle.character.proofs.read.Goals as goal
 
 pub returns-then-b-lt128 : goal.returns-then-b-lt128

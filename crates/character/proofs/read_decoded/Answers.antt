@@ -3,7 +3,6 @@ use native.Mathlib.Omega.{arith}
 use lib.ListN.{drop, length-drop}
 use Rattle.utf8.proofs.TextLaws.{Unpacked, unpacked}
 use Rattle.character.proofs.CharacterLaws.{read_settled}
-use borrow.Author.Rules.{rules}
 use Rattle.character.proofs.read_decoded.Goals as goal
 use Rattle.character.proofs.read_decoded.Goals.{After-decode_packed-packed}
 

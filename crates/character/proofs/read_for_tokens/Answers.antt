@@ -3,7 +3,6 @@ use Prim.Native.Nat.{ℕ, ◌%◌}
 use mathlib.Core.Path.{ap, ◌∙◌}
 use Rattle.character.proofs.TraitLaws.{token_traits_lem}
 use Rattle.character.proofs.CharacterLaws.{read_ascii}
-use borrow.Author.Rules.{rules}
 use Rattle.character.proofs.read_for_tokens.Goals as goal
 
 pub returns-then-b-lt128 : goal.returns-then-b-lt128

@@ -1,5 +1,4 @@
 -- `character::search` meets its contract. Assumes nothing.
-use borrow.Author.Rules.{rules}
 use Rattle.character.proofs.search.Goals as goal
 
 pub memo_of-requires : goal.memo_of-requires

@@ -4,7 +4,6 @@ use mathlib.Core.Path.{refl, sym, ◌∙◌}
 use lib.Dec.{leb}
 use borrow.Author.Tests.{leb-true}
 use Rattle.lists.proofs.BoolLaws.{and_left, and_right}
-use borrow.Author.Rules.{rules}
 use Rattle.character.proofs.settle.Goals as goal
 
 pub returns-then-is_known : goal.returns-then-is_known

@@ -3,7 +3,6 @@ use mathlib.Core.Path.{ap}
 use native.Mathlib.Omega.{arith}
 use Rattle.image.specs.declared.Range.{Range}
 use Rattle.character.proofs.CharacterLaws.{stretch_gap, stretch_record}
-use borrow.Author.Rules.{rules}
 use Rattle.character.proofs.stretch_at.Goals as goal
 
 pub returns-then-count_records-i : goal.returns-then-count_records-i

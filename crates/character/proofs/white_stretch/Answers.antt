@@ -1,7 +1,6 @@
 -- `character::white_stretch` meets its contract, by the kind of White. Assumes nothing.
 use mathlib.Core.Path.{sym, ◌∙◌}
 use Rattle.character.proofs.WhiteLaws.{mark_alone, blank_alone, line_end_alone, line_ends}
-use borrow.Author.Rules.{rules}
 use Rattle.character.proofs.white_stretch.Goals as goal
 
 pub returns-then-x-le-CARRIAGE_RETURN : goal.returns-then-x-le-CARRIAGE_RETURN

@@ -1,7 +1,6 @@
 -- `count::advance` meets its contract, by the character's turn. Assumes nothing.
 use mathlib.Core.Path.{refl, ap, ◌∙◌}
 use native.Mathlib.Omega.{arith}
-use borrow.Author.Rules.{rules}
 use Rattle.grammar.specs.declared.Counted.TheVariants.{Refused}
 use Rattle.turns.proofs.ReachLaws.{here_small}
 use Rattle.count.proofs.RuleLaws.{rule_after, rule_waits}

@@ -1,6 +1,5 @@
 -- `count::ascii_cell` meets its contract. Assumes nothing.
 use native.Mathlib.Omega.{arith}
-use borrow.Author.Rules.{rules}
 use Rattle.count.proofs.ascii_cell.Goals as goal
 
 pub returns : goal.returns

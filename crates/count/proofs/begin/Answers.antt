@@ -1,6 +1,5 @@
 -- `count::begin` meets its contract: no token is complete, and none is under way. Assumes nothing.
 use mathlib.Core.Path.{refl}
-use borrow.Author.Rules.{rules}
 use Rattle.count.proofs.CountLaws.{counting_begins}
 use Rattle.count.proofs.begin.Goals as goal
 

@@ -1,8 +1,7 @@
 -- `count::count_on` meets its contract. The loop's invariant: what is counted so far, and what blocks hold is right. Assumes nothing.
-use Prim.Native.Nat.{◌-◌, ◌≤◌, ◌<◌}
+use Prim.Native.Nat.{◌≤◌, ◌<◌}
 use mathlib.Core.Path.{◌≡◌, refl, sym, subst, ◌∙◌}
 use native.Mathlib.Omega.{arith}
-use borrow.Author.Rules.{rules}
 use lib.ListN.{length}
 use Rattle.blocks.specs.Blocks.{Learning}
 use Rattle.count.specs.Counting.{CountingAs}

@@ -1,14 +1,9 @@
 -- `count::count_on` meets its contract. The loop's invariant: what is counted so far, and what blocks hold is right. Assumes nothing.
-use Prim.Native.Nat.{◌-◌, ◌≤◌, ◌<◌}
-use mathlib.Core.Path.{◌≡◌, refl, sym, subst, ◌∙◌}
-use mathlib.Core.Logic.{⊎_elim}
-use native.Mathlib.Omega.{arith}
-use borrow.Author.Rules.{rules}
+use Prim.Native.Nat.{◌-◌}
+use mathlib.Core.Path.{◌≡◌}
 use lib.ListN.{length}
 use Rattle.blocks.specs.Blocks.{Learning}
 use Rattle.count.specs.Counting.{CountingAs}
-use Rattle.count.proofs.CountLaws.{counting_few, finishes}
-use Rattle.count.proofs.LookLaws.{looked_refused, looked_on, looked_memo}
 use Rattle.count.proofs.count_on.Given as goal
 
 abbrev pub invariant-loop-run : goal.invariant-loop-run

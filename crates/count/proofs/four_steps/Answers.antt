@@ -1,7 +1,6 @@
 -- `count::four_steps` meets its contract. Assumes nothing.
 use mathlib.Core.Path.{refl}
 use native.Mathlib.Omega.{arith}
-use borrow.Author.Rules.{rules}
 use Rattle.count.proofs.FourLaws.{rule_same, rule_most}
 use Rattle.count.proofs.four_steps.Goals as goal
 

@@ -2,7 +2,6 @@
 use Prim.Native.Nat.{ℕ, ◌≤◌}
 use mathlib.Core.Path.{ap, ◌∙◌}
 use native.Mathlib.Omega.{arith}
-use borrow.Author.Rules.{rules}
 use Rattle.grammar.specs.declared.Counted.TheVariants.{Refused}
 use Rattle.turns.proofs.ReachLaws.{Here, here, here_small}
 use Rattle.count.specs.Turns.{count_waiting}

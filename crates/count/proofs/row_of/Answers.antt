@@ -2,7 +2,6 @@
 use mathlib.Core.Path.{◌≡◌, sym, ap, ◌∙◌}
 use native.Mathlib.Omega.{arith}
 use lib.ListN.{get_or}
-use borrow.Author.Rules.{rules}
 use Rattle.count.specs.Steps.{row_state, state_rows}
 use Rattle.count.proofs.RuleLaws.{rule_row}
 use Rattle.count.proofs.StepLaws.{row_at}

@@ -1,6 +1,6 @@
 -- `count::run_count` meets its contract. The loop's invariant: what is counted is so in the state of the row, and a medial that waits
 -- is the last character. Assumes nothing.
-use Prim.Native.Nat.{ℕ, ◌+◌, ◌-◌, ◌≤◌, ◌<◌}
+use Prim.Native.Nat.{ℕ, ◌+◌, ◌≤◌, ◌<◌}
 use mathlib.Core.Path.{◌≡◌, refl, sym, ◌∙◌}
 use native.Mathlib.Omega.{arith}
 use borrow.Author.Rules.{rules}
@@ -11,7 +11,7 @@ use Rattle.count.specs.Rules.{rule_for}
 use Rattle.count.specs.Four.{cell_for, FourSteps}
 use Rattle.count.proofs.CountLaws.{counting_same}
 use Rattle.count.proofs.RuleLaws.{rule_state}
-use Rattle.count.proofs.KnownLaws.{here_ascii, Running, Ran, ran, ran_known}
+use Rattle.count.proofs.KnownLaws.{here_ascii, Ran, ran, ran_known}
 use Rattle.count.proofs.FourLaws.{small_cells, running_same, RanFour, ran_four}
 use Rattle.count.proofs.run_count.Goals as goal
 use Rattle.count.proofs.run_count.Goals.{After-widen-traits, Else-step-ge-ODD, In-loop-at, Then-four-lt-ODD}

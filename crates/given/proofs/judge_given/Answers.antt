@@ -2,7 +2,6 @@
 use mathlib.Core.Path.{sym, ap}
 use Rattle.image.proofs.ImageLaws.{refused_by, accepted_by}
 use Rattle.given.specs.Given.{judgement_of}
-use borrow.Author.Rules.{rules}
 use Rattle.given.proofs.judge_given.Goals as goal
 
 pub returns-in-Refused : goal.returns-in-Refused

@@ -4,7 +4,6 @@ use Rattle.image.proofs.ImageLaws.{accepted}
 use Rattle.given.specs.Given.{judgement_of}
 use Rattle.grammar.specs.Before.{too_long, allowed}
 use Rattle.grammar.proofs.BeforeLaws.{means_before}
-use borrow.Author.Rules.{rules}
 use Rattle.grammar.proofs.judge_checked.Goals as goal
 
 pub returns-then-most-text : goal.returns-then-most-text

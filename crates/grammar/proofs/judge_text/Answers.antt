@@ -5,7 +5,6 @@ use Rattle.given.specs.Given.{judgement_of}
 use Rattle.given.proofs.JudgementLaws.{is_refused, is_accepted}
 use Rattle.grammar.specs.Before.{of_image}
 use Rattle.grammar.proofs.BeforeLaws.{means_before}
-use borrow.Author.Rules.{rules}
 use Rattle.grammar.proofs.judge_text.Goals as goal
 
 pub judge_checked-requires : goal.judge_checked-requires

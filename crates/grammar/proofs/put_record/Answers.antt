@@ -2,7 +2,6 @@
 use native.Mathlib.Omega.{arith}
 use lib.ListN.{length-set}
 use Rattle.lists.proofs.SetLaws.{set_four}
-use borrow.Author.Rules.{rules}
 use Rattle.grammar.proofs.put_record.Goals as goal
 
 pub bounds-out-1 : goal.bounds-out-1

@@ -1,7 +1,6 @@
 -- `grammar::refuse_at` meets its contract. Assumes nothing.
 use mathlib.Core.Path.{◌≡◌, sym, ap, ◌∙◌}
 use native.Mathlib.Omega.{arith}
-use borrow.Author.Rules.{rules}
 use lib.ListN.{drop, length-drop}
 use Rattle.lists.proofs.LaidLaws.{rest}
 use Rattle.utf8.specs.declared.Text.{Text}

@@ -1,5 +1,4 @@
 -- `image::accept` meets its contract. Assumes nothing.
-use borrow.Author.Rules.{rules}
 use Rattle.image.proofs.accept.Goals as goal
 
 pub returns : goal.returns

@@ -5,7 +5,6 @@ use mathlib.Core.Bool.{Bool, true, ◌&&◌}
 use lib.Dec.{eqb}
 use Rattle.image.specs.Header.{image_end}
 use borrow.Author.Tests.{eq-eqb, ne_eqb}
-use borrow.Author.Rules.{rules}
 use Rattle.image.proofs.are_offsets_right.Goals as goal
 
 last_decides : (p q r : Bool) → p ≡ true → q ≡ true → r ≡ (p && (q && r))

@@ -2,7 +2,6 @@
 use mathlib.Core.Path.{sym, ◌∙◌}
 use Rattle.image.proofs.ImageLaws.{refused_by, accepted_by}
 use Rattle.image.proofs.AnswerLaws.{record_accepted, record_refused}
-use borrow.Author.Rules.{rules}
 use Rattle.image.proofs.check.Goals as goal
 
 pub accept-requires : goal.accept-requires

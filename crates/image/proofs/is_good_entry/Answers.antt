@@ -11,7 +11,6 @@ use Rattle.image.specs.Limits.{word_bytes, entry_bytes}
 use Rattle.image.specs.Header.{range_count, entries_at}
 use Rattle.image.specs.Profile.{point_at, role_at, good_entry_alone, good_entry}
 use Rattle.image.proofs.ImageLaws.{point_is, role_is}
-use borrow.Author.Rules.{rules}
 use Rattle.image.proofs.is_good_entry.Goals as goal
 
 -- entry i has the code point p and the role r; b is the answer of the test of the pair

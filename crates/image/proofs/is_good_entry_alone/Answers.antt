@@ -1,6 +1,5 @@
 -- `image::is_good_entry_alone` meets its contract. Assumes nothing.
 use mathlib.Core.Path.{sym, ◌∙◌}
-use borrow.Author.Rules.{rules}
 use borrow.Author.Tests.{le-leb, lt-leb}
 use Rattle.image.specs.Profile.{good_entry_alone}
 use Rattle.image.proofs.is_good_entry_alone.Goals as goal

@@ -1,7 +1,6 @@
 -- `image::is_header_right` meets its contract. Assumes nothing.
 use borrow.Author.Tests.{le-leb, lt-leb, eq-eqb, ne_eqb}
 use Rattle.image.specs.Header.{header_within}
-use borrow.Author.Rules.{rules}
 use Rattle.image.proofs.is_header_right.Goals as goal
 
 pub returns-then-word-ne-FORMAT : goal.returns-then-word-ne-FORMAT

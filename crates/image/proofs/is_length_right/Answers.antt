@@ -1,7 +1,6 @@
 -- `image::is_length_right` meets its contract. Assumes nothing.
 use borrow.Author.Tests.{le-leb, lt-leb}
 use Rattle.image.specs.Header.{length_within}
-use borrow.Author.Rules.{rules}
 use Rattle.image.proofs.is_length_right.Goals as goal
 
 pub returns-then-image-lt-HEADER_BYTES : goal.returns-then-image-lt-HEADER_BYTES

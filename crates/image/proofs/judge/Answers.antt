@@ -1,7 +1,6 @@
 -- `image::judge` meets its contract. Assumes nothing.
 use mathlib.Core.Path.{sym, ◌∙◌}
 use Rattle.image.proofs.ImageLaws.{sized, refuses, header_refused, length_refused}
-use borrow.Author.Rules.{rules}
 use Rattle.image.proofs.judge.Goals as goal
 
 pub is_header_right-requires : goal.is_header_right-requires

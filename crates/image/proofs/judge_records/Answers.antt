@@ -13,7 +13,6 @@ use Rattle.image.specs.Check.{refusal_of}
 use Rattle.image.specs.Accepted.{Headed}
 use Rattle.image.proofs.RecordsLaws.{range_found, entry_found, none_found}
 use Rattle.image.proofs.ImageLaws.{sized, headed, past_header, refuses, accepts}
-use borrow.Author.Rules.{rules}
 use Rattle.image.proofs.judge_records.Goals as goal
 
 right : (s : List ℕ) → (length_right s ≡ true) × (header_right s ≡ true) → Headed s

@@ -1,5 +1,4 @@
 -- `image::may_follow` meets its contract. Assumes nothing.
-use borrow.Author.Rules.{rules}
 use borrow.Author.Tests.{eq-eqb, ne_eqb, lt-ltb, le-ltb}
 use Rattle.image.specs.Ranges.{follows}
 use Rattle.image.proofs.may_follow.Goals as goal

@@ -1,18 +1,17 @@
 -- `image::put_profile` meets its contract. The loop: the first i entries stand in the arrays, and zeros past them. Assumes nothing.
-use Prim.Native.Nat.{ℕ, ◌+◌, ◌*◌, ◌-◌, ◌≤◌, ◌<◌}
+use Prim.Native.Nat.{ℕ, ◌+◌, ◌<◌}
 use mathlib.Core.Path.{◌≡◌, sym, ap, ◌∙◌}
 use mathlib.Core.List.{List}
 use native.Mathlib.Omega.{arith}
-use lib.ListN.{length, set}
+use lib.ListN.{set}
 use Rattle.lists.specs.Each.{column}
 use Rattle.lists.proofs.EachLaws.{column_none, column-set}
-use Rattle.image.specs.Limits.{max_entries, entry_bytes}
-use Rattle.image.specs.Header.{range_count, entry_count, entries_at}
+use Rattle.image.specs.Limits.{max_entries}
+use Rattle.image.specs.Header.{entry_count, entries_at}
 use Rattle.image.specs.Profile.{point_at, role_at}
 use Rattle.image.specs.declared.Profile.{Profile}
 use Rattle.image.proofs.ImageLaws.{accepted, point_is, role_is}
 use Rattle.image.proofs.AnswerLaws.{profile_is}
-use Rattle.image.proofs.put_profile.Invariants.{Entries}
 use Rattle.image.proofs.put_profile.Goals as goal
 
 filled : (f : ℕ → ℕ) (i v : ℕ) (p : List ℕ) → p ≡ column max_entries f i → v ≡ f i → i < max_entries → set p i v ≡ column max_entries f (i + 1)

@@ -1,17 +1,12 @@
 -- `image::put_profile` meets its contract. The loop: the first i entries stand in the arrays, and zeros past them. Assumes nothing.
-use Prim.Native.Nat.{ℕ, ◌+◌, ◌*◌, ◌-◌, ◌≤◌, ◌<◌}
-use mathlib.Core.Path.{◌≡◌, sym, ap, ◌∙◌}
+use Prim.Native.Nat.{ℕ, ◌+◌, ◌*◌, ◌-◌, ◌≤◌}
+use mathlib.Core.Path.{◌≡◌}
 use mathlib.Core.List.{List}
-use native.Mathlib.Omega.{arith}
-use lib.ListN.{length, set}
+use lib.ListN.{length}
 use Rattle.lists.specs.Each.{column}
-use Rattle.lists.proofs.EachLaws.{column_none, column-set}
 use Rattle.image.specs.Limits.{max_entries, entry_bytes}
-use Rattle.image.specs.Header.{range_count, entry_count, entries_at}
+use Rattle.image.specs.Header.{range_count, entries_at}
 use Rattle.image.specs.Profile.{point_at, role_at}
-use Rattle.image.specs.declared.Profile.{Profile}
-use Rattle.image.proofs.ImageLaws.{accepted, point_is, role_is}
-use Rattle.image.proofs.AnswerLaws.{profile_is}
 use Rattle.image.proofs.put_profile.Given as goal
 
 -- the m entries from byte `base` on are those of the image, and lie in it

@@ -2,7 +2,6 @@
 use native.Mathlib.Omega.{arith}
 use lib.ListN.{length-set}
 use Rattle.lists.proofs.SetLaws.{set_three}
-use borrow.Author.Rules.{rules}
 use Rattle.image.proofs.put_range.Goals as goal
 
 pub bounds-out-1 : goal.bounds-out-1

@@ -1,6 +1,5 @@
 -- `image::range_at` meets its contract. Assumes nothing.
 use Rattle.image.specs.Ranges.{range_at}
-use borrow.Author.Rules.{rules}
 use Rattle.image.proofs.range_at.Goals as goal
 
 pub returns : goal.returns

@@ -2,7 +2,6 @@
 use mathlib.Core.Path.{sym, ◌∙◌}
 use Rattle.image.proofs.ReadLaws.{read_accepts}
 use Rattle.image.proofs.AnswerLaws.{read_accepted, read_refuses}
-use borrow.Author.Rules.{rules}
 use Rattle.image.proofs.read.Goals as goal
 
 pub accept-requires : goal.accept-requires

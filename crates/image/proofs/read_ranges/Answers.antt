@@ -10,7 +10,6 @@ use Rattle.image.specs.declared.Checked.{Checked}
 use Rattle.image.specs.Ranges.{range_at, range_words}
 use Rattle.image.proofs.ImageLaws.{accepted, refused_by, accepted_by}
 use Rattle.image.proofs.ReadLaws.{image_refuses, room_refuses, none_refuses, read_by}
-use borrow.Author.Rules.{rules}
 use Rattle.image.proofs.read_ranges.Goals as goal
 
 pub returns-then-out-ranges : goal.returns-then-out-ranges

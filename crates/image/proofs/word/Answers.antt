@@ -1,6 +1,5 @@
 -- `image::word` meets its contract. Assumes nothing.
 use Rattle.image.specs.Word.{word_at}
-use borrow.Author.Rules.{rules}
 use Rattle.image.proofs.word.Goals as goal
 
 pub returns : goal.returns

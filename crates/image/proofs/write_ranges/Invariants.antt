@@ -1,15 +1,9 @@
 -- `image::write_ranges` meets its contract. The loop: the first i ranges stand in the buffer. Assumes nothing.
-use Prim.Native.Nat.{ℕ, ◌-◌, ◌*◌}
-use mathlib.Core.Path.{refl, ap, ◌∙◌}
+use Prim.Native.Nat.{ℕ, ◌-◌}
 use mathlib.Core.List.{List}
-use native.Mathlib.Omega.{arith}
-use lib.ListN.{length, take, drop, length-take, length-drop}
-use Rattle.lists.specs.Laid.{laid}
 use Rattle.image.specs.Limits.{words_per_range}
 use Rattle.image.specs.Ranges.{range_at, range_words}
-use Rattle.image.specs.declared.Range.{Range}
 use Rattle.lists.specs.Writing.{Writing}
-use Rattle.lists.proofs.WritingLaws.{writing_begins, writing_lent, writing_ends}
 use Rattle.image.proofs.write_ranges.Given as goal
 
 abbrev pub words_of : List ℕ → ℕ → List ℕ

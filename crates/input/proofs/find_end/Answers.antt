@@ -2,7 +2,6 @@
 use mathlib.Core.Path.{sym, ◌∙◌}
 use native.Mathlib.Omega.{arith}
 use Rattle.input.proofs.FrontLaws.{end_whole, end_cut}
-use borrow.Author.Rules.{rules}
 use Rattle.input.proofs.find_end.Goals as goal
 
 pub returns : goal.returns

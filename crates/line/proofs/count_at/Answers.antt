@@ -1,7 +1,6 @@
 -- `line::count_at` meets its contract. Assumes nothing.
 use mathlib.Core.Path.{sym, ◌∙◌}
 use native.Mathlib.Omega.{arith}
-use borrow.Author.Rules.{rules}
 use lib.ListN.{drop, length-drop}
 use Rattle.utf8.proofs.TextLaws.{Unpacked, unpacked}
 use Rattle.line.proofs.LineLaws.{end_at_lem, end_none}

@@ -1,6 +1,5 @@
 -- `line::count_end` meets its contract. Assumes nothing.
 use mathlib.Core.Path.{sym, ◌∙◌}
-use borrow.Author.Rules.{rules}
 use Rattle.line.proofs.LineLaws.{ends_not, ends_here, return_before_feed, return_alone}
 use Rattle.line.proofs.count_end.Goals as goal
 

@@ -1,6 +1,5 @@
 -- `line::is_feed_at` meets its contract. Assumes nothing.
 use mathlib.Core.Path.{sym}
-use borrow.Author.Rules.{rules}
 use Rattle.line.proofs.LineLaws.{feed_end, feed_byte}
 use Rattle.line.proofs.is_feed_at.Goals as goal
 

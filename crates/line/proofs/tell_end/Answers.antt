@@ -1,5 +1,4 @@
 -- `line::tell_end` meets its contract. Assumes nothing.
-use borrow.Author.Rules.{rules}
 use borrow.Author.Tests.{ne_eqb, lt-ltb, le-ltb}
 use Rattle.line.specs.Ends.{end_of}
 use Rattle.line.proofs.tell_end.Goals as goal

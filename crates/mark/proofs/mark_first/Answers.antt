@@ -1,8 +1,6 @@
 -- `mark::mark_first` meets its contract: the first character begins the first token. Assumes nothing.
-use Prim.Native.Nat.{◌<◌}
-use mathlib.Core.Path.{◌≡◌, refl, sym, ap, subst, ◌∙◌}
+use mathlib.Core.Path.{refl, sym, ap, subst, ◌∙◌}
 use native.Mathlib.Omega.{arith}
-use borrow.Author.Rules.{rules}
 use lib.ListN.{length, length-set}
 use Rattle.blocks.specs.Blocks.{Learning}
 use Rattle.count.specs.Counting.{LookedOn}

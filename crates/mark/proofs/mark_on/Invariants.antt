@@ -1,16 +1,9 @@
 -- `mark::mark_on` meets its contract. The loop's invariant: what is marked so far, and what blocks hold is right. Assumes nothing.
-use Prim.Native.Nat.{◌+◌, ◌-◌, ◌≤◌, ◌<◌}
-use mathlib.Core.Path.{◌≡◌, refl, sym, ap, subst, ◌∙◌}
-use mathlib.Core.Logic.{inl, inr}
-use native.Mathlib.Omega.{arith}
-use borrow.Author.Rules.{rules}
+use Prim.Native.Nat.{◌-◌}
+use mathlib.Core.Path.{◌≡◌}
 use lib.ListN.{length}
 use Rattle.blocks.specs.Blocks.{Learning}
-use Rattle.count.specs.Counting.{LookedOn}
-use Rattle.count.proofs.CountLaws.{counting_few}
-use Rattle.count.proofs.LookLaws.{looked_refused}
 use Rattle.mark.specs.Marking.{Marking}
-use Rattle.mark.proofs.MarkLaws.{putting, marks_on, looked_as}
 use Rattle.mark.proofs.mark_on.Given as goal
 
 abbrev pub invariant-loop-run : goal.invariant-loop-run

@@ -3,7 +3,6 @@ use Prim.Native.Nat.{ℕ, ◌+◌, ◌*◌}
 use mathlib.Core.Path.{ap, ◌∙◌}
 use native.Mathlib.Omega.{arith}
 use lib.ListN.{set}
-use borrow.Author.Rules.{rules}
 use Rattle.count.proofs.RuleLaws.{rule_traits}
 use Rattle.mark.proofs.MarkLaws.{traits_small}
 use Rattle.mark.proofs.put_start.Goals as goal

@@ -4,7 +4,6 @@ use mathlib.Core.Path.{refl, sym, ap, subst, ◌∙◌}
 use mathlib.Core.List.{List}
 use native.Mathlib.Omega.{arith}
 use lib.ListN.{length, set, length-set}
-use borrow.Author.Rules.{rules}
 use Rattle.turns.specs.Starts.{Started}
 use Rattle.count.specs.Rules.{traits_for}
 use Rattle.mark.proofs.MarkLaws.{put_none, put_one, put_medial, put_both}

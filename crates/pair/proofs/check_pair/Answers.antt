@@ -2,7 +2,6 @@
 use mathlib.Core.Path.{sym, ◌∙◌}
 use Rattle.pair.proofs.JudgedLaws.{both_accepted}
 use Rattle.pair.specs.Pair.{pair_within}
-use borrow.Author.Rules.{rules}
 use Rattle.pair.proofs.check_pair.Goals as goal
 
 pub compare_accepted-requires : goal.compare_accepted-requires

@@ -2,7 +2,6 @@
 use mathlib.Core.Path.{sym, ◌∙◌}
 use borrow.Author.Tests.{lt-ltb, le-ltb}
 use Rattle.pair.specs.Pair.{compared_of}
-use borrow.Author.Rules.{rules}
 use Rattle.pair.proofs.compare_accepted.Goals as goal
 
 pub returns-then-x-lt-CODE_POINTS : goal.returns-then-x-lt-CODE_POINTS

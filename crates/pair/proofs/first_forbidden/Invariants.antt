@@ -1,10 +1,7 @@
 -- `pair::first_forbidden` meets its contract. The invariant: no code point before t has a forbidden change. Assumes nothing.
 use Prim.Native.Nat.{◌-◌}
-use mathlib.Core.Path.{sym, ◌∙◌}
-use native.Mathlib.Omega.{arith}
-use borrow.Author.Rules.{rules}
 use Rattle.pair.specs.Walk.{code_points}
-use Rattle.pair.proofs.OverlapLaws.{Clear, clear_next, clear_here, clear_ends}
+use Rattle.pair.proofs.OverlapLaws.{Clear}
 use Rattle.pair.proofs.first_forbidden.Given as goal
 
 abbrev pub invariant-loop-t : goal.invariant-loop-t

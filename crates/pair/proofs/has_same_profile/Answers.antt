@@ -1,11 +1,9 @@
 -- `pair::has_same_profile` meets its contract. The invariant: the entries before i are the same. Assumes nothing.
-use Prim.Native.Nat.{◌-◌}
 use mathlib.Core.Path.{sym, ◌∙◌}
 use native.Mathlib.Omega.{arith}
-use borrow.Author.Rules.{rules}
 use borrow.Author.Tests.{ne_eqb}
 use Rattle.pair.specs.Pair.{same_profile}
-use Rattle.pair.proofs.ProfileLaws.{SameTo, all_same, point_differs, role_differs, same_next}
+use Rattle.pair.proofs.ProfileLaws.{all_same, point_differs, role_differs, same_next}
 use Rattle.pair.proofs.has_same_profile.Goals as goal
 
 pub returns-then-count_records-count : goal.returns-then-count_records-count

@@ -2,7 +2,6 @@
 use mathlib.Core.Path.{sym, ◌∙◌}
 use borrow.Author.Tests.{eq-eqb, ne_eqb}
 use Rattle.pair.specs.Change.{permitted}
-use borrow.Author.Rules.{rules}
 use Rattle.pair.proofs.is_permitted.Goals as goal
 
 pub returns-then-newer-older : goal.returns-then-newer-older

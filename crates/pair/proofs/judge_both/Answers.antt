@@ -1,6 +1,5 @@
 -- `pair::judge_both` meets its contract. Assumes nothing.
 use Rattle.image.proofs.ImageLaws.{refused_by, accepted_by}
-use borrow.Author.Rules.{rules}
 use Rattle.pair.proofs.judge_both.Goals as goal
 
 pub returns-in-Refused : goal.returns-in-Refused

@@ -1,6 +1,4 @@
 -- `reply::refuse` meets its contract. Assumes nothing.
-use mathlib.Core.Path.{◌∙◌}
-use mathlib.Core.List.{[], ◌∷◌}
 use borrow.Author.Rules.{rules}
 use Rattle.reply.proofs.refuse.Goals as goal
 

@@ -1,7 +1,6 @@
 -- `reply::tell_changes` meets its contract. Assumes nothing.
 use Rattle.reply.specs.ImageReply.{changes_reply}
 use Rattle.reply.proofs.ReplyLaws.{told}
-use borrow.Author.Rules.{rules}
 use Rattle.reply.proofs.tell_changes.Goals as goal
 
 pub returns-in-Older : goal.returns-in-Older

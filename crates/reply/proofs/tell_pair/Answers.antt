@@ -1,7 +1,6 @@
 -- `reply::tell_pair` meets its contract. Assumes nothing.
 use Rattle.reply.specs.ImageReply.{pair_reply}
 use Rattle.reply.proofs.ReplyLaws.{told}
-use borrow.Author.Rules.{rules}
 use Rattle.reply.proofs.tell_pair.Goals as goal
 
 pub returns-in-Older : goal.returns-in-Older

@@ -2,7 +2,6 @@
 use mathlib.Core.Path.{sym, ◌∙◌}
 use Rattle.part.proofs.PartLaws.{part_within}
 use Rattle.reply.proofs.PartLaws.{part_refused, part_told}
-use borrow.Author.Rules.{rules}
 use Rattle.reply.proofs.tell_part.Goals as goal
 
 pub returns-then-refused-ne0 : goal.returns-then-refused-ne0

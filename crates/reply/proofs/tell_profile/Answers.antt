@@ -1,7 +1,6 @@
 -- `reply::tell_profile` meets its contract. Assumes nothing.
-use mathlib.Core.Path.{refl, ◌∙◌}
+use mathlib.Core.Path.{◌∙◌}
 use mathlib.Core.List.{[], ◌∷◌}
-use borrow.Author.Rules.{rules}
 use Rattle.reply.proofs.tell_profile.Goals as goal
 
 pub returns : goal.returns

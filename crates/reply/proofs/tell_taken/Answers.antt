@@ -1,7 +1,6 @@
 -- `reply::tell_taken` meets its contract. Assumes nothing.
 use Rattle.reply.specs.TokenReply.{taken_reply}
 use Rattle.reply.proofs.ReplyLaws.{told}
-use borrow.Author.Rules.{rules}
 use Rattle.reply.proofs.tell_taken.Goals as goal
 
 pub returns-in-Refused : goal.returns-in-Refused

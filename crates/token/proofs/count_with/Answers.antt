@@ -3,7 +3,6 @@ use Prim.Native.Nat.{ℕ}
 use mathlib.Core.Path.{◌≡◌, refl, sym, subst}
 use mathlib.Core.List.{List}
 use Rattle.blocks.specs.Blocks.{Learning}
-use borrow.Author.Rules.{rules}
 use Rattle.token.proofs.count_with.Goals as goal
 
 learning_from : {s index cells : List ℕ} {n m : ℕ} → m ≡ n → Learning s index cells n → Learning s index cells m

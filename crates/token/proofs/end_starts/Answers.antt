@@ -3,7 +3,6 @@ use mathlib.Core.Path.{sym, subst, ap, ◌∙◌}
 use Prim.Native.Nat.{◌+◌, ◌-◌, ◌*◌}
 use native.Mathlib.Omega.{arith}
 use lib.ListN.{length, set, length-set}
-use borrow.Author.Rules.{rules}
 use Rattle.count.specs.Turns.{count_waiting}
 use Rattle.count.specs.Rules.{traits_for}
 use Rattle.token.specs.Ended.{Ended}

@@ -2,7 +2,6 @@
 use mathlib.Core.Path.{refl, sym, ◌∙◌}
 use native.Mathlib.Omega.{arith}
 use lib.ListN.{length}
-use borrow.Author.Rules.{rules}
 use borrow.Author.Tests.{leb-true, leb-false}
 use Rattle.mark.proofs.MarkedLaws.{marked_refused, marked_on, learnt_on}
 use Rattle.token.proofs.AnswerLaws.{list_stopped, list_no_room, list_given, room_words}

@@ -15,7 +15,6 @@ use Rattle.grammar.proofs.BeforeLaws.{nothing_refused}
 use Rattle.token.specs.declared.Taken.TheVariants.{Refused}
 use Rattle.token.specs.Taken.{taken_of}
 use Rattle.token.proofs.TakenLaws.{taken_by, stops_ill, taken_past, taken_first, first_within}
-use borrow.Author.Rules.{rules}
 use Rattle.token.proofs.take_accepted.Goals as goal
 use Rattle.token.proofs.take_accepted.Goals.{After-first_token-first}
 

@@ -1,7 +1,6 @@
 -- `token::take_judged` meets its contract. Assumes nothing.
 use Rattle.given.proofs.JudgementLaws.{is_refused, is_accepted}
 use Rattle.token.proofs.TakenLaws.{taken_refused}
-use borrow.Author.Rules.{rules}
 use Rattle.token.proofs.take_judged.Goals as goal
 
 pub take_accepted-requires : goal.take_accepted-requires

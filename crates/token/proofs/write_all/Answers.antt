@@ -1,11 +1,10 @@
 -- `token::write_all` meets its contract. The loop's invariant: the records before the marked tokens stand. Assumes nothing.
 use Prim.Native.Nat.{◌-◌}
-use mathlib.Core.Path.{◌≡◌, refl, ◌∙◌}
+use mathlib.Core.Path.{refl}
 use native.Mathlib.Omega.{arith}
-use lib.ListN.{length, get_or, length-set}
-use borrow.Author.Rules.{rules}
+use lib.ListN.{get_or, length-set}
 use Rattle.mark.proofs.MarkedLaws.{marked_refused, marked_on, learnt_on}
-use Rattle.token.proofs.FillLaws.{Filling, filling_begins, filling_listing, filling_piece, filling_written, filling_moved, filling_next, filling_last, filling_ends, left_over, left_less, never_refused}
+use Rattle.token.proofs.FillLaws.{filling_begins, filling_listing, filling_piece, filling_written, filling_moved, filling_next, filling_last, filling_ends, left_less, never_refused}
 use Rattle.token.proofs.write_all.Goals as goal
 
 pub are_plain-plain-requires : goal.are_plain-plain-requires

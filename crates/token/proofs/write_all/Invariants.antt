@@ -1,11 +1,7 @@
 -- `token::write_all` meets its contract. The loop's invariant: the records before the marked tokens stand. Assumes nothing.
-use Prim.Native.Nat.{◌-◌}
-use mathlib.Core.Path.{◌≡◌, refl, ◌∙◌}
-use native.Mathlib.Omega.{arith}
-use lib.ListN.{length, get_or, length-set}
-use borrow.Author.Rules.{rules}
-use Rattle.mark.proofs.MarkedLaws.{marked_refused, marked_on, learnt_on}
-use Rattle.token.proofs.FillLaws.{Filling, filling_begins, filling_listing, filling_piece, filling_written, filling_moved, filling_next, filling_last, filling_ends, left_over, left_less, never_refused}
+use mathlib.Core.Path.{◌≡◌}
+use lib.ListN.{length}
+use Rattle.token.proofs.FillLaws.{Filling, left_over}
 use Rattle.token.proofs.write_all.Given as goal
 
 abbrev pub invariant-loop-run : goal.invariant-loop-run

@@ -4,7 +4,6 @@ use mathlib.Core.Path.{ap, ◌∙◌}
 use mathlib.Core.List.{List}
 use lib.ListN.{get_or}
 use Rattle.turns.proofs.TableLaws.{turn_at}
-use borrow.Author.Rules.{rules}
 use Rattle.turns.proofs.find_turn.Goals as goal
 
 pub returns : goal.returns

@@ -1,12 +1,8 @@
 -- `turns::first_token` meets its contract. The loop's invariant: no token is complete. Assumes nothing.
-use Prim.Native.Nat.{◌-◌}
 use mathlib.Core.Path.{refl, ◌∙◌}
 use native.Mathlib.Omega.{arith}
-use borrow.Author.Rules.{rules}
-use lib.ListN.{length}
-use Rattle.character.specs.Read.{MemoOf}
 use Rattle.turns.proofs.ReachLaws.{Here, here, here_small, Look, at_ill, at_end}
-use Rattle.turns.proofs.FirstTokenLaws.{Searching, searching_begins, searching_less, first_ill, first_nothing, first_last, searching_on, searching_waits, first_ends}
+use Rattle.turns.proofs.FirstTokenLaws.{searching_begins, searching_less, first_ill, first_nothing, first_last, searching_on, searching_waits, first_ends}
 use Rattle.turns.proofs.first_token.Goals as goal
 use Rattle.turns.proofs.first_token.Goals.{After-find_turn-turn, Else-len-eq0}
 

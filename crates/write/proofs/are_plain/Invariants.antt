@@ -1,14 +1,7 @@
 -- `write::are_plain` meets its contract. The loop: the line ends of ASCII before `at` are apart. Assumes nothing.
 use Prim.Native.Nat.{ℕ, ◌-◌, ◌≤◌, ◌<◌}
-use mathlib.Core.Path.{subst}
-use mathlib.Core.Bool.{false≢true}
-use native.Mathlib.Omega.{arith}
 use lib.ListN.{get_or}
-use borrow.Author.Count.{below_more}
-use borrow.Author.Rules.{rules}
-use Rattle.character.specs.Traits.{token_traits}
 use Rattle.write.specs.Records.{Apart}
-use Rattle.write.proofs.PlainLaws.{each_end, filled_apart}
 use Rattle.write.proofs.are_plain.Given as goal
 
 abbrev pub invariant-loop-at : goal.invariant-loop-at

@@ -1,10 +1,8 @@
 -- `write::line_after` meets its contract. The loop: `now` is the line at the place, and characters go from there to the end. Assumes nothing.
-use Prim.Native.Nat.{ℕ, ◌+◌, ◌-◌}
+use Prim.Native.Nat.{ℕ, ◌+◌}
 use mathlib.Core.Path.{◌≡◌, refl, subst}
 use native.Mathlib.Omega.{arith}
-use borrow.Author.Rules.{rules}
 use Rattle.line.specs.Line.{LineAt}
-use Rattle.write.specs.Records.{Spans}
 use Rattle.write.proofs.SpanLaws.{span_rises, span_some, span_step, span_feed}
 use Rattle.line.proofs.LineLaws.{line_few}
 use Rattle.write.proofs.line_after.Goals as goal

@@ -1,12 +1,7 @@
 -- `write::line_after` meets its contract. The loop: `now` is the line at the place, and characters go from there to the end. Assumes nothing.
-use Prim.Native.Nat.{ℕ, ◌+◌, ◌-◌}
-use mathlib.Core.Path.{◌≡◌, refl, subst}
-use native.Mathlib.Omega.{arith}
-use borrow.Author.Rules.{rules}
+use Prim.Native.Nat.{◌-◌}
 use Rattle.line.specs.Line.{LineAt}
 use Rattle.write.specs.Records.{Spans}
-use Rattle.write.proofs.SpanLaws.{span_rises, span_some, span_step, span_feed}
-use Rattle.line.proofs.LineLaws.{line_few}
 use Rattle.write.proofs.line_after.Given as goal
 
 abbrev pub invariant-loop-at : goal.invariant-loop-at

@@ -1,12 +1,10 @@
 -- `write::put_records` meets its contract. The loop: k records more are written, and the line is that of the byte after them. Assumes nothing.
-use Prim.Native.Nat.{◌+◌, ◌-◌, ◌/◌, ◌≤◌}
+use Prim.Native.Nat.{◌+◌}
 use mathlib.Core.Path.{◌≡◌, sym, ◌∙◌}
 use native.Mathlib.Omega.{arith}
 use lib.ListN.{length-take, length-drop}
-use borrow.Author.Rules.{rules}
-use Rattle.grammar.specs.Record.{record_size}
 use Rattle.turns.proofs.TableLaws.{after_at}
-use Rattle.write.proofs.WriteLaws.{Going, going_begins, going_ends, going_next, turn_lined, turn_spans, turn_short, turn_room, turn_stays}
+use Rattle.write.proofs.WriteLaws.{going_begins, going_ends, going_next, turn_lined, turn_spans, turn_short, turn_room, turn_stays}
 use Rattle.write.proofs.put_records.Goals as goal
 
 pub loop-k-init : goal.loop-k-init

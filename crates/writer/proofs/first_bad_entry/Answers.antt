@@ -1,10 +1,7 @@
 -- `writer::first_bad_entry` meets its contract. The loop: all entries before i are good. Assumes nothing.
-use Prim.Native.Nat.{◌-◌}
 use mathlib.Core.Path.{sym, ◌∙◌}
-use native.Mathlib.Omega.{arith}
-use Rattle.lists.proofs.SearchLaws.{Searching, search_begins, good_next, bad_here, none_bad}
-use Rattle.image.specs.Profile.{good_entry, first_bad_entry}
-use Rattle.writer.specs.Write.{value_at}
+use Rattle.lists.proofs.SearchLaws.{search_begins, good_next, bad_here, none_bad}
+use Rattle.image.specs.Profile.{first_bad_entry}
 use Rattle.writer.proofs.first_bad_entry.Goals as goal
 
 pub loop-i-init : goal.loop-i-init

@@ -1,9 +1,7 @@
 -- `writer::first_bad_entry` meets its contract. The loop: all entries before i are good. Assumes nothing.
 use Prim.Native.Nat.{◌-◌}
-use mathlib.Core.Path.{sym, ◌∙◌}
-use native.Mathlib.Omega.{arith}
-use Rattle.lists.proofs.SearchLaws.{Searching, search_begins, good_next, bad_here, none_bad}
-use Rattle.image.specs.Profile.{good_entry, first_bad_entry}
+use Rattle.lists.proofs.SearchLaws.{Searching}
+use Rattle.image.specs.Profile.{good_entry}
 use Rattle.writer.specs.Write.{value_at}
 use Rattle.writer.proofs.first_bad_entry.Given as goal
 

@@ -1,9 +1,7 @@
 -- `writer::first_bad_range` meets its contract. The loop: all ranges before i are good. Assumes nothing.
-use Prim.Native.Nat.{◌-◌}
 use mathlib.Core.Path.{sym, ◌∙◌}
-use native.Mathlib.Omega.{arith}
-use Rattle.lists.proofs.SearchLaws.{Searching, search_begins, good_next, bad_here, none_bad}
-use Rattle.image.specs.Ranges.{range_in, good_range, first_bad_range}
+use Rattle.lists.proofs.SearchLaws.{search_begins, good_next, bad_here, none_bad}
+use Rattle.image.specs.Ranges.{first_bad_range}
 use Rattle.writer.proofs.first_bad_range.Goals as goal
 
 pub loop-i-init : goal.loop-i-init

@@ -1,7 +1,6 @@
 -- `writer::is_good_entry` meets its contract. Assumes nothing.
 use borrow.Author.Tests.{eq-eqb, ne_eqb}
 use Rattle.image.specs.Profile.{good_entry}
-use borrow.Author.Rules.{rules}
 use Rattle.writer.proofs.is_good_entry.Goals as goal
 
 pub returns-then-i-eq0 : goal.returns-then-i-eq0

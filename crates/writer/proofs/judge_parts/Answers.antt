@@ -13,7 +13,6 @@ use Rattle.writer.specs.declared.Written.TheVariants as written
 use Rattle.writer.specs.Write.{ranges_in, bytes_needed, write_within, write_of, write_refusal_within, write_refusal}
 use Rattle.writer.specs.Writable.{Shaped}
 use Rattle.writer.proofs.WriteLaws.{after_records, after_counts, past_counts, answer_by}
-use borrow.Author.Rules.{rules}
 use Rattle.writer.proofs.judge_parts.Goals as goal
 
 -- i is the index of the first bad range, and j that of the first bad entry

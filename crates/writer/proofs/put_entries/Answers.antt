@@ -1,16 +1,12 @@
 -- `writer::put_entries` meets its contract. The loop: the bytes of the first i entries stand in the buffer. Assumes nothing.
-use Prim.Native.Nat.{ℕ, ◌-◌}
 use mathlib.Core.Path.{ap, ◌∙◌}
-use mathlib.Core.List.{List}
 use native.Mathlib.Omega.{arith}
 use lib.ListN.{length-take, length-drop}
 use Rattle.lists.specs.Laid.{laid}
 use Rattle.lists.specs.Each.{each}
-use Rattle.lists.specs.Writing.{Writing}
 use Rattle.lists.proofs.WritingLaws.{writing_begins, writing_lent, writing_ends}
-use Rattle.image.specs.Limits.{entry_bytes}
 use Rattle.image.specs.Profile.{profile_by}
-use Rattle.image.specs.Image.{entry_words, bytes_of_all}
+use Rattle.image.specs.Image.{entry_words}
 use Rattle.writer.proofs.WordLaws.{length_all, bytes_each_list}
 use Rattle.writer.proofs.put_entries.Goals as goal
 

@@ -1,6 +1,5 @@
 -- `writer::put_entry` meets its contract. Assumes nothing.
 use mathlib.Core.Path.{refl}
-use borrow.Author.Rules.{rules}
 use Rattle.image.specs.Limits.{word_bytes}
 use Rattle.image.specs.Word.{bytes_of}
 use Rattle.image.specs.Image.{bytes_of_all}

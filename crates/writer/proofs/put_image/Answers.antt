@@ -14,7 +14,6 @@ use Rattle.writer.specs.Write.{ranges_in}
 use Rattle.writer.proofs.WordLaws.{length_all}
 use Rattle.writer.proofs.LayLaws.{joined}
 use Rattle.writer.proofs.PartLaws.{whole, image_parts, length_entries}
-use borrow.Author.Rules.{rules}
 use Rattle.writer.proofs.put_image.Goals as goal
 
 pub returns : goal.returns

@@ -2,7 +2,6 @@
 use native.Mathlib.Omega.{arith}
 use lib.ListN.{length-set}
 use lib.Seq.{sets-eq}
-use borrow.Author.Rules.{rules}
 use Rattle.image.specs.Word.{bytes_of}
 use Rattle.writer.proofs.put_word.Goals as goal
 

@@ -1,16 +1,10 @@
 -- `writer::put_words` meets its contract. The loop: the bytes of the first i numbers stand in the buffer. Assumes nothing.
 use Prim.Native.Nat.{ℕ, ◌-◌}
-use mathlib.Core.Path.{ap, ◌∙◌}
 use mathlib.Core.List.{List}
-use native.Mathlib.Omega.{arith}
-use lib.ListN.{length, get_or, length-take, length-drop}
-use Rattle.lists.specs.Laid.{laid}
-use Rattle.lists.specs.Each.{each}
+use lib.ListN.{length, get_or}
 use Rattle.lists.specs.Writing.{Writing}
-use Rattle.lists.proofs.WritingLaws.{writing_begins, writing_lent, writing_ends}
 use Rattle.image.specs.Limits.{word_bytes}
 use Rattle.image.specs.Word.{bytes_of}
-use Rattle.writer.proofs.WordLaws.{length_four, bytes_each_word}
 use Rattle.writer.proofs.put_words.Given as goal
 
 abbrev pub bytes_in : List ℕ → ℕ → List ℕ

@@ -1,7 +1,6 @@
 -- `writer::range_in` meets its contract. Assumes nothing.
 use mathlib.Core.Path.{refl}
 use Rattle.image.specs.Ranges.{range_in}
-use borrow.Author.Rules.{rules}
 use Rattle.writer.proofs.range_in.Goals as goal
 
 pub returns : goal.returns

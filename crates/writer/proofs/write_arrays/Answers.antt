@@ -3,7 +3,6 @@ use mathlib.Core.Path.{sym, ◌∙◌}
 use native.Mathlib.Omega.{arith}
 use Rattle.image.specs.Profile.{profile_by}
 use Rattle.writer.proofs.WriteLaws.{write_kept, written_means}
-use borrow.Author.Rules.{rules}
 use Rattle.writer.proofs.write_arrays.Goals as goal
 
 pub put_image-requires : goal.put_image-requires

@@ -1,7 +1,6 @@
 -- `image::records::count_records` meets its contract. Assumes nothing.
 use native.Mathlib.Omega.{arith}
 use Rattle.image.proofs.SectionLaws.{within_limits}
-use borrow.Author.Rules.{rules}
 use Rattle.image.proofs.records.count_records.Goals as goal
 
 pub word-requires : goal.word-requires

@@ -4,7 +4,6 @@ use native.Mathlib.Omega.{arith}
 use Rattle.image.specs.Header.{entries_at}
 use Rattle.image.proofs.ImageLaws.{point_is, role_is}
 use Rattle.image.proofs.SectionLaws.{within_limits}
-use borrow.Author.Rules.{rules}
 use Rattle.image.proofs.records.entry_at.Goals as goal
 
 pub word-n-requires : goal.word-n-requires

@@ -1,7 +1,6 @@
 -- `image::records::record_at` meets its contract. Assumes nothing.
 use native.Mathlib.Omega.{arith}
 use Rattle.image.proofs.SectionLaws.{within_limits}
-use borrow.Author.Rules.{rules}
 use Rattle.image.proofs.records.record_at.Goals as goal
 
 pub range_at-requires : goal.range_at-requires

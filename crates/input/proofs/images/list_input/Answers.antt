@@ -2,7 +2,6 @@
 use native.Mathlib.Omega.{arith}
 use lib.ListN.{length-take}
 use Rattle.input.proofs.FrontLaws.{end_within_lem, parts}
-use borrow.Author.Rules.{rules}
 use Rattle.input.proofs.images.list_input.Goals as goal
 
 pub returns : goal.returns

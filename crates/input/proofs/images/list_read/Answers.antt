@@ -3,7 +3,6 @@ use mathlib.Core.Path.{◌∙◌}
 use native.Mathlib.Omega.{arith}
 use lib.ListN.{length-take}
 use Rattle.input.proofs.ImagesLaws.{whole_answer_lem}
-use borrow.Author.Rules.{rules}
 use Rattle.input.proofs.images.list_read.Goals as goal
 
 pub returns : goal.returns

@@ -3,7 +3,6 @@ use native.Mathlib.Omega.{arith}
 use lib.ListN.{length-take}
 use Rattle.input.specs.Script.{listed_within, script_words_within}
 use Rattle.input.proofs.FrontLaws.{end_within_lem, parts}
-use borrow.Author.Rules.{rules}
 use Rattle.input.proofs.script.list_input.Goals as goal
 
 pub returns : goal.returns

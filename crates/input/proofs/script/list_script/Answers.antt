@@ -2,7 +2,6 @@
 use Rattle.given.proofs.JudgementLaws.{is_refused, is_accepted}
 use Rattle.grammar.proofs.BeforeLaws.{nothing_refused}
 use Rattle.input.proofs.ScriptLaws.{script_refused_lem, script_listed, gives_refused, gives_listed}
-use borrow.Author.Rules.{rules}
 use Rattle.input.proofs.script.list_script.Goals as goal
 
 pub list_checked-requires : goal.list_checked-requires

@@ -1,6 +1,5 @@
 -- `pair::walk::look_ahead` meets its contract. Assumes nothing.
 use native.Mathlib.Omega.{arith}
-use borrow.Author.Rules.{rules}
 use Rattle.pair.proofs.WalkLaws.{ends_ahead, gap_ahead, range_ahead}
 use Rattle.pair.proofs.walk.look_ahead.Goals as goal
 

@@ -2,7 +2,6 @@
 use mathlib.Core.Path.{refl}
 use mathlib.Core.Logic.{inl, inr}
 use native.Mathlib.Omega.{arith}
-use borrow.Author.Rules.{rules}
 use Rattle.pair.proofs.OverlapLaws.{both_ahead}
 use Rattle.pair.proofs.walk.overlap_at.Goals as goal
 
