@@ -1,50 +1,52 @@
 // Printing to standard output, for the programs: text, numbers and refusals; in `answers` what the listers print.
 #![tactic(auto)]
 
-use libc::STDOUT_FILENO;
 use refusal::Refusal;
+use std::io;
 
 pub mod answers;
 
-pub fn print_text(s: &[u8]) {
-    io::write_all(STDOUT_FILENO, s);
+pub fn print_text(rt: &impl Print, s: &[u8]) -> io::Result<()> {
+    rt.write_all(s)
 }
 
-pub fn print_number(n: usize) {
-    io::print_decimal(STDOUT_FILENO, n as u64);
+pub fn print_number(rt: &impl Print, n: usize) -> io::Result<()> {
+    print!(rt; "{n}")
 }
 
 // A number after a space.
-pub fn print_next(n: usize) {
-    print_text(b" ");
-    print_number(n);
+pub fn print_next(rt: &impl Print, n: usize) -> io::Result<()> {
+    print_text(rt, b" ")?;
+    print_number(rt, n)
 }
 
 // A word after a space.
-pub fn print_word(w: u32) {
-    print_next(w as usize);
+pub fn print_word(rt: &impl Print, w: u32) -> io::Result<()> {
+    print_next(rt, w as usize)
 }
 
-// A number in hex, with zeros in front up to `digits` digits.
-pub fn print_hex(n: u32, digits: usize) {
-    io::print_hex(STDOUT_FILENO, n as u64, digits);
+// A number in hex, with zeros in front up to `digits` digits, of which 16 are the most.
+pub fn print_hex(rt: &impl Print, n: u32, digits: usize) -> io::Result<()> {
+    let width = digits.min(16);
+    print!(rt; "{n:0width$x}")
 }
 
 // The line of a refusal without its end: `refused`, then `of` as it stands, the refusal's number and what it carries, if anything.
-pub fn print_refusal_of(of: &[u8], r: Refusal) {
-    print_text(b"refused");
-    print_text(of);
-    print_next(refusal::number(r) as usize);
+pub fn print_refusal_of(rt: &impl Print, of: &[u8], r: Refusal) -> io::Result<()> {
+    print_text(rt, b"refused")?;
+    print_text(rt, of)?;
+    print_next(rt, refusal::number(r) as usize)?;
     let c = refusal::carry(r);
     if 1 <= c.count {
-        print_next(c.first);
+        print_next(rt, c.first)?;
     }
     if 2 <= c.count {
-        print_next(c.second);
+        print_next(rt, c.second)?;
     }
+    Ok(())
 }
 
 // The same with nothing between `refused` and the number.
-pub fn print_refusal(r: Refusal) {
-    print_refusal_of(b"", r);
+pub fn print_refusal(rt: &impl Print, r: Refusal) -> io::Result<()> {
+    print_refusal_of(rt, b"", r)
 }
