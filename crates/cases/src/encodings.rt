@@ -2,6 +2,7 @@
 ghost use Rattle.std.specs.Prelude.{◌≤◌, ◌≡◌, length, take};
 ghost use Rattle.utf8.specs.Encoding.{encoding};
 
+use std::io;
 use utf8::Step;
 
 // The bytes of a scalar value, and how many there are.
@@ -88,7 +89,7 @@ fn count() -> u32 {
     back
 }
 
-pub fn run() {
-    printing::print_number(count() as usize);
-    printing::print_text(b" scalar values come back\n");
+pub fn run(rt: &impl Print) -> io::Result<()> {
+    printing::print_number(rt, count() as usize)?;
+    printing::print_text(rt, b" scalar values come back\n")
 }

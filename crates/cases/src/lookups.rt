@@ -3,41 +3,42 @@ ghost use Rattle.std.specs.Prelude.{◌<◌};
 
 use crate::build::ZERO;
 use lookup::Found;
+use std::io;
 
 // The answer of a lookup of x in M with a byte at a place.
-fn show(at: usize, byte: u8, x: u32)
+fn show(rt: &impl Print, at: usize, byte: u8, x: u32) -> io::Result<()>
     requires { at < 100 }
 {
-    printing::print_hex(x, 4);
-    printing::print_text(b": ");
+    printing::print_hex(rt, x, 4)?;
+    printing::print_text(rt, b": ")?;
     let image = crate::build::changed(at, byte);
     match lookup::lookup(&image, x) {
-        Found::Refused(r) => printing::print_refusal(r),
+        Found::Refused(r) => printing::print_refusal(rt, r)?,
         Found::Class { class, count } => {
-            printing::print_text(b"class");
-            printing::print_word(class);
-            printing::print_text(b" looked at");
-            printing::print_next(count);
+            printing::print_text(rt, b"class")?;
+            printing::print_word(rt, class)?;
+            printing::print_text(rt, b" looked at")?;
+            printing::print_next(rt, count)?;
         }
     }
-    printing::print_text(b"\n");
+    printing::print_text(rt, b"\n")
 }
 
-pub fn run() {
-    show(ZERO, 0, 0x20);
-    show(ZERO, 0, 0x2E);
-    show(ZERO, 0, 0x7A);
-    show(ZERO, 0, 0x35);
-    show(ZERO, 0, 0x2F);
-    show(ZERO, 0, 0xE9);
-    show(ZERO, 0, 0xD800);
-    show(ZERO, 0, 0x110000);
+pub fn run(rt: &impl Print) -> io::Result<()> {
+    show(rt, ZERO, 0, 0x20)?;
+    show(rt, ZERO, 0, 0x2E)?;
+    show(rt, ZERO, 0, 0x7A)?;
+    show(rt, ZERO, 0, 0x35)?;
+    show(rt, ZERO, 0, 0x2F)?;
+    show(rt, ZERO, 0, 0xE9)?;
+    show(rt, ZERO, 0, 0xD800)?;
+    show(rt, ZERO, 0, 0x110000)?;
     // A bad length, header, range and entry; the other roles of 2E.
-    show(8, 99, 0x20);
-    show(0, 2, 0x20);
-    show(52, 6, 0x20);
-    show(52, 6, 0xD800);
-    show(96, 6, 0x20);
-    show(96, 4, 0x2E);
-    show(96, 5, 0x2E);
+    show(rt, 8, 99, 0x20)?;
+    show(rt, 0, 2, 0x20)?;
+    show(rt, 52, 6, 0x20)?;
+    show(rt, 52, 6, 0xD800)?;
+    show(rt, 96, 6, 0x20)?;
+    show(rt, 96, 4, 0x2E)?;
+    show(rt, 96, 5, 0x2E)
 }

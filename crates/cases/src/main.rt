@@ -3,6 +3,8 @@
 
 ghost use Rattle.std.specs.Prelude.{◌≤◌};
 
+use std::io;
+
 mod answers;
 mod build;
 mod checks;
@@ -13,46 +15,48 @@ mod sequences;
 mod writes;
 
 // The separator after the i-th of `columns` to a line.
-fn print_gap(i: usize, columns: usize)
+fn print_gap(rt: &impl Print, i: usize, columns: usize) -> io::Result<()>
     requires { 1 ≤ columns }
 {
     if i % columns == columns - 1 {
-        printing::print_text(b"\n");
+        printing::print_text(rt, b"\n")
     } else {
-        printing::print_text(b" ");
+        printing::print_text(rt, b" ")
     }
 }
 
-fn print_byte(b: u8) {
-    printing::print_hex(b as u32, 2);
+fn print_byte(rt: &impl Print, b: u8) -> io::Result<()> {
+    printing::print_hex(rt, b as u32, 2)
 }
 
 // Bytes in hex, `columns` to a line.
-pub(crate) fn print_bytes(s: &[u8], columns: usize)
+pub(crate) fn print_bytes(rt: &impl Print, s: &[u8], columns: usize) -> io::Result<()>
     requires { 1 ≤ columns }
 {
     for i in 0..s.len() {
-        print_byte(s[i]);
-        print_gap(i, columns);
+        print_byte(rt, s[i])?;
+        print_gap(rt, i, columns)?;
     }
+    Ok(())
 }
 
 // Words in hex of four digits or more, `columns` to a line.
-pub(crate) fn print_words(s: &[u32], columns: usize)
+pub(crate) fn print_words(rt: &impl Print, s: &[u32], columns: usize) -> io::Result<()>
     requires { 1 ≤ columns }
 {
     for i in 0..s.len() {
-        printing::print_hex(s[i], 4);
-        print_gap(i, columns);
+        printing::print_hex(rt, s[i], 4)?;
+        print_gap(rt, i, columns)?;
     }
+    Ok(())
 }
 
-fn main() {
-    sequences::run();
-    encodings::run();
-    checks::run();
-    lookups::run();
-    writes::run();
-    pairs::run();
-    answers::run();
+fn main(rt: HostRuntime) -> io::Result<()> {
+    sequences::run(&rt)?;
+    encodings::run(&rt)?;
+    checks::run(&rt)?;
+    lookups::run(&rt)?;
+    writes::run(&rt)?;
+    pairs::run(&rt)?;
+    answers::run(&rt)
 }

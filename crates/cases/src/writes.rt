@@ -3,6 +3,7 @@ ghost use Rattle.std.specs.Prelude.{◌<◌};
 
 use crate::build::{VERSION, ZERO};
 use image::{Answer, MAX_ENTRIES, Profile};
+use std::io;
 use writer::Written;
 
 // What a buffer holds before the writer gets it.
@@ -32,136 +33,162 @@ fn profile(used: usize, point: u32, role: u32) -> Profile {
     }
 }
 
-fn print_answer(a: Written) {
+fn print_answer(rt: &impl Print, a: Written) -> io::Result<()> {
     match a {
-        Written::Refused(r) => printing::print_refusal(r),
+        Written::Refused(r) => printing::print_refusal(rt, r),
         Written::Image { len } => {
-            printing::print_text(b"image of");
-            printing::print_next(len);
-            printing::print_text(b" bytes");
+            printing::print_text(rt, b"image of")?;
+            printing::print_next(rt, len)?;
+            printing::print_text(rt, b" bytes")
         }
     }
 }
 
 // What the writer answers with a buffer, and whether the buffer is still as it was before.
-fn try_write(what: &[u8], words: &[u32], p: Profile, out: &mut [u8], before: &[u8]) {
+fn try_write(
+    rt: &impl Print,
+    what: &[u8],
+    words: &[u32],
+    p: Profile,
+    out: &mut [u8],
+    before: &[u8],
+) -> io::Result<()> {
     let a = writer::write(VERSION, words, p, out);
-    printing::print_text(what);
-    printing::print_text(b": ");
-    print_answer(a);
-    if check::same(out, before) {
-        printing::print_text(b", buffer unchanged");
+    printing::print_text(rt, what)?;
+    printing::print_text(rt, b": ")?;
+    print_answer(rt, a)?;
+    if &*out == before {
+        printing::print_text(rt, b", buffer unchanged")?;
     }
-    printing::print_text(b"\n");
+    printing::print_text(rt, b"\n")
 }
 
 // The same with a buffer that is long enough for M, and with one that is a byte too short.
-fn show(what: &[u8], words: &[u32], p: Profile) {
-    try_write(what, words, p, &mut [BEFORE; 104], &[BEFORE; 104]);
+fn show(rt: &impl Print, what: &[u8], words: &[u32], p: Profile) -> io::Result<()> {
+    try_write(rt, what, words, p, &mut [BEFORE; 104], &[BEFORE; 104])
 }
 
-fn show_short(what: &[u8], words: &[u32], p: Profile) {
-    try_write(what, words, p, &mut [BEFORE; 99], &[BEFORE; 99]);
+fn show_short(rt: &impl Print, what: &[u8], words: &[u32], p: Profile) -> io::Result<()> {
+    try_write(rt, what, words, p, &mut [BEFORE; 99], &[BEFORE; 99])
 }
 
 // The same for M's words with another one at a place, and a profile of so many entries by its first.
-fn show_m(what: &[u8], at: usize, word: u32, used: usize, point: u32, role: u32)
+fn show_m(
+    rt: &impl Print,
+    what: &[u8],
+    at: usize,
+    word: u32,
+    used: usize,
+    point: u32,
+    role: u32,
+) -> io::Result<()>
     requires { at < 15 }
 {
-    show(what, &changed(at, word), profile(used, point, role));
+    show(rt, what, &changed(at, word), profile(used, point, role))
 }
 
-fn show_short_m(what: &[u8], at: usize, word: u32, used: usize, role: u32)
+fn show_short_m(
+    rt: &impl Print,
+    what: &[u8],
+    at: usize,
+    word: u32,
+    used: usize,
+    role: u32,
+) -> io::Result<()>
     requires { at < 15 }
 {
-    show_short(what, &changed(at, word), profile(used, 0x2E, role));
+    show_short(rt, what, &changed(at, word), profile(used, 0x2E, role))
 }
 
 // What is read from an image: the version, the numbers of ranges and entries, the first entry and the ranges.
-fn show_read(image: &[u8]) {
+fn show_read(rt: &impl Print, image: &[u8]) -> io::Result<()> {
     let mut words = [0u32; 18];
     let k = image::read(image, &mut words);
     let a = k.answer;
     let p = k.profile;
     match a {
-        Answer::Refused(r) => printing::print_refusal(r),
+        Answer::Refused(r) => printing::print_refusal(rt, r)?,
         Answer::Accepted { version, ranges } => {
-            printing::print_text(b"version");
-            printing::print_word(version);
-            printing::print_text(b", ranges");
-            printing::print_next(ranges);
+            printing::print_text(rt, b"version")?;
+            printing::print_word(rt, version)?;
+            printing::print_text(rt, b", ranges")?;
+            printing::print_next(rt, ranges)?;
         }
     }
-    printing::print_text(b", entries");
-    printing::print_next(p.used);
-    printing::print_text(b": ");
-    printing::print_hex(p.points[0], 4);
-    printing::print_text(b" role");
-    printing::print_word(p.roles[0]);
-    printing::print_text(b"\n");
-    crate::print_words(&words, 3);
+    printing::print_text(rt, b", entries")?;
+    printing::print_next(rt, p.used)?;
+    printing::print_text(rt, b": ")?;
+    printing::print_hex(rt, p.points[0], 4)?;
+    printing::print_text(rt, b" role")?;
+    printing::print_word(rt, p.roles[0])?;
+    printing::print_text(rt, b"\n")?;
+    crate::print_words(rt, &words, 3)
 }
 
 // M in a longer buffer, and what is read from M.
-fn show_written() {
+fn show_written(rt: &impl Print) -> io::Result<()> {
     let mut out = [BEFORE; 104];
     let a = writer::write(VERSION, &changed(0, 0x20), profile(1, 0x2E, 3), &mut out);
-    print_answer(a);
-    printing::print_text(b"\n");
-    crate::print_bytes(&out, 4);
+    print_answer(rt, a)?;
+    printing::print_text(rt, b"\n")?;
+    crate::print_bytes(rt, &out, 4)?;
     let mut image = [BEFORE; 100];
     writer::write(VERSION, &changed(0, 0x20), profile(1, 0x2E, 3), &mut image);
-    show_read(&image);
+    show_read(rt, &image)
 }
 
-fn show_refused() {
-    show(b"14 words", &[0u32; 14], profile(1, 0x2E, 3));
-    show_m(b"513 entries", 0, 0x20, 513, 0x2E, 3);
-    show(b"4097 ranges", &[0u32; 12291], profile(1, 0x2E, 3));
-    show_m(b"class 6", 5, 6, 1, 0x2E, 3);
-    show_m(b"a range inside the one before", 3, 0x20, 1, 0x2E, 3);
-    show_m(b"role 6", 0, 0x20, 1, 0x2E, 6);
-    show_m(b"no scalar value", 0, 0x20, 1, 0xD800, 3);
-    show_short_m(b"99 bytes", 0, 0x20, 1, 3);
+fn show_refused(rt: &impl Print) -> io::Result<()> {
+    show(rt, b"14 words", &[0u32; 14], profile(1, 0x2E, 3))?;
+    show_m(rt, b"513 entries", 0, 0x20, 513, 0x2E, 3)?;
+    show(rt, b"4097 ranges", &[0u32; 12291], profile(1, 0x2E, 3))?;
+    show_m(rt, b"class 6", 5, 6, 1, 0x2E, 3)?;
+    show_m(rt, b"a range inside the one before", 3, 0x20, 1, 0x2E, 3)?;
+    show_m(rt, b"role 6", 0, 0x20, 1, 0x2E, 6)?;
+    show_m(rt, b"no scalar value", 0, 0x20, 1, 0xD800, 3)?;
+    show_short_m(rt, b"99 bytes", 0, 0x20, 1, 3)
 }
 
 // Which refusal comes first, and what is not looked at.
-fn show_order() {
+fn show_order(rt: &impl Print) -> io::Result<()> {
     show_short(
+        rt,
         b"14 words and 513 entries",
         &[0u32; 14],
         profile(513, 0x2E, 3),
-    );
-    show_short_m(b"513 entries and class 6", 5, 6, 513, 3);
-    show_short_m(b"class 6 and role 6", 5, 6, 1, 6);
+    )?;
+    show_short_m(rt, b"513 entries and class 6", 5, 6, 513, 3)?;
+    show_short_m(rt, b"class 6 and role 6", 5, 6, 1, 6)?;
     let words = changed(0, 0x20);
     try_write(
+        rt,
         b"role 6 and no bytes",
         &words,
         profile(1, 0x2E, 6),
         &mut [],
         &[],
-    );
+    )?;
     let past = b"role 9 past the used length";
     try_write(
+        rt,
         past,
         &words,
         profile(1, 0x2E, 3),
         &mut [BEFORE; 100],
         &[BEFORE; 100],
-    );
+    )?;
     let none = b"no ranges and no entries";
     try_write(
+        rt,
         none,
         &[],
         profile(0, 0x2E, 3),
         &mut [BEFORE; 32],
         &[BEFORE; 32],
-    );
+    )
 }
 
-pub fn run() {
-    show_written();
-    show_refused();
-    show_order();
+pub fn run(rt: &impl Print) -> io::Result<()> {
+    show_written(rt)?;
+    show_refused(rt)?;
+    show_order(rt)
 }
