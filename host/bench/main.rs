@@ -399,7 +399,7 @@ fn main() {
         "List: {RECORD_WORDS} words lent for every byte of the text, to both, and written before the clock."
     );
     println!(
-        "Library: as `host/library` compiles it. Rival: Rust, opt-level 3. Both for plain x86-64."
+        "Library: as `host/library` compiles it, for x86-64-v2. Rival: Rust, opt-level 3, for plain x86-64."
     );
     println!("They take turns, {ROUNDS} rounds or more in {SECONDS} s for each run.\n");
     // ICU may not know the letters of later versions.
