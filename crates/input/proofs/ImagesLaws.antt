@@ -22,8 +22,7 @@ use Rattle.changes.proofs.AnswerLaws.{changes_mean, Answers, means_changes}
 use Rattle.changes.proofs.BoundLaws.{runs_by_limits, entries_by_limits}
 use Rattle.input.specs.Front.{front_in as older_in, after_in as newer_in, ComesWhole}
 use Rattle.input.proofs.FrontLaws.{dec_whole, end_whole, cut_refused, looks_no_further}
-use Rattle.input.specs.Images.{answer_from, runs_from, entries_from, max_run_words, max_entry_words, whole_answer_within, whole_answer}
-use Rattle.input.specs.Images.{ChangeListingMeans, cut_off, whole}
+use Rattle.input.specs.Images.{answer_from, runs_from, entries_from, max_run_words, max_entry_words, whole_answer_within, whole_answer, ChangeListingMeans, cut_off, whole}
 
 module _ (input out more : List ℕ) where
   cut_answers : (ComesWhole input → ⊥) → Answers (older_in input) (newer_in input) out more (changes.Older refusal.Length) out more

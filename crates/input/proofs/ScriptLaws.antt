@@ -26,9 +26,7 @@ use Rattle.grammar.specs.declared.Counted.TheVariants as counted
 use Rattle.grammar.specs.Counted.{counted_by}
 use Rattle.input.specs.Front.{image_in, rest_in as text_in, front_in, after_in, ComesWhole}
 use Rattle.input.proofs.FrontLaws.{dec_whole, end_whole, cut_refused, looks_no_further}
-use Rattle.input.specs.Script.{max_script, script_within, script_written, written_from, listed_within, listed_from, script_words_within, script_words}
-use Rattle.input.specs.Script.{whole_answer_within, whole_answer, ScriptMeans, refused_before, short_text}
-use Rattle.input.specs.Script.{ListingMeans, cut_off, not_listed, listed}
+use Rattle.input.specs.Script.{max_script, script_within, script_written, written_from, listed_within, listed_from, script_words_within, script_words, whole_answer_within, whole_answer, ScriptMeans, refused_before, short_text, ListingMeans, cut_off, not_listed, listed}
 
 abbrev TokenList : Type 0
 TokenList = List (Tok Character Kind)

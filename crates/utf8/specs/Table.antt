@@ -1,6 +1,6 @@
 -- Well-formed UTF-8 byte sequences (docs/RULES.md, "UTF-8 by its first byte"): the Unicode Standard, section 3.9, Table 3-7.
 --
---   ByteRange, _to_        a range of code points or of bytes, both ends in it
+--   ByteRange, ◌to◌        a range of code points or of bytes, both ends in it
 --   Row                the bytes of a row: a range for each
 --   TableRow, row      a row as printed: code points, then the bytes of their sequences
 --   table              Table 3-7, row by row

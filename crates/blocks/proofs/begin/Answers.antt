@@ -1,4 +1,4 @@
--- `blocks::begin` meets its contract. The invariant: the rows of Start are filled up to a place. Assumes nothing.
+-- `blocks::begin` meets its contract. Assumes nothing.
 use Prim.Native.Nat.{ℕ, ◌≤◌, ◌<◌}
 use mathlib.Core.Path.{◌≡◌, refl, ◌∙◌}
 use native.Mathlib.Omega.{arith}

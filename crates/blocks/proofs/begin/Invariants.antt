@@ -1,4 +1,4 @@
--- `blocks::begin` meets its contract. The invariant: the rows of Start are filled up to a place. Assumes nothing.
+-- The loop of `blocks::begin`: the rows of Start are filled up to a place.
 use Prim.Native.Nat.{◌-◌, ◌≤◌}
 use mathlib.Core.Path.{◌≡◌}
 use lib.ListN.{length}

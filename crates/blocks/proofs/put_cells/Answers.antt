@@ -1,4 +1,4 @@
--- `blocks::put_cells` meets its contract. The invariant: the cell was put up to a place. Assumes nothing.
+-- `blocks::put_cells` meets its contract. Assumes nothing.
 use native.Mathlib.Omega.{arith}
 use Rattle.blocks.proofs.LearnLaws.{put_none, put_more}
 use Rattle.blocks.proofs.put_cells.Goals as goal

@@ -1,4 +1,4 @@
--- `blocks::put_cells` meets its contract. The invariant: the cell was put up to a place. Assumes nothing.
+-- The loop of `blocks::put_cells`: the cell was put up to a place.
 use Prim.Native.Nat.{◌-◌, ◌≤◌}
 use Rattle.blocks.specs.Blocks.{Put}
 use Rattle.blocks.proofs.put_cells.Given as goal

@@ -1,5 +1,4 @@
--- `changes::list_section` meets its contract. The invariant: the changes that begin before t are counted, and those with room stand in
--- the buffer. Assumes nothing.
+-- `changes::list_section` meets its contract. Assumes nothing.
 use native.Mathlib.Omega.{arith}
 use lib.ListN.{length-take, length-drop}
 use Rattle.changes.proofs.LoopLaws.{turn_begins, turn_ends, turn_same, turn_few, turn_fits, turn_passed, turn_written}

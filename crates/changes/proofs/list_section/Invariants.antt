@@ -1,5 +1,4 @@
--- `changes::list_section` meets its contract. The invariant: the changes that begin before t are counted, and those with room stand in
--- the buffer. Assumes nothing.
+-- The loop of `changes::list_section`: the changes that begin before t are counted, and those with room stand in the buffer.
 use Prim.Native.Nat.{◌-◌}
 use Rattle.pair.specs.Walk.{code_points}
 use Rattle.changes.proofs.LoopLaws.{Turn}

@@ -1,4 +1,4 @@
--- `character::fill_cells` meets its contract: the places passed hold what the token rules know, with the tag. Assumes nothing.
+-- The loop of `character::fill_cells`: the places passed hold what the token rules know, with the tag.
 use Prim.Native.Nat.{◌-◌}
 use lib.ListN.{length}
 use Rattle.character.proofs.CharacterLaws.{Cut}

@@ -1,4 +1,4 @@
--- `character::fill_part` meets its contract: the places passed hold their traits, and the walk has come to the next. Assumes nothing.
+-- The loop of `character::fill_part`: the places passed hold their traits, and the walk has come to the next.
 use Prim.Native.Nat.{ℕ, ◌+◌, ◌-◌, ◌≤◌}
 use lib.ListN.{length}
 use Rattle.lists.specs.Filled.{Filled}

@@ -1,4 +1,4 @@
--- `character::next_place` meets its contract. The invariant: x has passed the place. Assumes nothing.
+-- `character::next_place` meets its contract. Assumes nothing.
 use native.Mathlib.Omega.{arith}
 use Rattle.image.proofs.SectionLaws.{few_records}
 use Rattle.character.proofs.PlaceLaws.{passed_next, placed_here}

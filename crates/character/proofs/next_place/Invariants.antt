@@ -1,4 +1,4 @@
--- `character::next_place` meets its contract. The invariant: x has passed the place. Assumes nothing.
+-- The loop of `character::next_place`: x has passed the place.
 use Prim.Native.Nat.{◌-◌}
 use mathlib.Core.Path.{◌≡◌}
 use Rattle.image.specs.Records.{record_at, record_count}

@@ -1,4 +1,4 @@
--- `character::place_of` meets its contract. The invariant: the place is from lo to hi. Assumes nothing.
+-- `character::place_of` meets its contract. Assumes nothing.
 use native.Mathlib.Omega.{arith}
 use Rattle.image.proofs.SectionLaws.{few_records}
 use Rattle.character.proofs.PlaceLaws.{between_begins, between_above, between_below, between_placed}

@@ -1,4 +1,4 @@
--- `character::place_of` meets its contract. The invariant: the place is from lo to hi. Assumes nothing.
+-- The loop of `character::place_of`: the place is from lo to hi.
 use Prim.Native.Nat.{◌-◌}
 use mathlib.Core.Path.{◌≡◌}
 use mathlib.Core.Option.{none}

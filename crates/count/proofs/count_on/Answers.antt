@@ -1,4 +1,4 @@
--- `count::count_on` meets its contract. The loop's invariant: what is counted so far, and what blocks hold is right. Assumes nothing.
+-- `count::count_on` meets its contract. Assumes nothing.
 use Prim.Native.Nat.{◌≤◌, ◌<◌}
 use mathlib.Core.Path.{◌≡◌, refl, sym, subst, ◌∙◌}
 use native.Mathlib.Omega.{arith}
@@ -8,8 +8,7 @@ use Rattle.count.specs.Counting.{CountingAs}
 use Rattle.count.proofs.CountLaws.{counting_few, finishes}
 use Rattle.count.proofs.LookLaws.{looked_refused, looked_on, looked_memo}
 use Rattle.count.proofs.count_on.Goals as goal
-use Rattle.count.proofs.count_on.Goals.{After-with_rows-run, Joined-row-lt-NO_ROW, Left-loop-run}
-use Rattle.count.proofs.count_on.Goals.{then-row-lt-NO_ROW+else-text-run, else-row-lt-NO_ROW, else-loop-run-test, then-loop-run-test+then-row-lt-NO_ROW+then-text-run}
+use Rattle.count.proofs.count_on.Goals.{After-with_rows-run, Joined-row-lt-NO_ROW, Left-loop-run, then-row-lt-NO_ROW+else-text-run, else-row-lt-NO_ROW, else-loop-run-test, then-loop-run-test+then-row-lt-NO_ROW+then-text-run}
 
 -- the count where it goes on with the character at its place
 goes_on : (c : goal.Joined-row-lt-NO_ROW)

@@ -1,4 +1,4 @@
--- `count::count_on` meets its contract. The loop's invariant: what is counted so far, and what blocks hold is right. Assumes nothing.
+-- The loop of `count::count_on`: what is counted so far, and what blocks hold is right.
 use Prim.Native.Nat.{◌-◌}
 use mathlib.Core.Path.{◌≡◌}
 use lib.ListN.{length}

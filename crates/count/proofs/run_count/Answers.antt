@@ -1,5 +1,4 @@
--- `count::run_count` meets its contract. The loop's invariant: what is counted is so in the state of the row, and a medial that waits
--- is the last character. Assumes nothing.
+-- `count::run_count` meets its contract. Assumes nothing.
 use Prim.Native.Nat.{ℕ, ◌+◌, ◌≤◌, ◌<◌}
 use mathlib.Core.Path.{◌≡◌, refl, sym, ◌∙◌}
 use native.Mathlib.Omega.{arith}

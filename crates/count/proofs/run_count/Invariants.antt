@@ -1,5 +1,4 @@
--- `count::run_count` meets its contract. The loop's invariant: what is counted is so in the state of the row, and a medial that waits
--- is the last character. Assumes nothing.
+-- The loop of `count::run_count`: what is counted is so in the state of the row, and a medial that waits is the last character.
 use Prim.Native.Nat.{◌-◌}
 use lib.ListN.{length}
 use Rattle.count.proofs.KnownLaws.{Running}

@@ -1,4 +1,4 @@
--- `hashtag::count_hashtags` meets its contract. The loop's invariant: the count, and the hashtags still to be found. Assumes nothing.
+-- `hashtag::count_hashtags` meets its contract. Assumes nothing.
 use mathlib.Core.Path.{◌∙◌}
 use native.Mathlib.Omega.{arith}
 use Rattle.hashtag.proofs.ListLaws.{counting_begins, counting_next, counting_closes, counting_ends}

@@ -1,4 +1,4 @@
--- `hashtag::count_hashtags` meets its contract. The loop's invariant: the count, and the hashtags still to be found. Assumes nothing.
+-- The loop of `hashtag::count_hashtags`: the count, and the hashtags still to be found.
 use Prim.Native.Nat.{◌-◌}
 use lib.ListN.{length}
 use Rattle.hashtag.proofs.ListLaws.{Counting}

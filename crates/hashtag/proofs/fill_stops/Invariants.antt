@@ -1,4 +1,4 @@
--- `hashtag::fill_stops` meets its contract. Assumes nothing.
+-- The invariant and the measure of the loop of `hashtag::fill_stops`.
 use Prim.Native.Nat.{◌-◌, ◌≤◌}
 use Rattle.lists.specs.Filled.{Filled}
 use Rattle.hashtag.specs.Seek.{stop_for}

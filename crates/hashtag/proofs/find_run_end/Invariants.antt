@@ -1,4 +1,4 @@
--- `hashtag::find_run_end` meets its contract. Assumes nothing.
+-- The invariant and the measure of the loop of `hashtag::find_run_end`.
 use Prim.Native.Nat.{◌-◌}
 use lib.ListN.{length}
 use Rattle.character.specs.Read.{MemoOf}

@@ -1,4 +1,4 @@
--- `hashtag::pass_bytes` meets its contract. Assumes nothing.
+-- The invariant and the measure of the loop of `hashtag::pass_bytes`.
 use Prim.Native.Nat.{◌-◌}
 use lib.ListN.{length}
 use Rattle.hashtag.specs.Seek.{LinesCounted}

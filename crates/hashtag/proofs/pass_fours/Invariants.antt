@@ -1,4 +1,4 @@
--- `hashtag::pass_fours` meets its contract. Assumes nothing.
+-- The invariant and the measure of the loop of `hashtag::pass_fours`.
 use Prim.Native.Nat.{◌-◌}
 use lib.ListN.{length}
 use Rattle.hashtag.specs.Seek.{LinesCounted}

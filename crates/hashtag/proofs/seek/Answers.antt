@@ -1,4 +1,4 @@
--- `hashtag::seek` meets its contract. The loop's invariant: no hashtag begins in what was passed over. Assumes nothing.
+-- `hashtag::seek` meets its contract. Assumes nothing.
 use mathlib.Core.Bool.{false}
 use mathlib.Core.Path.{sym, ◌∙◌}
 use mathlib.Core.Logic.{inl, inr}

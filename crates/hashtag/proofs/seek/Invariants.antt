@@ -1,4 +1,4 @@
--- `hashtag::seek` meets its contract. The loop's invariant: no hashtag begins in what was passed over. Assumes nothing.
+-- The loop of `hashtag::seek`: no hashtag begins in what was passed over.
 use Prim.Native.Nat.{◌-◌}
 use lib.ListN.{length}
 use Rattle.hashtag.proofs.SeekLaws.{Seeking}

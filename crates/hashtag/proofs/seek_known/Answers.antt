@@ -1,5 +1,4 @@
--- `hashtag::seek_known` meets its contract. The loop's invariant: no hashtag begins in what was passed over, and the place is where a
--- character begins, on this line. Assumes nothing.
+-- `hashtag::seek_known` meets its contract. Assumes nothing.
 use mathlib.Core.Path.{sym, ◌∙◌}
 use native.Mathlib.Omega.{arith}
 use Rattle.line.proofs.LineLaws.{line_few}

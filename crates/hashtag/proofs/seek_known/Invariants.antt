@@ -1,5 +1,4 @@
--- `hashtag::seek_known` meets its contract. The loop's invariant: no hashtag begins in what was passed over, and the place is where a
--- character begins, on this line. Assumes nothing.
+-- The loop of `hashtag::seek_known`: no hashtag begins in what was passed over, and the place is where a character begins, on this line.
 use Prim.Native.Nat.{◌-◌}
 use lib.ListN.{length}
 use Rattle.hashtag.proofs.KnownLaws.{Walked}

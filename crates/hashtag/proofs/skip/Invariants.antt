@@ -1,4 +1,4 @@
--- `hashtag::skip` meets its contract. Assumes nothing.
+-- The invariant and the measure of the loop of `hashtag::skip`.
 use Prim.Native.Nat.{◌-◌}
 use mathlib.Core.Bool.{Bool}
 use lib.ListN.{length}

@@ -1,4 +1,4 @@
--- `hashtag::step_back` meets its contract. Assumes nothing.
+-- The invariant and the measure of the loop of `hashtag::step_back`.
 use Rattle.hashtag.proofs.KnownLaws.{Back}
 use Rattle.hashtag.proofs.step_back.Given as goal
 

@@ -1,5 +1,4 @@
--- `hashtag::write_hashtags` meets its contract. The loop's invariant: the words of the hashtags found so far stand in the buffer.
--- Assumes nothing.
+-- `hashtag::write_hashtags` meets its contract. Assumes nothing.
 use native.Mathlib.Omega.{arith}
 use Rattle.hashtag.proofs.ListLaws.{writing_begins, writing_known, writing_ends, writing_stops, next_part, next_put}
 use Rattle.hashtag.proofs.write_hashtags.Goals as goal

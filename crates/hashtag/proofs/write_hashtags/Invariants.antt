@@ -1,5 +1,4 @@
--- `hashtag::write_hashtags` meets its contract. The loop's invariant: the words of the hashtags found so far stand in the buffer.
--- Assumes nothing.
+-- The loop of `hashtag::write_hashtags`: the words of the hashtags found so far stand in the buffer.
 use Prim.Native.Nat.{◌-◌}
 use lib.ListN.{length}
 use Rattle.hashtag.proofs.ListLaws.{Writing}

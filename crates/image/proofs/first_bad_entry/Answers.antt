@@ -1,4 +1,4 @@
--- `image::first_bad_entry` meets its contract. The loop: all entries before i are good. Assumes nothing.
+-- `image::first_bad_entry` meets its contract. Assumes nothing.
 use mathlib.Core.Path.{sym, ◌∙◌}
 use native.Mathlib.Omega.{arith}
 use Rattle.image.specs.Profile.{first_bad_entry}

@@ -1,4 +1,4 @@
--- `image::first_bad_entry` meets its contract. The loop: all entries before i are good. Assumes nothing.
+-- The loop of `image::first_bad_entry`: all entries before i are good.
 use Prim.Native.Nat.{◌-◌}
 use Rattle.image.specs.Profile.{point_at, role_at, good_entry}
 use Rattle.lists.proofs.SearchLaws.{Searching}

@@ -1,4 +1,4 @@
--- `image::first_bad_range` meets its contract. The loop: all ranges before i are good. Assumes nothing.
+-- `image::first_bad_range` meets its contract. Assumes nothing.
 use mathlib.Core.Path.{sym, ◌∙◌}
 use Rattle.image.specs.Ranges.{first_bad_range}
 use Rattle.lists.proofs.SearchLaws.{search_begins, good_next, bad_here, none_bad}

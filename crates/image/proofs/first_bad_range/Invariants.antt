@@ -1,4 +1,4 @@
--- `image::first_bad_range` meets its contract. The loop: all ranges before i are good. Assumes nothing.
+-- The loop of `image::first_bad_range`: all ranges before i are good.
 use Prim.Native.Nat.{◌-◌}
 use Rattle.image.specs.Ranges.{range_at, good_range}
 use Rattle.lists.proofs.SearchLaws.{Searching}

@@ -1,4 +1,4 @@
--- `image::put_profile` meets its contract. The loop: the first i entries stand in the arrays, and zeros past them. Assumes nothing.
+-- `image::put_profile` meets its contract. Assumes nothing.
 use Prim.Native.Nat.{ℕ, ◌+◌, ◌<◌}
 use mathlib.Core.Path.{◌≡◌, sym, ap, ◌∙◌}
 use mathlib.Core.List.{List}

@@ -1,4 +1,4 @@
--- `image::put_profile` meets its contract. The loop: the first i entries stand in the arrays, and zeros past them. Assumes nothing.
+-- The loop of `image::put_profile`: the first i entries stand in the arrays, and zeros past them.
 use Prim.Native.Nat.{ℕ, ◌+◌, ◌*◌, ◌-◌, ◌≤◌}
 use mathlib.Core.Path.{◌≡◌}
 use mathlib.Core.List.{List}

@@ -1,4 +1,4 @@
--- `image::write_ranges` meets its contract. The loop: the first i ranges stand in the buffer. Assumes nothing.
+-- `image::write_ranges` meets its contract. Assumes nothing.
 use Prim.Native.Nat.{◌-◌, ◌*◌}
 use mathlib.Core.Path.{refl, ap, ◌∙◌}
 use native.Mathlib.Omega.{arith}

@@ -1,4 +1,4 @@
--- `image::write_ranges` meets its contract. The loop: the first i ranges stand in the buffer. Assumes nothing.
+-- The loop of `image::write_ranges`: the first i ranges stand in the buffer.
 use Prim.Native.Nat.{ℕ, ◌-◌}
 use mathlib.Core.List.{List}
 use Rattle.image.specs.Limits.{words_per_range}

@@ -1,4 +1,4 @@
--- `mark::mark_on` meets its contract. The loop's invariant: what is marked so far, and what blocks hold is right. Assumes nothing.
+-- `mark::mark_on` meets its contract. Assumes nothing.
 use mathlib.Core.Path.{refl, sym, ap, subst, ◌∙◌}
 use mathlib.Core.Logic.{inl, inr}
 use native.Mathlib.Omega.{arith}

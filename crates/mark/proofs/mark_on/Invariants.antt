@@ -1,4 +1,4 @@
--- `mark::mark_on` meets its contract. The loop's invariant: what is marked so far, and what blocks hold is right. Assumes nothing.
+-- The loop of `mark::mark_on`: what is marked so far, and what blocks hold is right.
 use Prim.Native.Nat.{◌-◌}
 use mathlib.Core.Path.{◌≡◌}
 use lib.ListN.{length}

@@ -1,5 +1,4 @@
--- `mark::run_mark` meets its contract. The loop's invariant: what is counted is so in the state of the row, and the starts are marked up to
--- the token under way. Assumes nothing.
+-- `mark::run_mark` meets its contract. Assumes nothing.
 use Prim.Native.Nat.{ℕ, ◌+◌, ◌-◌, ◌≤◌, ◌<◌}
 use mathlib.Core.Path.{◌≡◌, refl, ◌∙◌}
 use native.Mathlib.Omega.{arith}

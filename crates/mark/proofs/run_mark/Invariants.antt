@@ -1,5 +1,4 @@
--- `mark::run_mark` meets its contract. The loop's invariant: what is counted is so in the state of the row, and the starts are marked up to
--- the token under way. Assumes nothing.
+-- The loop of `mark::run_mark`: what is counted is so in the state of the row, and the starts are marked up to the token under way.
 use Prim.Native.Nat.{◌+◌, ◌-◌}
 use lib.ListN.{length}
 use Rattle.mark.proofs.MarkLaws.{Walked}

@@ -1,4 +1,4 @@
--- `pair::first_forbidden` meets its contract. The invariant: no code point before t has a forbidden change. Assumes nothing.
+-- `pair::first_forbidden` meets its contract. Assumes nothing.
 use mathlib.Core.Path.{sym, ◌∙◌}
 use native.Mathlib.Omega.{arith}
 use Rattle.pair.proofs.OverlapLaws.{clear_next, clear_here, clear_ends}

@@ -1,4 +1,4 @@
--- `pair::first_forbidden` meets its contract. The invariant: no code point before t has a forbidden change. Assumes nothing.
+-- The loop of `pair::first_forbidden`: no code point before t has a forbidden change.
 use Prim.Native.Nat.{◌-◌}
 use Rattle.pair.specs.Walk.{code_points}
 use Rattle.pair.proofs.OverlapLaws.{Clear}

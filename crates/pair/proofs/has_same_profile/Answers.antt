@@ -1,4 +1,4 @@
--- `pair::has_same_profile` meets its contract. The invariant: the entries before i are the same. Assumes nothing.
+-- `pair::has_same_profile` meets its contract. Assumes nothing.
 use mathlib.Core.Path.{sym, ◌∙◌}
 use native.Mathlib.Omega.{arith}
 use borrow.Author.Tests.{ne_eqb}

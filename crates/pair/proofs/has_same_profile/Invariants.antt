@@ -1,4 +1,4 @@
--- `pair::has_same_profile` meets its contract. The invariant: the entries before i are the same. Assumes nothing.
+-- The loop of `pair::has_same_profile`: the entries before i are the same.
 use Prim.Native.Nat.{◌-◌}
 use Rattle.pair.proofs.ProfileLaws.{SameTo}
 use Rattle.pair.proofs.has_same_profile.Given as goal

@@ -1,4 +1,4 @@
--- `token::write_all` meets its contract. The loop's invariant: the records before the marked tokens stand. Assumes nothing.
+-- `token::write_all` meets its contract. Assumes nothing.
 use Prim.Native.Nat.{◌-◌}
 use mathlib.Core.Path.{refl}
 use native.Mathlib.Omega.{arith}

@@ -1,4 +1,4 @@
--- `token::write_all` meets its contract. The loop's invariant: the records before the marked tokens stand. Assumes nothing.
+-- The loop of `token::write_all`: the records before the marked tokens stand.
 use mathlib.Core.Path.{◌≡◌}
 use lib.ListN.{length}
 use Rattle.token.proofs.FillLaws.{Filling, left_over}

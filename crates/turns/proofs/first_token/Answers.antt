@@ -1,4 +1,4 @@
--- `turns::first_token` meets its contract. The loop's invariant: no token is complete. Assumes nothing.
+-- `turns::first_token` meets its contract. Assumes nothing.
 use mathlib.Core.Path.{refl, ◌∙◌}
 use native.Mathlib.Omega.{arith}
 use Rattle.turns.proofs.ReachLaws.{Here, here, here_small, Look, at_ill, at_end}

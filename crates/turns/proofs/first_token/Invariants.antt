@@ -1,4 +1,4 @@
--- `turns::first_token` meets its contract. The loop's invariant: no token is complete. Assumes nothing.
+-- The loop of `turns::first_token`: no token is complete.
 use Prim.Native.Nat.{◌-◌}
 use lib.ListN.{length}
 use Rattle.character.specs.Read.{MemoOf}

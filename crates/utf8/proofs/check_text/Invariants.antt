@@ -1,5 +1,4 @@
--- `utf8::check_text` meets its contract: what is said of the rest of the text, moved by the place reached, is said of the whole.
--- Assumes nothing.
+-- The loop of `utf8::check_text`: what is said of the rest of the text, moved by the place reached, is said of the whole.
 use Prim.Native.Nat.{◌≤◌, ◌-◌}
 use mathlib.Core.Path.{◌≡◌}
 use lib.ListN.{length, drop}

@@ -1,4 +1,4 @@
--- `write::are_plain` meets its contract. The loop: the line ends of ASCII before `at` are apart. Assumes nothing.
+-- `write::are_plain` meets its contract. Assumes nothing.
 use Prim.Native.Nat.{ℕ}
 use mathlib.Core.Path.{subst}
 use mathlib.Core.Bool.{false≢true}

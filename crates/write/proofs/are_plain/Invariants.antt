@@ -1,4 +1,4 @@
--- `write::are_plain` meets its contract. The loop: the line ends of ASCII before `at` are apart. Assumes nothing.
+-- The loop of `write::are_plain`: the line ends of ASCII before `at` are apart.
 use Prim.Native.Nat.{ℕ, ◌-◌, ◌≤◌, ◌<◌}
 use lib.ListN.{get_or}
 use Rattle.write.specs.Records.{Apart}

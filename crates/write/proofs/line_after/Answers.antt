@@ -1,4 +1,4 @@
--- `write::line_after` meets its contract. The loop: `now` is the line at the place, and characters go from there to the end. Assumes nothing.
+-- `write::line_after` meets its contract. Assumes nothing.
 use Prim.Native.Nat.{ℕ, ◌+◌}
 use mathlib.Core.Path.{◌≡◌, refl, subst}
 use native.Mathlib.Omega.{arith}

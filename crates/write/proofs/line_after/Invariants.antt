@@ -1,4 +1,4 @@
--- `write::line_after` meets its contract. The loop: `now` is the line at the place, and characters go from there to the end. Assumes nothing.
+-- The loop of `write::line_after`: `now` is the line at the place, and characters go from there to the end.
 use Prim.Native.Nat.{◌-◌}
 use Rattle.line.specs.Line.{LineAt}
 use Rattle.write.specs.Records.{Spans}

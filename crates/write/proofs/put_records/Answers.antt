@@ -1,4 +1,4 @@
--- `write::put_records` meets its contract. The loop: k records more are written, and the line is that of the byte after them. Assumes nothing.
+-- `write::put_records` meets its contract. Assumes nothing.
 use Prim.Native.Nat.{◌+◌}
 use mathlib.Core.Path.{◌≡◌, sym, ◌∙◌}
 use native.Mathlib.Omega.{arith}

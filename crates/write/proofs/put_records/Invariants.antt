@@ -1,4 +1,4 @@
--- `write::put_records` meets its contract. The loop: k records more are written, and the line is that of the byte after them. Assumes nothing.
+-- The loop of `write::put_records`: k records more are written, and the line is that of the byte after them.
 use Prim.Native.Nat.{◌-◌, ◌/◌, ◌≤◌}
 use Rattle.grammar.specs.Record.{record_size}
 use Rattle.write.proofs.WriteLaws.{Going}

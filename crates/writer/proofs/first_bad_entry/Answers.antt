@@ -1,4 +1,4 @@
--- `writer::first_bad_entry` meets its contract. The loop: all entries before i are good. Assumes nothing.
+-- `writer::first_bad_entry` meets its contract. Assumes nothing.
 use mathlib.Core.Path.{sym, ◌∙◌}
 use Rattle.lists.proofs.SearchLaws.{search_begins, good_next, bad_here, none_bad}
 use Rattle.image.specs.Profile.{first_bad_entry}

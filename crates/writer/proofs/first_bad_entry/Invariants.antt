@@ -1,4 +1,4 @@
--- `writer::first_bad_entry` meets its contract. The loop: all entries before i are good. Assumes nothing.
+-- The loop of `writer::first_bad_entry`: all entries before i are good.
 use Prim.Native.Nat.{◌-◌}
 use Rattle.lists.proofs.SearchLaws.{Searching}
 use Rattle.image.specs.Profile.{good_entry}

@@ -1,4 +1,4 @@
--- `writer::first_bad_range` meets its contract. The loop: all ranges before i are good. Assumes nothing.
+-- The loop of `writer::first_bad_range`: all ranges before i are good.
 use Prim.Native.Nat.{◌-◌}
 use Rattle.lists.proofs.SearchLaws.{Searching}
 use Rattle.image.specs.Ranges.{range_in, good_range}

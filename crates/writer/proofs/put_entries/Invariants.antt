@@ -1,4 +1,4 @@
--- `writer::put_entries` meets its contract. The loop: the bytes of the first i entries stand in the buffer. Assumes nothing.
+-- The loop of `writer::put_entries`: the bytes of the first i entries stand in the buffer.
 use Prim.Native.Nat.{ℕ, ◌-◌}
 use mathlib.Core.List.{List}
 use Rattle.lists.specs.Writing.{Writing}

@@ -1,4 +1,4 @@
--- `writer::put_words` meets its contract. The loop: the bytes of the first i numbers stand in the buffer. Assumes nothing.
+-- `writer::put_words` meets its contract. Assumes nothing.
 use mathlib.Core.Path.{ap, ◌∙◌}
 use native.Mathlib.Omega.{arith}
 use lib.ListN.{length, length-take, length-drop}

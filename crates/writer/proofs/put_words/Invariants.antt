@@ -1,4 +1,4 @@
--- `writer::put_words` meets its contract. The loop: the bytes of the first i numbers stand in the buffer. Assumes nothing.
+-- The loop of `writer::put_words`: the bytes of the first i numbers stand in the buffer.
 use Prim.Native.Nat.{ℕ, ◌-◌}
 use mathlib.Core.List.{List}
 use lib.ListN.{length, get_or}
