@@ -1,29 +1,12 @@
 // The change lister: reads an older image and right after it a newer one from standard input, and prints what changed or the refusal.
 #![tactic(auto)]
 
-ghost use Rattle.std.specs.Prelude.{◌≤◌, length, IfOk};
-
 use input::images::{MAX_ENTRY_WORDS, MAX_INPUT, MAX_RUN_WORDS};
-use std::io::{self, Read};
-
-// Reads until the buffer is full or the input ends, and returns how many bytes it put at the buffer's start.
-fn read_full(source: &mut impl Read, buffer: &mut [u8]) -> io::Result<usize>
-    ensures { IfOk result (λ n. n ≤ length buffer.new) }
-{
-    let mut n = 0;
-    while n < buffer.len() {
-        let more = source.read(&mut buffer[n..])?;
-        if more == 0 {
-            break;
-        }
-        n += more;
-    }
-    Ok(n)
-}
+use std::io;
 
 fn main(rt: HostRuntime) -> io::Result<()> {
     let mut input = [0u8; MAX_INPUT];
-    let n = read_full(&mut rt.stdin(), &mut input)?;
+    let n = input::read_full(&mut rt.stdin(), &mut input)?;
     let mut runs = [0u32; MAX_RUN_WORDS];
     let mut entries = [0u32; MAX_ENTRY_WORDS];
     let answer = input::images::list_read(&input, n, &mut runs, &mut entries);

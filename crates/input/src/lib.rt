@@ -1,10 +1,12 @@
-// What the programs do with their input: `script` an image and a text, `images` two images. Here: where an image at the front ends.
+// What the programs do with their input: `script` an image and a text, `images` two images. Here: where an image at the front ends, and the reading itself.
 #![tactic(auto)]
 
-ghost use Rattle.std.specs.Prelude.{◌≡◌};
+ghost use Rattle.std.specs.Prelude.{◌≡◌, ◌<◌, ◌≤◌, length, take, IfOk};
+ghost use Rattle.std.specs.Io.KnownBytes.{Consumes, IsAtEnd};
 ghost use Rattle.input.specs.Front.{end_in};
 
 use image::{HEADER_BYTES, MAX_IMAGE, TOTAL_AT};
+use std::io::{self, Read};
 
 pub mod images;
 pub mod script;
@@ -27,4 +29,23 @@ pub fn find_end(input: &[u8]) -> usize
         return 0;
     }
     total
+}
+
+// Reads until the buffer is full or the input ends, and returns how many bytes it put at the buffer's start.
+pub fn read_full<R: Read>(source: &mut R, buffer: &mut [u8]) -> io::Result<usize>
+    ensures bound { IfOk result (λ n. n ≤ length buffer.new) }
+    // What the source gave stands at the buffer's start ..
+    ensures bytes { IfOk result (λ n. Consumes (R.remaining source.old) (R.remaining source.new) (take n buffer.new)) }
+    // .. and where room is left, it has no more.
+    ensures end { IfOk result (λ n. n < length buffer.new → IsAtEnd (R.remaining source.new)) }
+{
+    let mut n = 0;
+    while n < buffer.len() {
+        let more = source.read(&mut buffer[n..])?;
+        if more == 0 {
+            break;
+        }
+        n += more;
+    }
+    Ok(n)
 }
