@@ -10,6 +10,7 @@ use lib.ListN.{length, take, get_or}
 use lib.Seq.{get_or-take}
 use lib.Dec.{leb, eqb}
 use borrow.Author.Tests.{leb-true, eqb-true, le-leb, eq-eqb}
+use Rattle.std.specs.Prelude.{Result, Ok, Err}
 use Rattle.lists.proofs.BoolLaws.{split, impossible}
 use Rattle.lists.proofs.EachLaws.{column_at, column_past, column_same}
 use Rattle.refusal.specs.declared.Refusal.{Refusal}
@@ -48,10 +49,10 @@ use Rattle.image.specs.Means.{
   check_refused,
   is_checked,
 }
-use Rattle.image.specs.Check.{records_refusal, refusal_within, refusal_of, check_by, check_within, check_of}
+use Rattle.image.specs.Check.{records_refusal, refusal_within, refusal_of, check_by, check_within, check_of, accepted_with}
 use Rattle.image.specs.declared.Profile.{Profile}
-use Rattle.image.specs.declared.Answer.{Answer}
-use Rattle.image.specs.declared.Answer.TheVariants as answer
+use Rattle.image.specs.Opened.{opened_by, summary_of}
+use Rattle.image.specs.declared.Summary.{Summary}
 use Rattle.image.specs.declared.Checked.{Checked}
 use Rattle.image.proofs.RecordsLaws.{records_mean, range_refused, entry_refused, none_refused}
 
@@ -228,36 +229,36 @@ module _ (s : List ℕ) where
   means_check _ (check_refused {r} m) = ap (check_by max_entries s) (means_refusal s (some r) m)
   means_check _ (is_checked a) = ap (check_by max_entries s) (refused_none s a)
 
-  pub refuses : (r : Refusal) → refusal_of s ≡ some r → answer.Refused r ≡ (check_of s).answer
+  pub refuses : (r : Refusal) → refusal_of s ≡ some r → Err r ≡ (check_of s).answer
   unfolding check_within
   refuses r e = ap (λ (o : Option Refusal). (check_by max_entries s o).answer) (sym e)
 
-  pub accepts : refusal_of s ≡ none → (v n : ℕ) → v ≡ version_of s → n ≡ range_count s → answer.Accepted v n ≡ (check_of s).answer
+  pub accepts : refusal_of s ≡ none → (v n : ℕ) → v ≡ version_of s → n ≡ range_count s → accepted_with v n ≡ (check_of s).answer
   unfolding check_within
   accepts e v n ev en = rw (ev, en) (ap (λ (o : Option Refusal). (check_by max_entries s o).answer) (sym e))
 
   -- and back, from an answer in hand
-  pub refused_by : (a : Answer) → a ≡ (check_of s).answer → (r : Refusal) → a ≡ answer.Refused r → refusal_of s ≡ some r
+  pub refused_by : (a : Result Summary Refusal) → a ≡ (check_of s).answer → (r : Refusal) → a ≡ Err r → refusal_of s ≡ some r
   unfolding check_within
   refused_by a e r f = go _ refl (sym e ∙ f)
     where
-      go : (o : Option Refusal) → refusal_of s ≡ o → (check_by max_entries s o).answer ≡ answer.Refused r → refusal_of s ≡ some r
+      go : (o : Option Refusal) → refusal_of s ≡ o → (check_by max_entries s o).answer ≡ Err r → refusal_of s ≡ some r
       go none g h = impossible (cc)
       go (some q) g h = let z : q ≡ r = cc in g ∙ ap some z
 
   abbrev Accepts : ℕ → ℕ → Type 0
   Accepts v n = (refusal_of s ≡ none) × (v ≡ version_of s) × (n ≡ range_count s)
 
-  pub accepted_by : (a : Answer) → a ≡ (check_of s).answer → (v n : ℕ) → a ≡ answer.Accepted v n → Accepts v n
+  pub accepted_by : (a : Result Summary Refusal) → a ≡ (check_of s).answer → (v n : ℕ) → a ≡ accepted_with v n → Accepts v n
   unfolding check_within
   accepted_by a e v n f = go _ refl (sym e ∙ f)
     where
-      go : (o : Option Refusal) → refusal_of s ≡ o → (check_by max_entries s o).answer ≡ answer.Accepted v n → Accepts v n
-      go none g h = (g, cc, cc)
+      go : (o : Option Refusal) → refusal_of s ≡ o → (check_by max_entries s o).answer ≡ accepted_with v n → Accepts v n
+      go none g h = let z : summary_of s ≡ record { version = v; ranges = n } = cc in (g, sym (ap (λ (x : Summary). x.version) z), sym (ap (λ (x : Summary). x.ranges) z))
       go (some q) g h = impossible (cc)
 
   -- what the check accepts is what the calls on a checked image require
-  pub check_accepts : (v n : ℕ) → ((check_of s).answer ≡ answer.Accepted v n) ↔ Accepts v n
+  pub check_accepts : (v n : ℕ) → ((check_of s).answer ≡ accepted_with v n) ↔ Accepts v n
   check_accepts v n = (accepted_by (check_of s).answer refl v n, λ k. sym (accepts k.0 v n k.1 k.2))
 
 -- equal profile sections give equal profile records, and back

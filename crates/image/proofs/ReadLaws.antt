@@ -8,14 +8,16 @@ use mathlib.Core.Logic.{◌↔◌}
 use lib.ListN.{length}
 use lib.Dec.{ltb}
 use borrow.Author.Tests.{ltb-true, ltb-false, lt-ltb, le-ltb}
+use Rattle.std.specs.Prelude.{Err}
 use Rattle.lists.proofs.BoolLaws.{impossible}
 use Rattle.refusal.specs.declared.Refusal.{Refusal}
 use Rattle.refusal.specs.declared.Refusal.TheVariants as refusal
 use Rattle.image.specs.Limits.{max_entries, words_per_range}
 use Rattle.image.specs.Header.{version_of, range_count}
 use Rattle.image.specs.Means.{ReadMeans, read_refused, lacks_room, is_read}
-use Rattle.image.specs.Check.{refusal_of, check_by, read_refusal, read_within, read_of, words_by, words_within, words_after}
-use Rattle.image.specs.declared.Answer.TheVariants as answer
+use Rattle.image.specs.Check.{refusal_of, check_by, read_refusal, read_within, read_of, words_by, words_within, words_after, accepted_with}
+use Rattle.image.specs.Opened.{summary_of}
+use Rattle.image.specs.declared.Summary.{Summary}
 use Rattle.image.specs.declared.Checked.{Checked}
 use Rattle.image.proofs.ImageLaws.{accepted, refused_none, refusal_means, means_refusal}
 
@@ -61,10 +63,10 @@ module _ (s out : List ℕ) where
   means_read _ _ (is_read a l) = read_by none (none_refuses (refused_none s a) l)
 
   -- a refused read leaves the buffer as it was
-  pub read_kept : (r : Refusal) → (read_of s (length out)).answer ≡ answer.Refused r → words_after s out ≡ out
+  pub read_kept : (r : Refusal) → (read_of s (length out)).answer ≡ Err r → words_after s out ≡ out
   read_kept r e = go _ _ (read_means _ _ refl refl) e
     where
-      go : (k : Checked) (w : List ℕ) → ReadMeans s out k w → k.answer ≡ answer.Refused r → w ≡ out
+      go : (k : Checked) (w : List ℕ) → ReadMeans s out k w → k.answer ≡ Err r → w ≡ out
       go _ _ (read_refused m) f = refl
       go _ _ (lacks_room a l) f = refl
       go _ _ (is_read a l) f = impossible (cc)
@@ -72,15 +74,15 @@ module _ (s out : List ℕ) where
   -- what a read accepts: an accepted image whose ranges have room
   pub read_accepts :
       (v n : ℕ)
-      → ((read_of s (length out)).answer ≡ answer.Accepted v n) ↔ ((refusal_of s ≡ none) × (range_count s ≤ room) × (v ≡ version_of s) × (n ≡ range_count s))
+      → ((read_of s (length out)).answer ≡ accepted_with v n) ↔ ((refusal_of s ≡ none) × (range_count s ≤ room) × (v ≡ version_of s) × (n ≡ range_count s))
   read_accepts v n = (λ e. to _ _ (read_means _ _ refl refl) e, from)
     where
       to :
-          (k : Checked) (w : List ℕ) → ReadMeans s out k w → k.answer ≡ answer.Accepted v n
+          (k : Checked) (w : List ℕ) → ReadMeans s out k w → k.answer ≡ accepted_with v n
           → (refusal_of s ≡ none) × (range_count s ≤ room) × (v ≡ version_of s) × (n ≡ range_count s)
       to _ _ (read_refused m) f = impossible (cc)
       to _ _ (lacks_room a l) f = impossible (cc)
-      to _ _ (is_read a l) f = (refused_none s a, l, cc, cc)
+      to _ _ (is_read a l) f = let z : summary_of s ≡ record { version = v; ranges = n } = cc in (refused_none s a, l, sym (ap (λ (x : Summary). x.version) z), sym (ap (λ (x : Summary). x.ranges) z))
 
-      from : (refusal_of s ≡ none) × (range_count s ≤ room) × (v ≡ version_of s) × (n ≡ range_count s) → (read_of s (length out)).answer ≡ answer.Accepted v n
-      from (e, l, ev, en) = ap (λ (k : Checked). k.answer) (read_by none (none_refuses e l)).0 ∙ (λ d. answer.Accepted (sym ev d) (sym en d))
+      from : (refusal_of s ≡ none) × (range_count s ≤ room) × (v ≡ version_of s) × (n ≡ range_count s) → (read_of s (length out)).answer ≡ accepted_with v n
+      from (e, l, ev, en) = ap (λ (k : Checked). k.answer) (read_by none (none_refuses e l)).0 ∙ (λ d. accepted_with (sym ev d) (sym en d))

@@ -4,7 +4,7 @@
 --   refuse_at                           the refusal of an index, where it is below a count
 --   records_refusal                     3 where one of n ranges is bad, else 4 where one of m entries is, else the rest
 --   refusal_within, refusal_of           the first in number order of 1 to 4 that applies; none: the image is accepted
---   accepted_within, accepted_of         what an accepted image gives: version, number of ranges, and the profile
+--   accepted_with, accepted_within, accepted_of   what an accepted image gives: version, number of ranges, and the profile
 --   refused_within, refused_by           what a refused one gives: the refusal, and the empty profile
 --   check_by, check_within, check_of      the answer of the check
 --   read_refusal                        1 to 4, then 8, of a read into a buffer of so many words
@@ -13,7 +13,7 @@
 --   words_by, words_within, words_after   what the buffer holds after reading
 --   range_class, entry_role              the class of a code point in the ranges; its role in the profile, or 0
 --   class_of, medial_of, hashtag_of       its class after the profile; whether it is a medial; whether its role is 5
-use Rattle.std.specs.Prelude.{ℕ, ◌/◌, List, Bool, cond, length, ltb}
+use Rattle.std.specs.Prelude.{ℕ, ◌/◌, List, Bool, cond, length, ltb, Result, Ok, Err}
 use Rattle.std.proofs.Math.Option.{Option, none, some}
 use Rattle.lists.specs.Each.{each}
 use Rattle.lists.specs.Laid.{laid}
@@ -24,7 +24,7 @@ use Rattle.image.specs.Header.{version_of, range_count, entry_count, length_with
 use Rattle.image.specs.Ranges.{range_at, range_words, first_bad_range, class_in}
 use Rattle.image.specs.Profile.{point_at, role_at, first_bad_entry, profile_within, no_profile_within, role_by, after_role, is_medial, is_hashtag}
 use Rattle.image.specs.declared.Range.{Range}
-use Rattle.image.specs.declared.Answer.TheVariants as answer
+use Rattle.image.specs.declared.Summary.{Summary}
 use Rattle.image.specs.declared.Checked.{Checked}
 
 abbrev pub refuse_at : (ℕ → Refusal) → ℕ → ℕ → Option Refusal → Option Refusal
@@ -44,14 +44,18 @@ refusal_within limit s =
 abbrev pub refusal_of : List ℕ → Option Refusal
 refusal_of s = refusal_within max_entries s
 
+-- what an accepted image gives by its version and its number of ranges
+abbrev pub accepted_with : ℕ → ℕ → Result Summary Refusal
+accepted_with version ranges = Ok (record { version = version; ranges = ranges })
+
 abbrev pub accepted_within : ℕ → List ℕ → Checked
-accepted_within limit s = record { answer = answer.Accepted (version_of s) (range_count s); profile = profile_within limit s }
+accepted_within limit s = record { answer = accepted_with (version_of s) (range_count s); profile = profile_within limit s }
 
 abbrev pub accepted_of : List ℕ → Checked
 accepted_of s = accepted_within max_entries s
 
 abbrev pub refused_within : ℕ → Refusal → Checked
-refused_within limit r = record { answer = answer.Refused r; profile = no_profile_within limit }
+refused_within limit r = record { answer = Err r; profile = no_profile_within limit }
 
 abbrev pub refused_by : Refusal → Checked
 refused_by r = refused_within max_entries r

@@ -11,5 +11,6 @@ pub mod Placed
 pub mod Same
 pub mod Image
 pub mod Check
+pub mod Opened
 pub mod Accepted
 pub mod Means

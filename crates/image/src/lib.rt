@@ -11,8 +11,10 @@ ghost use Rattle.image.specs.Header.{version_of, total_of, range_count, range_of
 ghost use Rattle.image.specs.Ranges.{range_at, range_words, good_alone, follows, good_range, first_bad_range};
 ghost use Rattle.image.specs.Profile.{point_at, role_at, good_entry_alone, good_entry, first_bad_entry, profile_of};
 ghost use Rattle.image.specs.Check.{refusal_of, accepted_of, refused_by, check_of, read_of, words_after};
+ghost use Rattle.image.specs.Opened.{opened_by, summary_of};
 
 use refusal::Refusal;
+use std::marker::Model;
 
 pub mod records;
 
@@ -102,17 +104,84 @@ pub struct Profile {
     pub used: usize,
 }
 
-#[derive(Drop)]
-pub enum Answer {
-    Refused(Refusal),
-    Accepted { version: u32, ranges: usize },
+// What the header of an accepted image tells.
+#[derive(Clone, Copy)]
+pub struct Summary {
+    pub version: u32,
+    pub ranges: usize,
 }
 
 // An answer, and the profile of an accepted image; beside a refusal an empty one.
 #[derive(Drop)]
 pub struct Checked {
-    pub answer: Answer,
+    pub answer: Result<Summary, Refusal>,
     pub profile: Profile,
+}
+
+// The bytes of an image that was accepted. Contracts see the bytes.
+#[derive(Drop)]
+pub struct ClassImage<'a> {
+    bytes: &'a [u8],
+}
+
+impl<'a> Model for ClassImage<'a> {
+    ghost use Rattle.std.specs.Prelude.{◌≡◌, List, ℕ};
+    ghost use Rattle.std.proofs.Math.Option.{none};
+    ghost use Rattle.image.specs.Check.{refusal_of};
+
+    ghost Value = { List ℕ };
+
+    ghost view = { λ s. s.bytes.now };
+
+    ghost invariant = { λ s. refusal_of s.bytes.now ≡ none };
+}
+
+impl<'a> ClassImage<'a> {
+    // The image of these bytes, or why not: refusals 1 to 4.
+    pub fn open(bytes: &'a [u8]) -> Result<ClassImage<'a>, Refusal>
+        ensures { result ≡ opened_by bytes.now (refusal_of bytes.now) }
+    {
+        let _summary = judge(bytes)?;
+        Ok(ClassImage { bytes })
+    }
+
+    // The image of bytes that were accepted before.
+    pub fn of_accepted(bytes: &'a [u8]) -> ClassImage<'a>
+        requires { refusal_of bytes.now ≡ none }
+        ensures { result ≡ bytes.now }
+    {
+        ClassImage { bytes }
+    }
+
+    pub fn bytes(&self) -> &'a [u8]
+        ensures bytes { result.now ≡ self.now }
+        ensures accepted { refusal_of self.now ≡ none }
+    {
+        self.bytes
+    }
+
+    // Writes the profile into two arrays, with zeros past its entries, and gives their number.
+    pub fn put_profile(
+        &self,
+        points: &mut [u32; MAX_ENTRIES],
+        roles: &mut [u32; MAX_ENTRIES],
+    ) -> usize
+        ensures value { result ≡ (profile_of self.now).used }
+        ensures points_after { points.new ≡ (profile_of self.now).points }
+        ensures roles_after { roles.new ≡ (profile_of self.now).roles }
+    {
+        put_profile(self.bytes, points, roles)
+    }
+
+    // What the header tells.
+    pub fn summary(&self) -> Summary
+        ensures { result ≡ summary_of self.now }
+    {
+        Summary {
+            version: word(self.bytes, VERSION_AT),
+            ranges: word(self.bytes, RANGE_COUNT_AT) as usize,
+        }
+    }
 }
 
 fn join(a: u8, b: u8, c: u8, d: u8) -> u32
@@ -314,7 +383,7 @@ fn first_bad_entry(image: &[u8], base: usize, m: usize) -> usize
 }
 
 // Writes the profile of an accepted image into two arrays, with zeros past its entries, and gives their number.
-pub fn put_profile(
+fn put_profile(
     image: &[u8],
     points: &mut [u32; MAX_ENTRIES],
     roles: &mut [u32; MAX_ENTRIES],
@@ -344,7 +413,7 @@ fn refuse(r: Refusal) -> Checked
     ensures { result ≡ refused_by r }
 {
     Checked {
-        answer: Answer::Refused(r),
+        answer: Err(r),
         profile: Profile {
             points: [0u32; MAX_ENTRIES],
             roles: [0u32; MAX_ENTRIES],
@@ -354,15 +423,14 @@ fn refuse(r: Refusal) -> Checked
 }
 
 // The answer for an accepted image, with its profile.
-fn accept(image: &[u8], version: u32, n: usize) -> Checked
-    requires { (refusal_of image.now ≡ none) × (version ≡ version_of image.now) × (n ≡ range_count image.now) }
+fn accept(image: &ClassImage) -> Checked
     ensures { result ≡ accepted_of image.now }
 {
     let mut points = [0u32; MAX_ENTRIES];
     let mut roles = [0u32; MAX_ENTRIES];
-    let used = put_profile(image, &mut points, &mut roles);
+    let used = image.put_profile(&mut points, &mut roles);
     Checked {
-        answer: Answer::Accepted { version, ranges: n },
+        answer: Ok(image.summary()),
         profile: Profile {
             points,
             roles,
@@ -372,47 +440,46 @@ fn accept(image: &[u8], version: u32, n: usize) -> Checked
 }
 
 // Checks the ranges and the profile of an image whose length and header are right.
-fn judge_records(image: &[u8]) -> Answer
+fn judge_records(image: &[u8]) -> Result<Summary, Refusal>
     requires { (length_right image.now ≡ true) × (header_right image.now ≡ true) }
     ensures { result ≡ (check_of image.now).answer }
 {
     let n = word(image, RANGE_COUNT_AT) as usize;
     let i = first_bad_range(image, n);
     if i < n {
-        return Answer::Refused(Refusal::Range(i));
+        return Err(Refusal::Range(i));
     }
     let m = word(image, ENTRY_COUNT_AT) as usize;
     let j = first_bad_entry(image, HEADER_BYTES + RANGE_BYTES * n, m);
     if j < m {
-        return Answer::Refused(Refusal::Entry(j));
+        return Err(Refusal::Entry(j));
     }
-    Answer::Accepted {
+    Ok(Summary {
         version: word(image, VERSION_AT),
         ranges: n,
-    }
+    })
 }
 
 // The answer of the check, without the profile.
-pub fn judge(image: &[u8]) -> Answer
+pub fn judge(image: &[u8]) -> Result<Summary, Refusal>
     ensures { result ≡ (check_of image.now).answer }
 {
-    if is_length_right(image) {
-        if is_header_right(image) {
-            return judge_records(image);
-        }
-        return Answer::Refused(Refusal::Header);
+    if !is_length_right(image) {
+        return Err(Refusal::Length);
     }
-    Answer::Refused(Refusal::Length)
+    if !is_header_right(image) {
+        return Err(Refusal::Header);
+    }
+    judge_records(image)
 }
 
 // Checks an image and reads its profile.
 pub fn check(image: &[u8]) -> Checked
     ensures { result ≡ check_of image.now }
 {
-    let a = judge(image);
-    match a {
-        Answer::Refused(r) => refuse(r),
-        Answer::Accepted { version, ranges } => accept(image, version, ranges),
+    match ClassImage::open(image) {
+        Err(r) => refuse(r),
+        Ok(image) => accept(&image),
     }
 }
 
@@ -441,30 +508,24 @@ fn write_ranges(image: &[u8], n: usize, out: &mut [u32])
 }
 
 // Checks an image and reads its ranges into a buffer. A refused call leaves the buffer as it was.
-pub fn read_ranges(image: &[u8], out: &mut [u32]) -> Answer
+pub fn read_ranges(image: &[u8], out: &mut [u32]) -> Result<Summary, Refusal>
     ensures value { result ≡ (read_of image.now (length out.old)).answer }
     ensures out_after { out.new ≡ words_after image.now out.old }
 {
-    let a = judge(image);
-    match a {
-        Answer::Refused(r) => Answer::Refused(r),
-        Answer::Accepted { version, ranges } => {
-            if out.len() / RANGE_WORDS < ranges {
-                return Answer::Refused(Refusal::Room(ranges));
-            }
-            write_ranges(image, ranges, out);
-            Answer::Accepted { version, ranges }
-        }
+    let summary = judge(image)?;
+    if out.len() / RANGE_WORDS < summary.ranges {
+        return Err(Refusal::Room(summary.ranges));
     }
+    write_ranges(image, summary.ranges, out);
+    Ok(summary)
 }
 
 // As `read_ranges`, and reads the profile.
 pub fn read(image: &[u8], out: &mut [u32]) -> Checked
     ensures { (result ≡ read_of image.now (length out.old)) × (out.new ≡ words_after image.now out.old) }
 {
-    let a = read_ranges(image, out);
-    match a {
-        Answer::Refused(r) => refuse(r),
-        Answer::Accepted { version, ranges } => accept(image, version, ranges),
+    match read_ranges(image, out) {
+        Err(r) => refuse(r),
+        Ok(_) => accept(&ClassImage::of_accepted(image)),
     }
 }

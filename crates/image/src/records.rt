@@ -8,7 +8,7 @@ ghost use Rattle.image.specs.Check.{refusal_of};
 ghost use Rattle.image.specs.Records.{entry_range, record_at, record_count};
 
 use crate::{
-    ENTRY_BYTES, ENTRY_COUNT_AT, HEADER_BYTES, NONSTART, OTHER, RANGE_BYTES, RANGE_COUNT_AT,
+    ClassImage, ENTRY_BYTES, ENTRY_COUNT_AT, HEADER_BYTES, NONSTART, OTHER, RANGE_BYTES, RANGE_COUNT_AT,
     ROLE_AT, Range, START,
 };
 
@@ -30,42 +30,42 @@ pub enum Section {
     Entries,
 }
 
-// The number of records in a section of an accepted image.
-pub fn count_records(image: &[u8], section: Section) -> usize
-    requires { refusal_of image.now ≡ none }
-    ensures { result ≡ record_count image.now section }
-{
-    match section {
-        Section::Ranges => crate::word(image, RANGE_COUNT_AT) as usize,
-        Section::Entries => crate::word(image, ENTRY_COUNT_AT) as usize,
+impl ClassImage<'_> {
+    // The number of records in a section.
+    pub fn count_records(&self, section: Section) -> usize
+        ensures count { result ≡ record_count self.now section }
+        ensures accepted { refusal_of self.now ≡ none }
+    {
+        match section {
+            Section::Ranges => crate::word(self.bytes, RANGE_COUNT_AT) as usize,
+            Section::Entries => crate::word(self.bytes, ENTRY_COUNT_AT) as usize,
+        }
     }
-}
 
-// Profile entry i of an accepted image, as a range of its one code point with its role for the class.
-fn entry_at(image: &[u8], i: usize) -> Range
-    requires image_value { refusal_of image.now ≡ none }
-    requires i_bound { i < entry_count image.now }
-    ensures { result ≡ entry_range (point_at image.now) (role_at image.now) i }
-{
-    let n = crate::word(image, RANGE_COUNT_AT) as usize;
-    let at = HEADER_BYTES + RANGE_BYTES * n + ENTRY_BYTES * i;
-    let point = crate::word(image, at);
-    Range {
-        first: point,
-        last: point,
-        class: crate::word(image, at + ROLE_AT),
+    // Profile entry i, as a range of its one code point with its role for the class.
+    fn entry_at(&self, i: usize) -> Range
+        requires { i < entry_count self.now }
+        ensures { result ≡ entry_range (point_at self.now) (role_at self.now) i }
+    {
+        let n = crate::word(self.bytes, RANGE_COUNT_AT) as usize;
+        let at = HEADER_BYTES + RANGE_BYTES * n + ENTRY_BYTES * i;
+        let point = crate::word(self.bytes, at);
+        Range {
+            first: point,
+            last: point,
+            class: crate::word(self.bytes, at + ROLE_AT),
+        }
     }
-}
 
-// Record i of a section of an accepted image.
-pub fn record_at(image: &[u8], section: Section, i: usize) -> Range
-    requires image_value { refusal_of image.now ≡ none }
-    requires i_bound { i < record_count image.now section }
-    ensures { result ≡ record_at image.now section i }
-{
-    match section {
-        Section::Ranges => crate::range_at(image, i),
-        Section::Entries => entry_at(image, i),
+    // Record i of a section.
+    pub fn record_at(&self, section: Section, i: usize) -> Range
+        requires { i < record_count self.now section }
+        ensures { result ≡ record_at self.now section i }
+    {
+        match section {
+            Section::Ranges => crate::range_at(self.bytes, i),
+            Section::Entries => self.entry_at(i),
+        }
     }
 }
 

@@ -5,12 +5,12 @@ use mathlib.Core.List.{List}
 use mathlib.Core.Option.{none}
 use mathlib.Core.Logic.{◌↔◌}
 use lib.ListN.{length}
+use Rattle.std.specs.Prelude.{Result, Ok, Err}
 use Rattle.lists.proofs.BoolLaws.{impossible}
 use Rattle.image.specs.Limits.{words_per_range}
 use Rattle.image.specs.Header.{range_count}
-use Rattle.image.specs.Check.{refusal_of, check_of, read_of}
-use Rattle.image.specs.declared.Answer.{Answer}
-use Rattle.image.specs.declared.Answer.TheVariants as answer
+use Rattle.image.specs.Check.{refusal_of, check_of, read_of, accepted_with}
+use Rattle.image.specs.declared.Summary.{Summary}
 use Rattle.image.specs.declared.Checked.{Checked}
 use Rattle.image.proofs.ImageLaws.{check_accepts}
 use Rattle.image.proofs.ReadLaws.{read_accepts}
@@ -19,12 +19,12 @@ use Rattle.reply.proofs.ReplyLaws.{apart}
 
 module _ {ps rs : List ℕ} {n : ℕ} {a new_ps new_rs : List ℕ} where
   -- the result is 0 exactly where the answer is no refusal
-  zero_iff : (k : Checked) → TellsChecked k ps rs n a new_ps new_rs → (n ≡ 0) ↔ ((v m : ℕ) × (k.answer ≡ answer.Accepted v m))
+  zero_iff : (k : Checked) → TellsChecked k ps rs n a new_ps new_rs → (n ≡ 0) ↔ ((v m : ℕ) × (k.answer ≡ accepted_with v m))
   zero_iff k t = go k.answer refl t.told.number
     where
-      go : (x : Answer) → k.answer ≡ x → n ≡ (checked_by x k.profile.used).number → (n ≡ 0) ↔ ((v m : ℕ) × (k.answer ≡ answer.Accepted v m))
-      go (answer.Refused r) f e = (λ z. absurd ((apart r).0 (sym e ∙ z)), λ (v, m, g). impossible (cc))
-      go (answer.Accepted v m) f e = (λ z. (v, m, f), λ g. e)
+      go : (x : Answer) → k.answer ≡ x → n ≡ (checked_by x k.profile.used).number → (n ≡ 0) ↔ ((v m : ℕ) × (k.answer ≡ accepted_with v m))
+      go (Err r) f e = (λ z. absurd ((apart r).0 (sym e ∙ z)), λ (v, m, g). impossible (cc))
+      go (accepted_with v m) f e = (λ z. (v, m, f), λ g. e)
 
   pub zero_checked : (s : List ℕ) → TellsChecked (check_of s) ps rs n a new_ps new_rs → (n ≡ 0) ↔ (refusal_of s ≡ none)
   zero_checked s t = (

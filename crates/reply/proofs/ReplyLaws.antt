@@ -3,6 +3,7 @@ use Prim.Native.Nat.{ℕ, ◌≤◌}
 use mathlib.Core.Path.{◌≡◌, subst, sym, ap}
 use mathlib.Core.List.{List}
 use native.Mathlib.Omega.{arith}
+use Rattle.std.specs.Prelude.{Result, Err}
 use Rattle.refusal.specs.Refusal.{number_of}
 use Rattle.refusal.specs.declared.Refusal.{Refusal}
 use Rattle.refusal.specs.declared.Refusal.TheVariants.{
@@ -21,8 +22,7 @@ use Rattle.refusal.specs.declared.Refusal.TheVariants.{
   Shape,
   Mark,
 }
-use Rattle.image.specs.declared.Answer.{Answer}
-use Rattle.image.specs.declared.Answer.TheVariants as answer
+use Rattle.image.specs.declared.Summary.{Summary}
 use Rattle.image.specs.declared.Checked.{Checked}
 use Rattle.reply.specs.Reply.{Reply, Tells, refuses}
 use Rattle.reply.specs.TokenReply.{done}
@@ -54,7 +54,7 @@ apart r = (λ e. omega (arith, known r), λ e. omega (arith, known r))
 
 -- a refused check or read, told: the arrays stay
 module _ (k : Checked) {ps rs a : List ℕ} where
-  pub told_refused : {r : Refusal} {n : ℕ} → k.answer ≡ answer.Refused r → Tells (refuses r) n a → TellsChecked k ps rs n a ps rs
+  pub told_refused : {r : Refusal} {n : ℕ} → k.answer ≡ Err r → Tells (refuses r) n a → TellsChecked k ps rs n a ps rs
   told_refused e h = record {
     told = told (λ (x : Answer). checked_by x k.profile.used) e h;
     points_kept = ap (λ (x : Answer). array_by x k.profile.points ps) (sym e);

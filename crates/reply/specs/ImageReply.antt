@@ -1,7 +1,6 @@
 -- The replies of the calls on images, and what the arrays lent for a profile then hold (docs/RULES.md, "The calls").
 use Rattle.std.specs.Prelude.{ℕ, ◌≡◌, List}
-use Rattle.image.specs.declared.Answer.{Answer}
-use Rattle.image.specs.declared.Answer.TheVariants as answer
+use Rattle.image.specs.declared.Summary.{Summary}
 use Rattle.image.specs.declared.Checked.{Checked}
 use Rattle.lookup.specs.declared.Found.{Found}
 use Rattle.lookup.specs.declared.Found.TheVariants as found
@@ -15,16 +14,16 @@ use Rattle.reply.specs.Reply.{Reply, Tells, gives, refuses_of, refuses}
 
 -- checking and reading an image: the version, and the numbers of ranges and of profile entries
 abbrev pub checked_by : Answer → ℕ → Reply
-checked_by (answer.Refused r) used = refuses r
-checked_by (answer.Accepted version n) used = gives version n used
+checked_by (Err r) used = refuses r
+checked_by (accepted_with version n) used = gives version n used
 
 abbrev pub check_reply : Checked → Reply
 check_reply k = checked_by k.answer k.profile.used
 
 -- an array lent for the profile: that of an accepted image; a refusal leaves it as it was
 abbrev pub array_by : Answer → List ℕ → List ℕ → List ℕ
-array_by (answer.Refused r) new old = old
-array_by (answer.Accepted version n) new old = new
+array_by (Err r) new old = old
+array_by (accepted_with version n) new old = new
 
 -- result, answer array, and the two arrays lent for the profile are those of what a check gave
 pub record TellsChecked (k : Checked) (points roles : List ℕ) (n : ℕ) (answer new_points new_roles : List ℕ) : Type 0 where

@@ -24,7 +24,6 @@ use Rattle.utf8.specs.Scalar.{is_scalar}
 use Rattle.utf8.specs.declared.Step.TheVariants as step
 use Rattle.utf8.specs.Head.{step_of}
 use Rattle.line.specs.Line.{one, is_line_end, line_of}
-use Rattle.image.specs.declared.Answer.TheVariants as answer
 use Rattle.image.specs.Word.{word_at, bytes_of}
 use Rattle.image.specs.Limits.{
   max_ranges,
@@ -379,8 +378,8 @@ reply_row r = r.number ∷ r.values
 
 abbrev pub ImageReplies : ℕ → ℕ → ℕ → Type 0
 ImageReplies a b c =
-    (reply_row (checked_by (answer.Accepted a b) c) ≡ 0 ∷ a ∷ b ∷ c ∷ 0 ∷ [])
-    × (reply_row (checked_by (answer.Refused (refusal.Range a)) c) ≡ 3 ∷ a ∷ 0 ∷ 0 ∷ 0 ∷ [])
+    (reply_row (checked_by (accepted_with a b) c) ≡ 0 ∷ a ∷ b ∷ c ∷ 0 ∷ [])
+    × (reply_row (checked_by (Err (refusal.Range a)) c) ≡ 3 ∷ a ∷ 0 ∷ 0 ∷ 0 ∷ [])
     × (reply_row (check_reply (check_of M)) ≡ 0 ∷ 1048576 ∷ 5 ∷ 1 ∷ 0 ∷ [])
     × (reply_row (found_reply (found.Class a b)) ≡ 0 ∷ a ∷ b ∷ 0 ∷ 0 ∷ [])
     × (reply_row (found_reply (found.Refused (refusal.NotScalar a))) ≡ 9 ∷ a ∷ 0 ∷ 0 ∷ 0 ∷ [])

@@ -17,7 +17,6 @@ use Rattle.refusal.specs.declared.Refusal.{Refusal}
 use Rattle.image.specs.declared.Range.{Range}
 use Rattle.image.specs.declared.Profile.{Profile}
 use Rattle.image.specs.declared.Checked.{Checked}
-use Rattle.image.specs.declared.Answer.TheVariants as answer
 use Rattle.image.specs.Limits.{max_ranges, max_entries, word_bytes, header_bytes, range_bytes, entry_bytes, words_per_range}
 use Rattle.image.specs.Word.{AllBytes, AllWords, IsWord, word_at}
 use Rattle.image.specs.Header.{version_of, range_count, entry_count, format, entries_at, image_end}
@@ -25,7 +24,7 @@ use Rattle.image.specs.Ranges.{range_at, range_in, range_words}
 use Rattle.image.specs.Profile.{point_at, role_at, point_in, role_in, good_entry, first_bad_entry, profile_within, profile_of}
 use Rattle.image.specs.Good.{GoodRange, GoodEntry}
 use Rattle.image.specs.Image.{header_words, entry_words, image_words, bytes_of_all, image_of}
-use Rattle.image.specs.Check.{records_refusal, refusal_of, read_of, ranges_of, words_after}
+use Rattle.image.specs.Check.{records_refusal, refusal_of, read_of, ranges_of, words_after, accepted_with}
 use Rattle.image.specs.Accepted.{Headed}
 use Rattle.image.specs.Means.{is_read}
 use Rattle.image.proofs.GoodLaws.{good_entry_same, range_same, entry_same}
@@ -386,13 +385,13 @@ written_back version words p out len hv hw hp hr e =
 -- reading such an image into a buffer with room for the words gives the version, the number of ranges, the profile and the words
 pub read_gives :
     (version : ℕ) (words : List ℕ) (p : Profile) (s buffer : List ℕ) → ReadBack version words p s → length words ≤ length buffer
-    → ((read_of s (length buffer)).answer ≡ answer.Accepted version (ranges_in words))
+    → ((read_of s (length buffer)).answer ≡ accepted_with version (ranges_in words))
     × SameEntries p (read_of s (length buffer)).profile
     × (words_after s buffer ≡ laid buffer 0 words)
 read_gives version words p s buffer k l =
     let c = k.same_count in
     let (e, f) = means_read s buffer _ _ (is_read (accepted s k.is_accepted) (omega arith)) in (
-      ap (λ (x : Checked). x.answer) e ∙ (λ d. answer.Accepted (k.same_version d) (c d)),
+      ap (λ (x : Checked). x.answer) e ∙ (λ d. accepted_with (k.same_version d) (c d)),
       subst (λ (x : Checked). SameEntries p x.profile) (sym e) k.same_entries,
       f ∙ ap (laid buffer 0) k.same_words,
     )

@@ -1,18 +1,11 @@
 -- `image::check` meets its contract. Assumes nothing.
-use mathlib.Core.Path.{sym, ◌∙◌}
-use Rattle.image.proofs.ImageLaws.{refused_by, accepted_by}
-use Rattle.image.proofs.AnswerLaws.{record_accepted, record_refused}
+use mathlib.Core.Path.{sym, ap, ◌∙◌}
+use Rattle.image.specs.Check.{accepted_of}
+use Rattle.image.proofs.AnswerLaws.{record_opened, record_not_opened}
 use Rattle.image.proofs.check.Goals as goal
 
-pub accept-requires : goal.accept-requires
-accept-requires c = accepted_by _ _ c.judge-a.ensures _ _ c.in-Accepted.is
+pub returns-in-Err : goal.returns-in-Err
+returns-in-Err c = c.refuse.ensures ∙ sym (record_not_opened _ _ (sym c.in-Err.ensures))
 
-pub returns-in-Refused : goal.returns-in-Refused
-returns-in-Refused c =
-    let e = refused_by c.args.image.now _ c.judge-a.ensures _ c.in-Refused.is in
-    c.refuse.ensures ∙ sym (record_refused c.args.image.now _ e)
-
-pub returns-in-Accepted : goal.returns-in-Accepted
-returns-in-Accepted c =
-    let k = accepted_by c.args.image.now _ c.judge-a.ensures _ _ c.in-Accepted.is in
-    c.accept.ensures ∙ sym (record_accepted c.args.image.now k.0)
+pub returns-in-Ok : goal.returns-in-Ok
+returns-in-Ok c = let k = record_opened _ _ (sym c.in-Ok.ensures) in c.accept.ensures ∙ ap accepted_of k.0 ∙ sym k.1
