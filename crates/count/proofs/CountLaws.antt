@@ -10,6 +10,7 @@ use native.Mathlib.Decide.{dec_lt, ℕ_discrete}
 use lib.ListN.{length, drop, length-append}
 use lib.Dec.{leb, ltb, eqb}
 use borrow.Author.Tests.{eq-eqb, ne_eqb, lt-ltb, le-ltb}
+use Rattle.std.specs.Prelude.{Ok, Err}
 use Rattle.lists.proofs.BoolLaws.{impossible}
 use Rattle.refusal.specs.declared.Refusal.{Refusal}
 use Rattle.refusal.specs.declared.Refusal.TheVariants as refusal
@@ -35,7 +36,6 @@ use Rattle.grammar.proofs.GrammarLaws.{tokens_divide}
 use Rattle.grammar.proofs.RecordLaws.{tokens_append}
 use Rattle.grammar.proofs.StepLaws.{Settles}
 use Rattle.grammar.proofs.BesideLaws.{place_of, view_of, view_snoc, refused_append, beside_second}
-use Rattle.grammar.specs.declared.Counted.TheVariants.{Refused, Records as Counted}
 use Rattle.turns.specs.Turns.{number_by, waiting, trait_meaning, turn_of, after_of, waiting_of, start_by}
 use Rattle.grammar.specs.Reading.{read_through}
 use Rattle.grammar.specs.Counted.{counted_by, count_through, stop_refusal}
@@ -215,7 +215,7 @@ stop_by s p form.WellFormed ts c l w = rw w
 stop_by s p (form.IllFormed q n) ts c l w = refl
 
 stops_at : (s text : List ℕ) (p : ℕ) (ts us : Tokens) (c : Character) (l : List Character) → Place text p → p ≡ tokens_width ts + tokens_width us →
-    preceded ts (tokens_left us (c ∷ l)) ≡ reading_of s text → Refused (stop_refusal p (text_of (drop p text))) ≡ count_through s text
+    preceded ts (tokens_left us (c ∷ l)) ≡ reading_of s text → Err (stop_refusal p (text_of (drop p text))) ≡ count_through s text
 unfolding count_through read_through
 stops_at s text p ts us c l m w e =
     rw (← m.form, ← e)
@@ -293,7 +293,7 @@ module _ {s text : List ℕ} {state count start mid q refused at : ℕ} (i : Cou
         (ap (λ (n : ℕ). view_by n mid) m ∙ settled_view j mid ∙ (λ l. next_view (sym v l) (a.began l) j true)))
 
     -- or it begins no token
-    pub counts_left : state ≡ count_waiting → Refused (stop_refusal mid (text_of (drop mid text))) ≡ count_through s text
+    pub counts_left : state ≡ count_waiting → Err (stop_refusal mid (text_of (drop mid text))) ≡ count_through s text
     counts_left n =
         let p = ((stated state).waits w).0 in
         let x = left s (plain_of state) (tokens_width i.tokens) mid at i.under_way i.reached.stands (omega arith) (omega arith) in
@@ -440,12 +440,12 @@ module _ {s text : List ℕ} {state count start mid q refused at : ℕ} (i : Cou
     go_stops e f waits h = absurd (omega arith)
     go_stops e f settles h = absurd (omega arith)
 
-    pub counts_stop : 8 ≤ turn → Refused (stop_refusal at (text_of (drop at text))) ≡ count_through s text
+    pub counts_stop : 8 ≤ turn → Err (stop_refusal at (text_of (drop at text))) ≡ count_through s text
     counts_stop h =
         let x = left_here i.reached look (go_stops refl refl tells h) in
         stops_at s text at i.tokens (under_way_of i.under_way) _ _ i.reached.place x.0 x.1
 
-  pub counts_ill : IllHead (drop at text) → Refused (stop_refusal at (text_of (drop at text))) ≡ count_through s text
+  pub counts_ill : IllHead (drop at text) → Err (stop_refusal at (text_of (drop at text))) ≡ count_through s text
   unfolding count_through read_through
   counts_ill e = rw (← i.reached.place.form, text_ill (drop at text) e)
 
@@ -513,20 +513,20 @@ module _ {s text : List ℕ} {state count start mid q refused at : ℕ} (i : Cou
       unfolding count_through read_through
       judged_end o e = rw (← i.reached.place.form, end_here text at h, nothing_left, e)
 
-      pub counts_marked : refused < length text → Refused (refusal.Mark refused) ≡ count_through s text
+      pub counts_marked : refused < length text → Err (refusal.Mark refused) ≡ count_through s text
       unfolding mark_refusal
       counts_marked l = go (first_refused (M s) [] (tokens_of s text)) refl refused_second
         where
-          go : (o : Option Tokens) → first_refused (M s) [] (tokens_of s text) ≡ o → RefusedAt (length text) (place_of o) refused → Refused (refusal.Mark refused) ≡ count_through s text
+          go : (o : Option Tokens) → first_refused (M s) [] (tokens_of s text) ≡ o → RefusedAt (length text) (place_of o) refused → Err (refusal.Mark refused) ≡ count_through s text
           go none e f = absurd (omega (arith, f))
-          go (some ts) e f = sym (judged_end (some (refusal.Mark (tokens_width ts))) (ap mark_refusal_by e) ∙ ap (λ (p : ℕ). Refused (refusal.Mark p)) (sym f.0))
+          go (some ts) e f = sym (judged_end (some (refusal.Mark (tokens_width ts))) (ap mark_refusal_by e) ∙ ap (λ (p : ℕ). Err (refusal.Mark p)) (sym f.0))
 
-      pub counts_end : length text ≤ refused → Counted (count + count_pending_of state) ≡ count_through s text
+      pub counts_end : length text ≤ refused → Ok (count + count_pending_of state) ≡ count_through s text
       unfolding mark_refusal
       counts_end l = go (first_refused (M s) [] (tokens_of s text)) refl refused_second
         where
-          go : (o : Option Tokens) → first_refused (M s) [] (tokens_of s text) ≡ o → RefusedAt (length text) (place_of o) refused → Counted (count + count_pending_of state) ≡ count_through s text
-          go none e f = ap Counted all_count ∙ sym (judged_end none (ap mark_refusal_by e))
+          go : (o : Option Tokens) → first_refused (M s) [] (tokens_of s text) ≡ o → RefusedAt (length text) (place_of o) refused → Ok (count + count_pending_of state) ≡ count_through s text
+          go none e f = ap Ok all_count ∙ sym (judged_end none (ap mark_refusal_by e))
           go (some ts) e f = absurd (omega (arith, f.0, f.1))
 
 -- no more than two tokens are pending

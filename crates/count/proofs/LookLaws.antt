@@ -8,11 +8,11 @@ use native.Mathlib.Decide.{dec_lt}
 use lib.ListN.{length}
 use lib.Dec.{leb, eqb}
 use borrow.Author.Tests.{eqb-true, eq-eqb, ne_eqb, le-leb, lt-leb}
+use Rattle.std.specs.Prelude.{Err}
 use Rattle.refusal.specs.declared.Refusal.{Refusal}
 use Rattle.character.specs.Read.{MemoOf}
 use Rattle.character.specs.declared.Memo.{Memo}
 use Rattle.grammar.specs.Counted.{count_through}
-use Rattle.grammar.specs.declared.Counted.TheVariants.{Refused}
 use Rattle.turns.specs.Turns.{start_by}
 use Rattle.turns.proofs.ReachLaws.{here_small}
 use Rattle.count.specs.Turns.{count_waiting, count_states, count_after_of, count_waiting_of, count_beside, state_beside, mark_beside, refused_beside}
@@ -167,7 +167,7 @@ looked_settled s text run (going.On r) w f x =
     }
 
 -- what reading a character gave, by the enum's case
-pub looked_refused : (s text : List ℕ) (run : Run) (g : Going) (r : Refusal) → g ≡ going.Refused r → Looked s text run g → Refused r ≡ count_through s text
+pub looked_refused : (s text : List ℕ) (run : Run) (g : Going) (r : Refusal) → g ≡ going.Refused r → Looked s text run g → Err r ≡ count_through s text
 looked_refused s text run g r e h = subst (Looked s text run) e h
 
 pub looked_on : (s text : List ℕ) (run : Run) (g : Going) (r next : Run) (rows : ℕ) → g ≡ going.On r → next ≡ run_with r rows → Looked s text run g → CountingAs s text run →

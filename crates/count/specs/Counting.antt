@@ -1,7 +1,8 @@
 -- Inner: no public statement cites this file.
 -- How far a count has come, and what its parts give. No public contract of a call cites these definitions: those of the readers of
 -- texts do.
-use Rattle.std.specs.Prelude.{ℕ, ◌+◌, ◌-◌, ◌≤◌, ◌<◌, ◌≡◌, cond, ◌&&◌, List, ◌++◌, length, drop, leb, ltb, eqb}
+use Rattle.refusal.specs.declared.Refusal.{Refusal}
+use Rattle.std.specs.Prelude.{ℕ, ◌+◌, ◌-◌, ◌≤◌, ◌<◌, ◌≡◌, cond, ◌&&◌, List, ◌++◌, length, drop, leb, ltb, eqb, Result, Ok, Err}
 use Rattle.std.proofs.Math.Option.{Option, none, some}
 use Rattle.refusal.specs.declared.Refusal.TheVariants.{Mark}
 use Rattle.utf8.specs.Text.{text_of}
@@ -12,8 +13,6 @@ use Rattle.grammar.specs.Record.{tokens_width}
 use Rattle.grammar.specs.Reading.{meaning_of}
 use Rattle.grammar.proofs.BesideLaws.{view_of}
 use Rattle.character.specs.Read.{MemoOf}
-use Rattle.grammar.specs.declared.Counted.{Counted}
-use Rattle.grammar.specs.declared.Counted.TheVariants.{Refused, Records as Complete}
 use Rattle.grammar.specs.Counted.{count_through, stop_refusal}
 use Rattle.turns.specs.Turns.{start_by}
 use Rattle.turns.proofs.TurnLaws.{Tokens, Under}
@@ -73,7 +72,7 @@ pub record AdvancedOn (s text : List ℕ) (run r : Run) : Type 0 where
 
 -- .. or the text is refused
 abbrev pub Advanced : List ℕ → List ℕ → Run → Going → Type 0
-Advanced s text run (going.Refused x) = Refused x ≡ count_through s text
+Advanced s text run (going.Refused x) = Err x ≡ count_through s text
 Advanced s text run (going.On r) = AdvancedOn s text run r
 
 -- the run after the medial that waits was settled
@@ -110,7 +109,7 @@ pub record LookedOn (s text : List ℕ) (run r : Run) : Type 0 where
 
 -- .. or the text is refused
 abbrev pub Looked : List ℕ → List ℕ → Run → Going → Type 0
-Looked s text run (going.Refused x) = Refused x ≡ count_through s text
+Looked s text run (going.Refused x) = Err x ≡ count_through s text
 Looked s text run (going.On r) = LookedOn s text run r
 
 abbrev pub run_with : Run → ℕ → Run
@@ -127,7 +126,7 @@ run_with run n =
     }
 
 -- the answer of a count that has come to the text's end
-abbrev pub finished_by : List ℕ → Run → Counted
+abbrev pub finished_by : List ℕ → Run → Result ℕ Refusal
 finished_by text run =
-    cond (eqb run.state count_waiting) (Refused (stop_refusal run.mid (text_of (drop run.mid text))))
-    (cond (ltb run.refused (length text)) (Refused (Mark run.refused)) (Complete (run.count + count_pending_of run.state)))
+    cond (eqb run.state count_waiting) (Err (stop_refusal run.mid (text_of (drop run.mid text))))
+    (cond (ltb run.refused (length text)) (Err (Mark run.refused)) (Ok (run.count + count_pending_of run.state)))

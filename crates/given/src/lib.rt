@@ -3,25 +3,15 @@
 #![tactic(auto)]
 
 ghost use Rattle.std.specs.Prelude.{◌≡◌};
-ghost use Rattle.given.specs.Given.{judgement_of, given_refusal};
+ghost use Rattle.image.specs.Opened.{opened_by};
+ghost use Rattle.given.specs.Given.{given_refusal};
 
-use image::Answer;
+use image::ClassImage;
 use refusal::Refusal;
 
-// What judging gives: a refusal, or none.
-#[derive(Drop)]
-pub enum Judgement {
-    Refused(Refusal),
-    Accepted,
-}
-
-// Judges what a call is given.
-pub fn judge_given(image: &[u8]) -> Judgement
-    ensures { result ≡ judgement_of (given_refusal image.now) }
+// Judges what a call is given: the image, or the refusal.
+pub fn judge_given(image: &[u8]) -> Result<ClassImage<'_>, Refusal>
+    ensures { result ≡ opened_by image.now (given_refusal image.now) }
 {
-    let answer = image::judge(image);
-    match answer {
-        Answer::Refused(r) => Judgement::Refused(r),
-        Answer::Accepted { .. } => Judgement::Accepted,
-    }
+    ClassImage::open(image)
 }

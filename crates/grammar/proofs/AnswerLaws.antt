@@ -5,6 +5,7 @@ use mathlib.Core.Bool.{Bool, true, false}
 use mathlib.Core.List.{List}
 use mathlib.Core.Logic.{◌⊎◌, inl, inr}
 use lib.ListN.{length}
+use Rattle.std.specs.Prelude.{Result, Ok, Err}
 use Rattle.lists.specs.Laid.{laid}
 use lib.Dec.{ltb}
 use borrow.Author.Tests.{ltb-true, ltb-false, lt-ltb, le-ltb}
@@ -15,8 +16,6 @@ use Rattle.refusal.specs.Outcome.{Outcome, given, refused, unless, refused_if, o
 use Rattle.grammar.specs.Record.{room_of}
 use Rattle.grammar.specs.Reading.{roomed, laid_by}
 use Rattle.grammar.specs.Counted.{counted_by}
-use Rattle.grammar.specs.declared.Counted.{Counted}
-use Rattle.grammar.specs.declared.Counted.TheVariants.{Refused, Records}
 
 -- of tokens, or of anything that has a record each
 module _ {T : Type 0} where
@@ -52,26 +51,26 @@ module _ {T : Type 0} where
   roomed_given words o ts e = rw e at (roomed_cases words o)
 
   -- counting, by its enum
-  pub by_refused : (o : Outcome (List T)) {r : Refusal} → Refused r ≡ counted_by (outcome_map length o) → o ≡ refused r
+  pub by_refused : (o : Outcome (List T)) {r : Refusal} → Err r ≡ counted_by (outcome_map length o) → o ≡ refused r
   by_refused (given ts) e = impossible (cc)
   by_refused (refused q) {r} e = let f : q ≡ r = cc in ap refused f
 
-  pub by_count : (o : Outcome (List T)) {n : ℕ} → Records n ≡ counted_by (outcome_map length o) → (ts : List T) × (o ≡ given ts) × (n ≡ length ts)
+  pub by_count : (o : Outcome (List T)) {n : ℕ} → Ok n ≡ counted_by (outcome_map length o) → (ts : List T) × (o ≡ given ts) × (n ≡ length ts)
   by_count (given ts) e = (ts, refl, cc)
   by_count (refused r) e = impossible (cc)
 
   -- writing the words of what is given into a buffer: the answer, and what the buffer then holds
   module _ (words : List T → List ℕ) (out : List ℕ) where
-    abbrev pub Writes : Outcome (List T) → Counted → List ℕ → Type 0
+    abbrev pub Writes : Outcome (List T) → Result ℕ Refusal → List ℕ → Type 0
     Writes o c out' = (c ≡ counted_by (outcome_map length (roomed (length out) o))) × (out' ≡ laid_by words out (roomed (length out) o))
 
-    pub writes_refused : {o : Outcome (List T)} {r : Refusal} → o ≡ refused r → Writes o (Refused r) out
+    pub writes_refused : {o : Outcome (List T)} {r : Refusal} → o ≡ refused r → Writes o (Err r) out
     writes_refused e = rw e (refl, refl)
 
     module _ {o : Outcome (List T)} {ts : List T} {n : ℕ} (e : o ≡ given ts) (l : n ≡ length ts) where
       -- 8: nothing is written
-      pub writes_no_room : room_of (length out) < n → Writes o (Refused (refusal.Room n)) out
+      pub writes_no_room : room_of (length out) < n → Writes o (Err (refusal.Room n)) out
       writes_no_room h = rw (e, l, roomed_out (length out) ts (rw l at h)) (refl, refl)
 
-      pub writes_given : n ≤ room_of (length out) → Writes o (Records n) (laid out 0 (words ts))
+      pub writes_given : n ≤ room_of (length out) → Writes o (Ok n) (laid out 0 (words ts))
       writes_given h = rw (e, l, roomed_in (length out) ts (rw l at h)) (refl, refl)

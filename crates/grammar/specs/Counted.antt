@@ -1,21 +1,19 @@
 -- What counting answers (docs/RULES.md, "Tokens" and "Named refusals").
-use Rattle.std.specs.Prelude.{ℕ, ◌+◌, List, length}
+use Rattle.std.specs.Prelude.{ℕ, ◌+◌, List, length, Result, Ok, Err}
 use Rattle.refusal.specs.declared.Refusal.{Refusal}
 use Rattle.refusal.specs.declared.Refusal.TheVariants as refusal
 use Rattle.utf8.specs.declared.Text.{Text}
 use Rattle.utf8.specs.declared.Text.TheVariants.{WellFormed, IllFormed}
 use Rattle.refusal.specs.Outcome.{Outcome, given, refused, outcome_map}
 use Rattle.grammar.specs.Reading.{read_through}
-use Rattle.grammar.specs.declared.Counted.{Counted}
-use Rattle.grammar.specs.declared.Counted.TheVariants.{Refused, Records}
 
 -- the enum's case for each outcome
-abbrev pub counted_by : Outcome ℕ → Counted
-counted_by (given n) = Records n
-counted_by (refused r) = Refused r
+abbrev pub counted_by : Outcome ℕ → Result ℕ Refusal
+counted_by (given n) = Ok n
+counted_by (refused r) = Err r
 
 -- the answer of counting a text within the length limit under an accepted image
-unfoldable pub count_through : List ℕ → List ℕ → Counted
+unfoldable pub count_through : List ℕ → List ℕ → Result ℕ Refusal
 count_through s text = counted_by (outcome_map length (read_through s text))
 
 -- the refusal where no sequence or no token begins at a place: 6 comes first, if the text from there on has an ill-formed place

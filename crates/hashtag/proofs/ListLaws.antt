@@ -6,6 +6,7 @@ use mathlib.Core.List.{List, [], ◌∷◌, ◌++◌, append_assoc, append-nil}
 use native.Mathlib.Omega.{arith}
 use lib.ListN.{length, take, drop, length-append, length-take, length-drop}
 use borrow.Rule.Slice.PartMut.{put_mid}
+use Rattle.std.specs.Prelude.{Ok}
 use Rattle.lists.specs.Laid.{laid}
 use Rattle.lists.proofs.LaidLaws.{laid_none, laid_step, length-laid, lent}
 use Rattle.utf8.specs.declared.Text.{Text}
@@ -18,7 +19,6 @@ use Rattle.grammar.specs.Record.{record_size, token_words}
 use Rattle.hashtag.specs.Find.{Span, run_of, hashtags_from, hashtags_of}
 use Rattle.hashtag.specs.Listed.{hashtag_kind, span_words, spans_words, hashtags_through, counted_through, closed_by}
 use Rattle.hashtag.specs.Seek.{hashtags_at, Sought}
-use Rattle.grammar.specs.declared.Counted.TheVariants.{Records}
 use Rattle.hashtag.specs.declared.Sign.{Sign}
 use Rattle.hashtag.proofs.FindLaws.{found_none}
 use Rattle.hashtag.proofs.SeekLaws.{unshifted}
@@ -65,7 +65,7 @@ module _ (s text : List ℕ) where
   -- the answer, by what is said of the text from a place on
   closes : (at count : ℕ) (t : Text) → shift at t ≡ text_of text → length (hashtags_of s text) ≡ count → closed_by at count t ≡ counted_through s text
   unfolding counted_through hashtags_through
-  closes at count WellFormed e n = rw (sym e) (ap Records (sym n))
+  closes at count WellFormed e n = rw (sym e) (ap Ok (sym n))
   closes at count (IllFormed p k) e n = rw (sym e)
 
   pub counting_closes : {count at : ℕ} {r : Sign} → Counting count at → Sought s text at r → r.next ≤ r.at → closed_by r.at count (text_of (drop r.at text)) ≡ counted_through s text
@@ -74,7 +74,7 @@ module _ (s text : List ℕ) where
       let f : shift r.at (text_of (drop r.at text)) ≡ text_of text = ap (λ (k : ℕ). shift k (text_of (drop k text))) (sym e) ∙ h.form ∙ i.reached.form in
       closes r.at count (text_of (drop r.at text)) f (omega (arith, i.sum, ap length (h.none l).0))
 
-  pub counting_ends : {count at : ℕ} → Counting count at → length text ≤ at → Records count ≡ counted_through s text
+  pub counting_ends : {count at : ℕ} → Counting count at → length text ≤ at → Ok count ≡ counted_through s text
   counting_ends {count} {at} i h =
       closes at count WellFormed (sym (end_here text at h) ∙ i.reached.form) (omega (arith, i.sum, ap length (none_left h)))
 

@@ -11,7 +11,8 @@
 --   hashtags_written_within, hashtags_written   those written into a buffer of so many words; 8 where they need more room
 --   hashtag_list_within, hashtag_list_of         the answer of writing the list
 --   hashtag_words_within, hashtag_list_words     what the buffer then holds
-use Rattle.std.specs.Prelude.{ℕ, ◌+◌, List, [], ◌∷◌, ◌++◌, length}
+use Rattle.refusal.specs.declared.Refusal.{Refusal}
+use Rattle.std.specs.Prelude.{ℕ, ◌+◌, List, [], ◌∷◌, ◌++◌, length, Result, Ok, Err}
 use Rattle.refusal.specs.Outcome.{Outcome, given, unless, outcome_map}
 use Rattle.refusal.specs.declared.Refusal.TheVariants as refusal
 use Rattle.utf8.specs.declared.Text.{Text}
@@ -21,8 +22,6 @@ use Rattle.image.specs.Limits.{max_entries}
 use Rattle.grammar.specs.Record.{token_words}
 use Rattle.grammar.specs.Before.{max_text, before_within}
 use Rattle.grammar.specs.Counted.{counted_by}
-use Rattle.grammar.specs.declared.Counted.{Counted}
-use Rattle.grammar.specs.declared.Counted.TheVariants.{Refused, Records}
 use Rattle.grammar.specs.Reading.{form_refusal, roomed, laid_by}
 use Rattle.hashtag.specs.Find.{Span, hashtags_of}
 
@@ -41,13 +40,13 @@ spans_words text (t ∷ ts) = span_words text t ++ spans_words text ts
 unfoldable pub hashtags_through : List ℕ → List ℕ → Outcome (List Span)
 hashtags_through s text = unless (form_refusal text) (given (hashtags_of s text))
 
-unfoldable pub counted_through : List ℕ → List ℕ → Counted
+unfoldable pub counted_through : List ℕ → List ℕ → Result ℕ Refusal
 counted_through s text = counted_by (outcome_map length (hashtags_through s text))
 
 -- n hashtags were found, and the characters end at the place `at`
-abbrev pub closed_by : ℕ → ℕ → Text → Counted
-closed_by at n WellFormed = Records n
-closed_by at n (IllFormed p k) = Refused (refusal.IllFormed (at + p) k)
+abbrev pub closed_by : ℕ → ℕ → Text → Result ℕ Refusal
+closed_by at n WellFormed = Ok n
+closed_by at n (IllFormed p k) = Err (refusal.IllFormed (at + p) k)
 
 unfoldable pub found_within : ℕ → List ℕ → List ℕ → Outcome (List Span)
 found_within limit s text = unless (before_within limit max_text s text) (hashtags_through s text)

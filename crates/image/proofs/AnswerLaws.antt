@@ -1,8 +1,8 @@
 -- The whole record of a check or a read, from its answer alone; and the arrays of a profile record. Assumes nothing.
 use Prim.Native.Nat.{ℕ}
-use mathlib.Core.Path.{◌≡◌, refl, sym, ap, ◌∙◌}
+use mathlib.Core.Path.{◌≡◌, refl, ap}
 use mathlib.Core.List.{List}
-use mathlib.Core.Option.{Option, none, some}
+use mathlib.Core.Option.{none, some}
 use lib.ListN.{length}
 use Rattle.std.specs.Prelude.{Ok, Err}
 use Rattle.lists.proofs.BoolLaws.{impossible}
@@ -18,6 +18,7 @@ use Rattle.image.specs.Opened.{opened_by}
 use Rattle.image.specs.declared.Checked.{Checked}
 use Rattle.image.proofs.ImageLaws.{accepted, refusal_means, means_check}
 use Rattle.image.proofs.ReadLaws.{read_means}
+use Rattle.image.proofs.OpenedLaws.{opened, not_opened}
 
 module _ (s : List ℕ) where
   -- the arrays and the used length of an image's profile
@@ -34,18 +35,10 @@ module _ (s : List ℕ) where
 
   -- the same from an opened image, and from one that isn't
   pub record_opened : (t : List ℕ) → opened_by s (refusal_of s) ≡ Ok t → (t ≡ s) × (check_of s ≡ accepted_of s)
-  record_opened t e = go (refusal_of s) refl e
-    where
-      go : (o : Option Refusal) → refusal_of s ≡ o → opened_by s o ≡ Ok t → (t ≡ s) × (check_of s ≡ accepted_of s)
-      go none f g = (let z : s ≡ t = cc in sym z, record_accepted f)
-      go (some r) f g = impossible (cc)
+  record_opened t e = let k = opened s (refusal_of s) refl e in (k.0, record_accepted k.1)
 
   pub record_not_opened : (r : Refusal) → opened_by s (refusal_of s) ≡ Err r → check_of s ≡ refused_by r
-  record_not_opened r e = go (refusal_of s) refl e
-    where
-      go : (o : Option Refusal) → refusal_of s ≡ o → opened_by s o ≡ Err r → check_of s ≡ refused_by r
-      go none f g = impossible (cc)
-      go (some q) f g = let z : q ≡ r = cc in record_refused r (f ∙ ap some z)
+  record_not_opened r e = record_refused r (not_opened s (refusal_of s) refl e)
 
 module _ (s out : List ℕ) where
   -- the record of the read

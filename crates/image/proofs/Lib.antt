@@ -1,6 +1,7 @@
 pub mod GoodLaws
 pub mod RecordsLaws
 pub mod ImageLaws
+pub mod OpenedLaws
 pub mod LimitLaws
 pub mod RoleLaws
 pub mod ReadLaws

@@ -5,6 +5,7 @@ use mathlib.Core.List.{List}
 use mathlib.Core.Option.{Option, none, some}
 use native.Mathlib.Omega.{arith}
 use lib.ListN.{length, take}
+use Rattle.std.specs.Prelude.{Result, Ok, Err}
 use Rattle.lists.proofs.BoolLaws.{impossible}
 use Rattle.refusal.specs.declared.Refusal.{Refusal}
 use Rattle.refusal.specs.declared.Refusal.TheVariants as refusal
@@ -21,8 +22,6 @@ use Rattle.grammar.specs.Reading.{outcome_of, written_within, written_of, laid_b
 use Rattle.grammar.proofs.BeforeLaws.{before_means, means_before}
 use Rattle.grammar.proofs.AnswerLaws.{roomed_given}
 use Rattle.grammar.proofs.FewLaws.{outcome_no_room, written_all}
-use Rattle.grammar.specs.declared.Counted.{Counted}
-use Rattle.grammar.specs.declared.Counted.TheVariants as counted
 use Rattle.grammar.specs.Counted.{counted_by}
 use Rattle.input.specs.Front.{image_in, rest_in as text_in, front_in, after_in, ComesWhole}
 use Rattle.input.proofs.FrontLaws.{dec_whole, end_whole, cut_refused, looks_no_further}
@@ -42,15 +41,15 @@ module _ (image text : List ℕ) (words : ℕ) where
   script_listed e = rw e
 
 -- an answer and a buffer that an outcome gives for a text
-abbrev pub Gives : List ℕ → Outcome TokenList → Counted → List ℕ → List ℕ → Type 0
+abbrev pub Gives : List ℕ → Outcome TokenList → Result ℕ Refusal → List ℕ → List ℕ → Type 0
 Gives text o r out out' = (r ≡ counted_by (outcome_map length o)) × (out' ≡ laid_by (listed_words text) out o)
 
 pub gives_refused :
-    {o : Outcome TokenList} {r : Refusal} (text out : List ℕ) → o ≡ refused r → Gives text o (counted.Refused r) out out
+    {o : Outcome TokenList} {r : Refusal} (text out : List ℕ) → o ≡ refused r → Gives text o (Err r) out out
 gives_refused text out e = rw e (refl, refl)
 
 pub gives_listed :
-    (image text out : List ℕ) {o : Outcome TokenList} {r : Counted} {out' : List ℕ} → o ≡ written_of image text (length out)
+    (image text out : List ℕ) {o : Outcome TokenList} {r : Result ℕ Refusal} {out' : List ℕ} → o ≡ written_of image text (length out)
     → (r ≡ counted_by (list_of image text (length out))) × (out' ≡ list_words image text out) → Gives text o r out out'
 unfolding list_within list_words_within
 gives_listed image text out e p = rw e p
@@ -109,11 +108,11 @@ module _ (input out : List ℕ) where
       go (no f) = rw (script_refused_lem _ _ _ (cut_before f)) (cut_off f)
 
 -- tokens that were listed have room
-pub listing_fits : (input : List ℕ) (words n : ℕ) → counted.Records n ≡ counted_by (listed_from input words) → n ≤ room_of words
+pub listing_fits : (input : List ℕ) (words n : ℕ) → Ok n ≡ counted_by (listed_from input words) → n ≤ room_of words
 unfolding listed_within
 listing_fits input words n e = go (written_from input words) refl e
   where
-    go : (o : Outcome TokenList) → written_from input words ≡ o → counted.Records n ≡ counted_by (outcome_map length o) → n ≤ room_of words
+    go : (o : Outcome TokenList) → written_from input words ≡ o → Ok n ≡ counted_by (outcome_map length o) → n ≤ room_of words
     go (refused r) f t = impossible (cc)
     go (given ts) f t = let l : n ≡ length ts = cc in omega (arith, script_fits _ _ words (script_means _ _ words f))
 
@@ -121,11 +120,11 @@ listing_fits input words n e = go (written_from input words) refl e
 abbrev room : ℕ
 room = record_size * max_script
 
-pub never_room : (input : List ℕ) (n : ℕ) → whole_answer input ≡ counted.Refused (refusal.Room n) → ⊥
+pub never_room : (input : List ℕ) (n : ℕ) → whole_answer input ≡ Err (refusal.Room n) → ⊥
 unfolding whole_answer_within listed_within
 never_room input n e = go (written_from input room) refl e
   where
-    go : (o : Outcome TokenList) → written_from input room ≡ o → counted_by (outcome_map length o) ≡ counted.Refused (refusal.Room n) → ⊥
+    go : (o : Outcome TokenList) → written_from input room ≡ o → counted_by (outcome_map length o) ≡ Err (refusal.Room n) → ⊥
     go (given ts) f t = impossible (cc)
     go (refused r) f t =
         let e : r ≡ refusal.Room n = cc in

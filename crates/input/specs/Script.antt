@@ -9,7 +9,7 @@
 --   whole_answer_within, whole_answer   the program's answer
 --   ScriptMeans                      what each outcome of an image and a text means
 --   ListingMeans                     what each answer of the call means, and what the lent words then hold
-use Rattle.std.specs.Prelude.{ℕ, ◌*◌, ◌≡◌, List, length}
+use Rattle.std.specs.Prelude.{ℕ, ◌*◌, ◌≡◌, List, length, Result}
 use Rattle.std.proofs.Math.Option.{none, some}
 use Rattle.lists.specs.Laid.{laid}
 use Rattle.refusal.specs.declared.Refusal.{Refusal}
@@ -22,7 +22,6 @@ use Rattle.grammar.specs.Grammar.{Kind}
 use Rattle.grammar.specs.Record.{record_size, listed_words}
 use Rattle.grammar.specs.Before.{before_within, BeforeMeans}
 use Rattle.grammar.specs.Reading.{written_within, written_of, laid_by}
-use Rattle.grammar.specs.declared.Counted.{Counted}
 use Rattle.grammar.specs.Counted.{counted_by}
 use Rattle.input.specs.Front.{image_in, rest_in as text_in, front_within, after_within, ComesWhole}
 
@@ -56,10 +55,10 @@ abbrev pub script_words : List ℕ → List ℕ → List ℕ
 script_words input out = script_words_within max_entries input out
 
 -- there is room for a token at every byte of the longest text
-unfoldable pub whole_answer_within : ℕ → List ℕ → Counted
+unfoldable pub whole_answer_within : ℕ → List ℕ → Result ℕ Refusal
 whole_answer_within limit input = counted_by (listed_within limit input (record_size * max_script))
 
-abbrev pub whole_answer : List ℕ → Counted
+abbrev pub whole_answer : List ℕ → Result ℕ Refusal
 whole_answer input = whole_answer_within max_entries input
 
 pub data ScriptMeans (image text : List ℕ) (words : ℕ) : Outcome (List (Tok Character Kind)) → Type 0 where

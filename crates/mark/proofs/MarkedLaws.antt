@@ -2,8 +2,8 @@
 use Prim.Native.Nat.{ℕ}
 use mathlib.Core.Path.{◌≡◌, subst}
 use mathlib.Core.List.{List}
+use Rattle.std.specs.Prelude.{Err}
 use Rattle.refusal.specs.declared.Refusal.{Refusal}
-use Rattle.grammar.specs.declared.Counted.TheVariants.{Refused}
 use Rattle.grammar.specs.Counted.{count_through}
 use Rattle.blocks.specs.Blocks.{Learning}
 use Rattle.count.specs.declared.Run.{Run}
@@ -12,7 +12,7 @@ use Rattle.count.specs.declared.Going.TheVariants as going
 use Rattle.mark.specs.Marking.{MarkedOn, Marked, LearningOn}
 
 module _ (s text starts : List ℕ) (done : ℕ) (g : Going) where
-  pub marked_refused : (x : Refusal) → g ≡ going.Refused x → Marked s text starts done g → Refused x ≡ count_through s text
+  pub marked_refused : (x : Refusal) → g ≡ going.Refused x → Marked s text starts done g → Err x ≡ count_through s text
   marked_refused x e h = subst (Marked s text starts done) e h
 
   pub marked_on : (r : Run) → g ≡ going.On r → Marked s text starts done g → MarkedOn s text starts done r

@@ -1,7 +1,6 @@
 -- Inner: no public statement cites this file.
 -- How far the starts of a text's tokens are marked.
-use Rattle.std.specs.Prelude.{ℕ, ◌+◌, ◌-◌, ◌*◌, ◌≤◌, ◌<◌, ◌≡◌, List, ◌⊎◌, length, set}
-use Rattle.grammar.specs.declared.Counted.TheVariants.{Refused}
+use Rattle.std.specs.Prelude.{ℕ, ◌+◌, ◌-◌, ◌*◌, ◌≤◌, ◌<◌, ◌≡◌, List, ◌⊎◌, length, set, Err}
 use Rattle.grammar.specs.Counted.{count_through}
 use Rattle.grammar.specs.Before.{max_text}
 use Rattle.blocks.specs.Blocks.{Learning}
@@ -32,7 +31,7 @@ pub record MarkedOn (s text starts : List ℕ) (done : ℕ) (run : Run) : Type 0
   pub far : (length text ≤ run.at) ⊎ (length starts ≤ run.count - done + margin)
 
 abbrev pub Marked : List ℕ → List ℕ → List ℕ → ℕ → Going → Type 0
-Marked s text starts done (going.Refused x) = Refused x ≡ count_through s text
+Marked s text starts done (going.Refused x) = Err x ≡ count_through s text
 Marked s text starts done (going.On r) = MarkedOn s text starts done r
 
 -- what was learnt meanwhile

@@ -2,15 +2,15 @@
 use Prim.Native.Nat.{ℕ}
 use mathlib.Core.Path.{◌≡◌, refl}
 use mathlib.Core.List.{List}
-use Rattle.grammar.specs.declared.Counted.{Counted}
-use Rattle.grammar.specs.declared.Counted.TheVariants as counted
+use Rattle.refusal.specs.declared.Refusal.{Refusal}
+use Rattle.std.specs.Prelude.{Result, Ok, Err}
 use Rattle.changes.specs.declared.Changes.{Changes}
 use Rattle.changes.specs.declared.Changes.TheVariants as changes
 use Rattle.printing.specs.Fits.{TokensFit, ChangesFit}
 
-pub tokens_fit : (a : Counted) (words : List ℕ) → ((n : ℕ) → a ≡ counted.Records n → TokensFit (counted.Records n) words) → TokensFit a words
-tokens_fit (counted.Refused r) words f = tt
-tokens_fit (counted.Records n) words f = f n refl
+pub tokens_fit : (a : Result ℕ Refusal) (words : List ℕ) → ((n : ℕ) → a ≡ Ok n → TokensFit (Ok n) words) → TokensFit a words
+tokens_fit (Err r) words f = tt
+tokens_fit (Ok n) words f = f n refl
 
 pub changes_fit :
     (a : Changes) (runs entries : List ℕ)

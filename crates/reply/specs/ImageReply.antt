@@ -1,11 +1,9 @@
 -- The replies of the calls on images, and what the arrays lent for a profile then hold (docs/RULES.md, "The calls").
-use Rattle.std.specs.Prelude.{ℕ, ◌≡◌, List}
+use Rattle.refusal.specs.declared.Refusal.{Refusal}
+use Rattle.lookup.specs.declared.Probe.{Probe}
+use Rattle.std.specs.Prelude.{ℕ, ◌≡◌, List, Result, Err, Ok}
 use Rattle.image.specs.declared.Summary.{Summary}
 use Rattle.image.specs.declared.Checked.{Checked}
-use Rattle.lookup.specs.declared.Found.{Found}
-use Rattle.lookup.specs.declared.Found.TheVariants as found
-use Rattle.writer.specs.declared.Written.{Written}
-use Rattle.writer.specs.declared.Written.TheVariants as written
 use Rattle.pair.specs.declared.Pair.{Pair}
 use Rattle.pair.specs.declared.Pair.TheVariants as pair
 use Rattle.changes.specs.declared.Changes.{Changes}
@@ -13,17 +11,17 @@ use Rattle.changes.specs.declared.Changes.TheVariants as changes
 use Rattle.reply.specs.Reply.{Reply, Tells, gives, refuses_of, refuses}
 
 -- checking and reading an image: the version, and the numbers of ranges and of profile entries
-abbrev pub checked_by : Answer → ℕ → Reply
+abbrev pub checked_by : Result Summary Refusal → ℕ → Reply
 checked_by (Err r) used = refuses r
-checked_by (accepted_with version n) used = gives version n used
+checked_by (Ok x) used = gives x.version x.ranges used
 
 abbrev pub check_reply : Checked → Reply
 check_reply k = checked_by k.answer k.profile.used
 
 -- an array lent for the profile: that of an accepted image; a refusal leaves it as it was
-abbrev pub array_by : Answer → List ℕ → List ℕ → List ℕ
+abbrev pub array_by : Result Summary Refusal → List ℕ → List ℕ → List ℕ
 array_by (Err r) new old = old
-array_by (accepted_with version n) new old = new
+array_by (Ok x) new old = new
 
 -- result, answer array, and the two arrays lent for the profile are those of what a check gave
 pub record TellsChecked (k : Checked) (points roles : List ℕ) (n : ℕ) (answer new_points new_roles : List ℕ) : Type 0 where
@@ -32,14 +30,14 @@ pub record TellsChecked (k : Checked) (points roles : List ℕ) (n : ℕ) (answe
   pub roles_kept : new_roles ≡ array_by k.answer k.profile.roles roles
 
 -- looking up: the class after the profile, and how many ranges were looked at
-abbrev pub found_reply : Found → Reply
-found_reply (found.Refused r) = refuses r
-found_reply (found.Class class count) = gives class count 0
+abbrev pub found_reply : Result Probe Refusal → Reply
+found_reply (Err r) = refuses r
+found_reply (Ok p) = gives p.class p.count 0
 
 -- writing: the bytes of the image
-abbrev pub written_reply : Written → Reply
-written_reply (written.Refused r) = refuses r
-written_reply (written.Image len) = gives len 0 0
+abbrev pub written_reply : Result ℕ Refusal → Reply
+written_reply (Err r) = refuses r
+written_reply (Ok len) = gives len 0 0
 
 -- the pair check: a refusal tells which image it is of, 1 the older, 2 the newer, 0 the pair
 abbrev pub pair_reply : Pair → Reply

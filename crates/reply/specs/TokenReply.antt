@@ -1,16 +1,14 @@
 -- The replies of the calls on tokens and hashtags (docs/RULES.md, "The calls").
-use Rattle.std.specs.Prelude.{ℕ, List, [], ◌∷◌, length, get_or, take, drop}
+use Rattle.token.specs.Taken.{Taken}
+use Rattle.refusal.specs.declared.Refusal.{Refusal}
+use Rattle.std.specs.Prelude.{ℕ, List, [], ◌∷◌, length, get_or, take, drop, Result, Ok, Err, Some, None}
 use Rattle.refusal.specs.Outcome.{Outcome, given, refused}
-use Rattle.grammar.specs.declared.Counted.{Counted}
-use Rattle.grammar.specs.declared.Counted.TheVariants as counted
-use Rattle.token.specs.declared.Taken.{Taken}
-use Rattle.token.specs.declared.Taken.TheVariants as taken
 use Rattle.reply.specs.Reply.{Reply, gives, refuses}
 
 -- counting and writing a list: the number of tokens, or of hashtags
-abbrev pub counted_reply : Counted → Reply
-counted_reply (counted.Refused r) = refuses r
-counted_reply (counted.Records n) = gives n 0 0
+abbrev pub counted_reply : Result ℕ Refusal → Reply
+counted_reply (Err r) = refuses r
+counted_reply (Ok n) = gives n 0 0
 
 -- the result where a place is the text's end; no refusal has it
 abbrev pub done : ℕ
@@ -18,9 +16,9 @@ done = 255
 
 -- taking one token: its kind, its first byte, and one past its last
 abbrev pub taken_reply : Taken → Reply
-taken_reply (taken.Refused r) = refuses r
-taken_reply taken.Done = record { number = done; values = 0 ∷ 0 ∷ 0 ∷ 0 ∷ [] }
-taken_reply (taken.Token kind start end) = gives kind start end
+taken_reply (Err r) = refuses r
+taken_reply (Ok None) = record { number = done; values = 0 ∷ 0 ∷ 0 ∷ 0 ∷ [] }
+taken_reply (Ok (Some t)) = gives t.kind t.start t.end
 
 -- handing back a part: its first byte and its number of bytes
 abbrev pub part_reply : Outcome (List ℕ) → ℕ → Reply

@@ -14,7 +14,7 @@
 --   ImageReplies, TokenReplies     "The calls", from C
 --   PermittedChanges               "Permitted changes"
 --   ScalarValues, Subparts         "UTF-8 by its first byte"
-use Rattle.std.specs.Prelude.{ℕ, zero, suc, ◌+◌, ◌*◌, ◌/◌, ◌≡◌, Bool, true, false, cond, List, [], ◌∷◌, ◌++◌, map, length, take, set, replicate, ltb}
+use Rattle.std.specs.Prelude.{ℕ, zero, suc, ◌+◌, ◌*◌, ◌/◌, ◌≡◌, Bool, true, false, cond, List, [], ◌∷◌, ◌++◌, map, length, take, set, replicate, ltb, Err, Ok}
 use Rattle.std.proofs.Math.Option.{Option, none, some}
 use Rattle.refusal.specs.declared.Refusal.{Refusal}
 use Rattle.refusal.specs.declared.Refusal.TheVariants as refusal
@@ -66,10 +66,8 @@ use Rattle.image.specs.Profile.{
 use Rattle.image.specs.Image.{header_words, entry_words, bytes_of_all, image_of}
 use Rattle.image.specs.Check.{refusal_of, read_refusal, ranges_of, check_of}
 use Rattle.image.specs.declared.records.Section.TheVariants.{Ranges, Entries}
-use Rattle.lookup.specs.declared.Found.TheVariants as found
 use Rattle.lookup.specs.Halving.{seek_of}
-use Rattle.lookup.specs.Lookup.{lookup_of}
-use Rattle.writer.specs.declared.Written.TheVariants as written
+use Rattle.lookup.specs.Lookup.{lookup_of, found_with}
 use Rattle.writer.specs.Write.{write_of}
 use Rattle.pair.specs.Walk.{code_points}
 use Rattle.pair.specs.declared.Pair.TheVariants as pair
@@ -83,9 +81,7 @@ use Rattle.grammar.specs.Kinds.{kind_number, is_continue, is_white, kind_by, goe
 use Rattle.grammar.specs.Record.{record_words, record_size, room_of}
 use Rattle.grammar.specs.Before.{max_text}
 use Rattle.grammar.specs.Reading.{read_through, outcome_of, room_refusal}
-use Rattle.grammar.specs.declared.Counted.TheVariants as counted
-use Rattle.token.specs.declared.Taken.TheVariants as taken
-use Rattle.token.specs.Taken.{unless_taken, place_refusal, token_at, taken_of}
+use Rattle.token.specs.Taken.{unless_taken, place_refusal, token_at, taken_of, at_end, token_with}
 use Rattle.hashtag.specs.Sign.{is_sign, is_hashtag_continue}
 use Rattle.hashtag.specs.Listed.{hashtag_kind, span_words, hashtags_through, hashtags_found}
 use Rattle.input.specs.Script.{max_script, script_written}
@@ -249,12 +245,12 @@ RoleEffects =
 abbrev pub Lookups : Type 0
 Lookups =
     (ranges_of M ≡ 0x20 ∷ 0x20 ∷ 4 ∷ 0x2E ∷ 0x2E ∷ 3 ∷ 0x30 ∷ 0x39 ∷ 2 ∷ 0x41 ∷ 0x5A ∷ 1 ∷ 0x61 ∷ 0x7A ∷ 1 ∷ [])
-    × (lookup_of M 0x20 ≡ found.Class 4 3)
-    × (lookup_of M 0x2E ≡ found.Class 3 2)
-    × (lookup_of M 0x7A ≡ found.Class 1 2)
-    × (lookup_of M 0x62 ≡ found.Class 1 2)
-    × (lookup_of M 0x2D ≡ found.Class 0 3)
-    × (lookup_of M 0xD800 ≡ found.Refused (refusal.NotScalar 55296))
+    × (lookup_of M 0x20 ≡ found_with 4 3)
+    × (lookup_of M 0x2E ≡ found_with 3 2)
+    × (lookup_of M 0x7A ≡ found_with 1 2)
+    × (lookup_of M 0x62 ≡ found_with 1 2)
+    × (lookup_of M 0x2D ≡ found_with 0 3)
+    × (lookup_of M 0xD800 ≡ Err (refusal.NotScalar 55296))
     × ((seek_of (λ (i : ℕ). record { first = i; last = i; class = 1 }) 0 4096 0).count ≡ 13)
 
 -- the number of the kind of token that a unit of a class begins, 0 for none; w is its kind of White
@@ -317,9 +313,9 @@ Rooms =
     × (room_refusal {T = ℕ} 8 (0 ∷ 0 ∷ []) ≡ none)
     × (map (λ (words : ℕ). read_refusal (header_with 1 0) words none) (2 ∷ 3 ∷ []) ≡ some (refusal.Room 1) ∷ none ∷ [])
     × (map (λ (words : ℕ). read_refusal (header_with 2 0) words none) (5 ∷ 6 ∷ []) ≡ some (refusal.Room 2) ∷ none ∷ [])
-    × (write_of (0x7A ∷ 0x7A ∷ 5 ∷ 0 ∷ []) no_profile 0 ≡ written.Refused refusal.Shape)
-    × (write_of (0x7A ∷ 0x7A ∷ 5 ∷ []) no_profile 43 ≡ written.Refused (refusal.Buffer 44))
-    × (write_of (0x7A ∷ 0x7A ∷ 5 ∷ []) no_profile 44 ≡ written.Image 44)
+    × (write_of (0x7A ∷ 0x7A ∷ 5 ∷ 0 ∷ []) no_profile 0 ≡ Err refusal.Shape)
+    × (write_of (0x7A ∷ 0x7A ∷ 5 ∷ []) no_profile 43 ≡ Err (refusal.Buffer 44))
+    × (write_of (0x7A ∷ 0x7A ∷ 5 ∷ []) no_profile 44 ≡ Ok 44)
 
 -- of the code points 0 to 2FFF and FE00 to FFFF hex, the line ends, the direction marks and the signs; White of the first is of kind 4,
 -- of the second of kind 5, other White of kind 3
@@ -381,10 +377,10 @@ ImageReplies a b c =
     (reply_row (checked_by (accepted_with a b) c) ≡ 0 ∷ a ∷ b ∷ c ∷ 0 ∷ [])
     × (reply_row (checked_by (Err (refusal.Range a)) c) ≡ 3 ∷ a ∷ 0 ∷ 0 ∷ 0 ∷ [])
     × (reply_row (check_reply (check_of M)) ≡ 0 ∷ 1048576 ∷ 5 ∷ 1 ∷ 0 ∷ [])
-    × (reply_row (found_reply (found.Class a b)) ≡ 0 ∷ a ∷ b ∷ 0 ∷ 0 ∷ [])
-    × (reply_row (found_reply (found.Refused (refusal.NotScalar a))) ≡ 9 ∷ a ∷ 0 ∷ 0 ∷ 0 ∷ [])
-    × (reply_row (written_reply (written.Image a)) ≡ 0 ∷ a ∷ 0 ∷ 0 ∷ 0 ∷ [])
-    × (reply_row (written_reply (written.Refused (refusal.Buffer a))) ≡ 12 ∷ a ∷ 0 ∷ 0 ∷ 0 ∷ [])
+    × (reply_row (found_reply (found_with a b)) ≡ 0 ∷ a ∷ b ∷ 0 ∷ 0 ∷ [])
+    × (reply_row (found_reply (Err (refusal.NotScalar a))) ≡ 9 ∷ a ∷ 0 ∷ 0 ∷ 0 ∷ [])
+    × (reply_row (written_reply (Ok a)) ≡ 0 ∷ a ∷ 0 ∷ 0 ∷ 0 ∷ [])
+    × (reply_row (written_reply (Err (refusal.Buffer a))) ≡ 12 ∷ a ∷ 0 ∷ 0 ∷ 0 ∷ [])
     × (reply_row (pair_reply pair.Permitted) ≡ 0 ∷ 0 ∷ 0 ∷ 0 ∷ 0 ∷ [])
     × (reply_row (pair_reply (pair.Older (refusal.Entry a))) ≡ 4 ∷ a ∷ 0 ∷ 1 ∷ 0 ∷ [])
     × (reply_row (pair_reply (pair.Newer (refusal.Entry a))) ≡ 4 ∷ a ∷ 0 ∷ 2 ∷ 0 ∷ [])
@@ -396,11 +392,11 @@ ImageReplies a b c =
 
 abbrev pub TokenReplies : ℕ → ℕ → ℕ → Type 0
 TokenReplies a b c =
-    (reply_row (counted_reply (counted.Records a)) ≡ 0 ∷ a ∷ 0 ∷ 0 ∷ 0 ∷ [])
-    × (reply_row (counted_reply (counted.Refused (refusal.IllFormed a b))) ≡ 6 ∷ a ∷ b ∷ 0 ∷ 0 ∷ [])
-    × (reply_row (taken_reply (taken.Token a b c)) ≡ 0 ∷ a ∷ b ∷ c ∷ 0 ∷ [])
-    × (reply_row (taken_reply taken.Done) ≡ 255 ∷ 0 ∷ 0 ∷ 0 ∷ 0 ∷ [])
-    × (reply_row (taken_reply (taken.Refused (refusal.IllFormed a b))) ≡ 6 ∷ a ∷ b ∷ 0 ∷ 0 ∷ [])
+    (reply_row (counted_reply (Ok a)) ≡ 0 ∷ a ∷ 0 ∷ 0 ∷ 0 ∷ [])
+    × (reply_row (counted_reply (Err (refusal.IllFormed a b))) ≡ 6 ∷ a ∷ b ∷ 0 ∷ 0 ∷ [])
+    × (reply_row (taken_reply (token_with a b c)) ≡ 0 ∷ a ∷ b ∷ c ∷ 0 ∷ [])
+    × (reply_row (taken_reply at_end) ≡ 255 ∷ 0 ∷ 0 ∷ 0 ∷ 0 ∷ [])
+    × (reply_row (taken_reply (Err (refusal.IllFormed a b))) ≡ 6 ∷ a ∷ b ∷ 0 ∷ 0 ∷ [])
     × (reply_row (part_reply (given (b ∷ c ∷ [])) a) ≡ 0 ∷ a ∷ 2 ∷ 0 ∷ 0 ∷ [])
     × (reply_row (part_reply (refused refusal.Shape) a) ≡ 13 ∷ 0 ∷ 0 ∷ 0 ∷ 0 ∷ [])
 

@@ -5,6 +5,7 @@ use mathlib.Core.List.{List, [], ◌∷◌}
 use mathlib.Core.Option.{Option, none, some}
 use native.Mathlib.Omega.{arith}
 use lib.ListN.{length}
+use Rattle.std.specs.Prelude.{Result, Ok, Err}
 use Rattle.lists.specs.Laid.{laid}
 use Rattle.refusal.specs.declared.Refusal.{Refusal}
 use Rattle.refusal.specs.declared.Refusal.TheVariants as refusal
@@ -19,8 +20,6 @@ use Rattle.grammar.specs.Reading.{reading_of, tokens_of, form_refusal, mark_refu
 use Rattle.image.proofs.ImageLaws.{accepted as is_accepted}
 use Rattle.grammar.proofs.BeforeLaws.{means_before}
 use Rattle.grammar.proofs.AnswerLaws.{by_refused, by_count, Writes, writes_refused, writes_no_room, writes_given}
-use Rattle.grammar.specs.declared.Counted.{Counted}
-use Rattle.grammar.specs.declared.Counted.TheVariants.{Refused, Records}
 use Rattle.grammar.specs.Counted.{counted_by, count_through}
 
 -- what has room as records has it as words
@@ -42,7 +41,7 @@ module _ (s text : List ℕ) where
   unfolding outcome_within
   outcome_refused e = rw e
 
-  pub count_refused : {r : Refusal} → before_text max_text s text ≡ some r → Refused r ≡ counted_by (count_of s text)
+  pub count_refused : {r : Refusal} → before_text max_text s text ≡ some r → Err r ≡ counted_by (count_of s text)
   unfolding count_within
   count_refused e = sym (ap (λ o. counted_by (outcome_map length o)) (outcome_refused e))
 
@@ -57,14 +56,14 @@ module _ (s text : List ℕ) where
 
   -- writing the list
   module _ (out : List ℕ) where
-    abbrev pub ListsTokens : Counted → List ℕ → Type 0
+    abbrev pub ListsTokens : Result ℕ Refusal → List ℕ → Type 0
     ListsTokens r out' = (r ≡ counted_by (list_of s text (length out))) × (out' ≡ list_words s text out)
 
-    lists : {r : Counted} {out' : List ℕ} → Writes (listed_words text) out (outcome_of s text) r out' → ListsTokens r out'
+    lists : {r : Result ℕ Refusal} {out' : List ℕ} → Writes (listed_words text) out (outcome_of s text) r out' → ListsTokens r out'
     unfolding list_within list_words_within written_within
     lists w = w
 
-    pub list_refused : {r : Refusal} → before_text max_text s text ≡ some r → ListsTokens (Refused r) out
+    pub list_refused : {r : Refusal} → before_text max_text s text ≡ some r → ListsTokens (Err r) out
     list_refused e = lists (writes_refused (listed_words text) out (outcome_refused e))
 
     -- .. from what the count gives
@@ -73,11 +72,11 @@ module _ (s text : List ℕ) where
       through = outcome_through (means_before max_text s text (allowed (is_accepted s accepted) short))
 
       -- what refuses the count: nothing is written
-      pub list_stopped : {r : Refusal} → Refused r ≡ count_through s text → ListsTokens (Refused r) out
+      pub list_stopped : {r : Refusal} → Err r ≡ count_through s text → ListsTokens (Err r) out
       unfolding count_through
       list_stopped e = lists (writes_refused (listed_words text) out (through ∙ by_refused (read_through s text) e))
 
-      module _ {n : ℕ} (e : Records n ≡ count_through s text) where
+      module _ {n : ℕ} (e : Ok n ≡ count_through s text) where
         all : (outcome_of s text ≡ given (tokens_of s text)) × (n ≡ length (tokens_of s text))
         unfolding count_through read_through
         all =
@@ -86,8 +85,8 @@ module _ (s text : List ℕ) where
             (through ∙ g ∙ ap given q, l ∙ ap length q)
 
         -- 8
-        pub list_no_room : room_of (length out) < n → ListsTokens (Refused (refusal.Room n)) out
+        pub list_no_room : room_of (length out) < n → ListsTokens (Err (refusal.Room n)) out
         list_no_room h = lists (writes_no_room (listed_words text) out all.0 all.1 h)
 
-        pub list_given : n ≤ room_of (length out) → ListsTokens (Records n) (laid out 0 (listed_words text (tokens_of s text)))
+        pub list_given : n ≤ room_of (length out) → ListsTokens (Ok n) (laid out 0 (listed_words text (tokens_of s text)))
         list_given h = lists (writes_given (listed_words text) out all.0 all.1 h)

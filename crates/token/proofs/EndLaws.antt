@@ -10,6 +10,7 @@ use lib.ListN.{length, get_or, set, length-append, length-drop, length-set}
 use lib.Seq.{take_all, get_or-set_same}
 use lib.Dec.{eqb, ltb}
 use borrow.Author.Tests.{eqb-false, ne_eqb, lt-ltb, le-ltb}
+use Rattle.std.specs.Prelude.{Ok}
 use Rattle.lists.specs.Laid.{laid}
 use Rattle.lists.proofs.BoolLaws.{impossible}
 use Rattle.lists.proofs.LaidLaws.{laid_none}
@@ -23,7 +24,6 @@ use Rattle.grammar.specs.Scan.{Tok, units_of}
 use Rattle.grammar.specs.Grammar.{Kind, Token}
 use Rattle.grammar.specs.Record.{tokens_width, listed_words}
 use Rattle.grammar.specs.Reading.{meaning_of, reading_of, tokens_of, form_refusal_by, mark_refusal, judged, read_through}
-use Rattle.grammar.specs.declared.Counted.TheVariants.{Records}
 use Rattle.grammar.specs.Counted.{counted_by, count_through}
 use Rattle.grammar.proofs.DivisionLaws.{division_covers}
 use Rattle.grammar.proofs.GrammarLaws.{tokens_divide}
@@ -47,12 +47,12 @@ pub record Whole (s text : List ℕ) (total : ℕ) : Type 0 where
   pub none_left : (reading_of s text).left ≡ []
   pub number : length (tokens_of s text) ≡ total
 
-pub whole : (s text : List ℕ) (total : ℕ) → count_through s text ≡ Records total → Whole s text total
+pub whole : (s text : List ℕ) (total : ℕ) → count_through s text ≡ Ok total → Whole s text total
 unfolding count_through read_through
 whole s text total e = go (text_of text) (reading_of s text).left refl refl (mark_refusal s (tokens_of s text)) refl e
   where
     go : (f : Text) (l : List Character) → text_of text ≡ f → (reading_of s text).left ≡ l → (o : Option Refusal) → mark_refusal s (tokens_of s text) ≡ o →
-        counted_by (outcome_map length (unless (form_refusal_by f) (judged s (tokens_of s text) l))) ≡ Records total → Whole s text total
+        counted_by (outcome_map length (unless (form_refusal_by f) (judged s (tokens_of s text) l))) ≡ Ok total → Whole s text total
     go (IllFormed p n) l g h o m q = impossible (cc)
     go WellFormed (c ∷ r) g h o m q = impossible (cc)
     go WellFormed [] g h (some x) m q = impossible (cc)
@@ -70,22 +70,22 @@ all_bytes {s} {text} a =
     let r = ap length (c.after ∙ well_rest text a.form) in
     tokens_width_lem ts ∙ ap width_of (sym u) ∙ omega (arith, c.within, r, length-drop (width_of cs) text)
 
-pub place_end : (s text : List ℕ) (total : ℕ) → count_through s text ≡ Records total → place_after s text total ≡ length text
+pub place_end : (s text : List ℕ) (total : ℕ) → count_through s text ≡ Ok total → place_after s text total ≡ length text
 place_end s text total e =
     let a = whole s text total e in
     ap tokens_width (take_all total (tokens_of s text) (omega (arith, a.number))) ∙ all_bytes a
 
 -- a token that has a start is one of them
-pub start_few : {s text : List ℕ} {k c total : ℕ} → StartOf s text k c → count_through s text ≡ Records total → k < total
+pub start_few : {s text : List ℕ} {k c total : ℕ} → StartOf s text k c → count_through s text ≡ Ok total → k < total
 start_few {s} {text} {k} {c} {total} h e =
     omega (arith, (whole s text total e).number, ap length h.parted, length-append h.front (h.token ∷ h.back), h.number)
 
 -- at the text's end no medial waits that begins nothing, and what is pending are the last tokens
-pub ends_at : (s text : List ℕ) (run : Run) (total : ℕ) → CountingAs s text run → length text ≤ run.at → count_through s text ≡ Records total →
+pub ends_at : (s text : List ℕ) (run : Run) (total : ℕ) → CountingAs s text run → length text ≤ run.at → count_through s text ≡ Ok total →
     (run.state ≡ count_waiting → ⊥) × (total ≡ run.count + count_pending_of run.state)
 ends_at s text run total i h e = go (eqb run.state count_waiting) (ltb run.refused (length text)) refl refl (finishes s text run i h ∙ e)
   where
-    go : (a b : Bool) → eqb run.state count_waiting ≡ a → ltb run.refused (length text) ≡ b → finished_by text run ≡ Records total →
+    go : (a b : Bool) → eqb run.state count_waiting ≡ a → ltb run.refused (length text) ≡ b → finished_by text run ≡ Ok total →
         (run.state ≡ count_waiting → ⊥) × (total ≡ run.count + count_pending_of run.state)
     go true b f g q = let z = rw f at q in impossible (cc)
     go false true f g q = let z = rw (f, g) at q in impossible (cc)
@@ -111,7 +111,7 @@ module _ {s text starts : List ℕ} {done : ℕ} {run : Run} (m : Marking s text
   n = run.count - done + 1
 
   ended_by : (starts' : List ℕ) (k : ℕ) → Started s text starts' done k → get_or starts' k 0 / 16 ≡ length text →
-      ((total : ℕ) → count_through s text ≡ Records total → done + k ≡ total) → Ended s text starts' done k
+      ((total : ℕ) → count_through s text ≡ Ok total → done + k ≡ total) → Ended s text starts' done k
   ended_by starts' k a b e =
       record {
         piece = λ total c. record { started = a; ended = b ∙ sym (place_end s text total c) ∙ ap (place_after s text) (sym (e total c)); few = omega (arith, e total c) };
@@ -148,14 +148,14 @@ module _ {s text starts : List ℕ} {done : ℕ} {run : Run} (m : Marking s text
       omega (arith, y.1, pending_both run.state (omega arith), m.from))
 
 -- a text without bytes has no token
-pub empty_counted : (s text : List ℕ) → length text ≡ 0 → Records 0 ≡ count_through s text
+pub empty_counted : (s text : List ℕ) → length text ≡ 0 → Ok 0 ≡ count_through s text
 empty_counted s text h =
     let run : Run = record { at = 0; state = 0; count = 0; mid = 0; mark = 0; refused = length text; rows = 0; memo = record { first = 1; last = 0; traits = 0 } } in
     let i : CountingAs s text run = record { start = 0; counting = counting_begins s text; memo = λ y a b. absurd (omega arith) } in
-    let e : finished_by text run ≡ Records 0 = rw (le-ltb (length text) (length text) (omega arith)) in
+    let e : finished_by text run ≡ Ok 0 = rw (le-ltb (length text) (length text) (omega arith)) in
     sym e ∙ finishes s text run i (omega arith)
 
-pub none_written : (s text out : List ℕ) → count_through s text ≡ Records 0 → out ≡ laid out 0 (listed_words text (tokens_of s text))
+pub none_written : (s text out : List ℕ) → count_through s text ≡ Ok 0 → out ≡ laid out 0 (listed_words text (tokens_of s text))
 none_written s text out e = go (tokens_of s text) (whole s text 0 e).number
   where
     go : (ts : List (Tok Character Kind)) → length ts ≡ 0 → out ≡ laid out 0 (listed_words text ts)

@@ -9,6 +9,7 @@ use native.Mathlib.Decide.{dec_lt}
 use lib.ListN.{length, get_or, set, length-set}
 use lib.Dec.{ltb}
 use borrow.Author.Tests.{lt-ltb, le-ltb}
+use Rattle.std.specs.Prelude.{Ok, Err}
 use Rattle.refusal.specs.declared.Refusal.{Refusal}
 use Rattle.lists.proofs.BoolLaws.{impossible}
 use Rattle.lists.specs.Laid.{laid}
@@ -18,7 +19,6 @@ use Rattle.lists.proofs.WritingLaws.{writing_begins, writing_ends}
 use Rattle.line.proofs.LineLaws.{line_begins}
 use Rattle.grammar.specs.Record.{record_size, listed_words}
 use Rattle.grammar.specs.Reading.{tokens_of}
-use Rattle.grammar.specs.declared.Counted.TheVariants.{Refused, Records}
 use Rattle.grammar.specs.Counted.{count_through}
 use Rattle.blocks.specs.Blocks.{Learning, Learnt}
 use Rattle.blocks.proofs.DoneLaws.{learnt_whole}
@@ -36,7 +36,7 @@ use Rattle.token.proofs.EndLaws.{whole, start_few}
 
 -- `done` records of an accepted text stand in the buffer that was `before`, and the starts of the next tokens are marked
 pub record Filling (s text : List ℕ) (total : ℕ) (before index cells starts out : List ℕ) (run : Run) (done : ℕ) (from : Written) : Type 0 where
-  pub counted : count_through s text ≡ Records total
+  pub counted : count_through s text ≡ Ok total
   pub marking : Marking s text starts done run
   pub learning : Learning s index cells run.rows
   pub written : WrittenTo s text done from
@@ -53,7 +53,7 @@ run_whole {s} {text} {starts} {done} run r e m =
     subst (Marking s text starts done) (sym e)
     (record { counting = record { start = m.counting.start; counting = m.counting.counting; memo = m.counting.memo }; some = m.some; from = m.from; room = m.room; started = m.started })
 
-pub filling_begins : {s text index cells starts out : List ℕ} {total : ℕ} (run r : Run) → count_through s text ≡ Records total → r ≡ run_with run (length cells) → Marking s text starts 0 run →
+pub filling_begins : {s text index cells starts out : List ℕ} {total : ℕ} (run r : Run) → count_through s text ≡ Ok total → r ≡ run_with run (length cells) → Marking s text starts 0 run →
     Learnt s index cells → 8 ≤ length starts → Filling s text total out index cells starts out r 0 (record { w = 0; line = 1 })
 filling_begins {s} {text} {index} {cells} run r e z m l h =
     record {
@@ -149,5 +149,5 @@ left_less {s} {text} {starts} run run' h l m = go (dec_lt run'.at (length text))
     go (no y) z = rw (le-ltb run'.at (length text) (omega arith), lt-ltb run.at (length text) h) (omega (arith, m.marking.from))
 
 -- a text that is counted isn't refused
-pub never_refused : {A : Type 0} (s text : List ℕ) (x : Refusal) (total : ℕ) → Refused x ≡ count_through s text → count_through s text ≡ Records total → A
-never_refused s text x total e f = let z : Refused x ≡ Records total = e ∙ f in impossible (cc)
+pub never_refused : {A : Type 0} (s text : List ℕ) (x : Refusal) (total : ℕ) → Err x ≡ count_through s text → count_through s text ≡ Ok total → A
+never_refused s text x total e f = let z : Err x ≡ Ok total = e ∙ f in impossible (cc)

@@ -6,6 +6,7 @@ use mathlib.Core.Option.{Option, none, some}
 use native.Mathlib.Omega.{arith}
 use native.Mathlib.Decide.{dec_lt}
 use lib.ListN.{length, drop, length-append, length-drop, drop_of_length-le}
+use Rattle.std.specs.Prelude.{Err}
 use Rattle.refusal.specs.declared.Refusal.{Refusal}
 use Rattle.refusal.specs.declared.Refusal.TheVariants as refusal
 use Rattle.utf8.specs.declared.Step.{Step}
@@ -26,8 +27,6 @@ use Rattle.grammar.proofs.GrammarLaws.{fits, tokens_divide, tokens_unique}
 use Rattle.turns.specs.declared.First.{First}
 use Rattle.turns.specs.declared.First.TheVariants as first
 use Rattle.turns.specs.First.{first_in, first_by, first_of}
-use Rattle.token.specs.declared.Taken.{Taken}
-use Rattle.token.specs.declared.Taken.TheVariants.{Refused}
 use Rattle.token.specs.Taken.{taken_of}
 use Rattle.token.specs.Means.{PlaceAllowed, TakenMeans, refused_before, past_end, ill_formed, no_token, done, token}
 use Rattle.token.proofs.TakenLaws.{taken_by, taken_refused, taken_past, taken_first}
@@ -95,7 +94,7 @@ module _ (s text : List ℕ) (place : ℕ) where
   means_taken t (ill_formed {n = k} h l n m) =
       let d = length-drop place text in
       placed_taken h first.IllFormed (ap (first_by (tokens_of s (drop place text))) (means_step (drop place text) (step.IllFormed k) (no_sequence (omega arith) n m)))
-      ∙ ap (λ (j : ℕ). Refused (refusal.IllFormed place j)) (means_subpart (drop place text) k (omega arith) m)
+      ∙ ap (λ (j : ℕ). Err (refusal.IllFormed place j)) (means_subpart (drop place text) k (omega arith) m)
   means_taken t (no_token h e n) = placed_taken h first.NoToken (first_is s (drop place text) e (ends n) (omega arith))
   means_taken t (done h e) =
       let d : drop place text ≡ [] = drop_of_length-le text (let l : length text ≤ place = omega (arith, e) in l) in

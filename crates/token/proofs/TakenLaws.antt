@@ -6,6 +6,7 @@ use mathlib.Core.Option.{none, some}
 use native.Mathlib.Omega.{arith}
 use lib.ListN.{length, take, drop, length-drop}
 use borrow.Author.Tests.{lt-ltb, le-ltb, eq-eqb, ne_eqb}
+use Rattle.std.specs.Prelude.{Err}
 use Rattle.lists.proofs.BoolLaws.{impossible}
 use Rattle.refusal.specs.declared.Refusal.{Refusal}
 use Rattle.refusal.specs.declared.Refusal.TheVariants as refusal
@@ -29,16 +30,14 @@ use Rattle.turns.specs.declared.First.{First}
 use Rattle.turns.specs.declared.First.TheVariants as first
 use Rattle.grammar.specs.Counted.{stop_refusal}
 use Rattle.turns.specs.First.{first_in, first_by, first_of}
-use Rattle.token.specs.declared.Taken.{Taken}
-use Rattle.token.specs.declared.Taken.TheVariants.{Refused, Done, Token}
-use Rattle.token.specs.Taken.{place_refusal, stop_by, stop_of, first_at, token_at, taken_within, taken_of}
+use Rattle.token.specs.Taken.{place_refusal, stop_by, stop_of, first_at, token_at, taken_within, taken_of, at_end, token_with}
 
 -- the first token of a part that begins at a place, at its places in the whole text
 abbrev pub taken_by : List ℕ → ℕ → First → Taken
-taken_by text place first.Nothing = Done
-taken_by text place first.IllFormed = Refused (refusal.IllFormed place (subpart_of (drop place text)))
-taken_by text place first.NoToken = Refused (refusal.Characters place)
-taken_by text place (first.Token k e) = Token k place (place + e)
+taken_by text place first.Nothing = at_end
+taken_by text place first.IllFormed = Err (refusal.IllFormed place (subpart_of (drop place text)))
+taken_by text place first.NoToken = Err (refusal.Characters place)
+taken_by text place (first.Token k e) = token_with k place (place + e)
 
 -- the characters from the place on end at q
 stop_width : (text : List ℕ) (place : ℕ) → place ≤ length text → stop_of text place ≡ place + width_of (decode (drop place text)).characters
@@ -78,10 +77,10 @@ ill_first s part = go (step_of part) refl (tokens_of s part)
 
 -- there the refusal of the text from the place on is 6 at the place
 pub stops_ill : (s text : List ℕ) (place : ℕ) → first_of s (drop place text) ≡ first.IllFormed →
-    Refused (stop_refusal place (text_of (drop place text))) ≡ taken_by text place first.IllFormed
+    Err (stop_refusal place (text_of (drop place text))) ≡ taken_by text place first.IllFormed
 stops_ill s text place e =
-    ap (λ f. Refused (stop_refusal place f)) (text_ill (drop place text) (ill_first s (drop place text) e))
-    ∙ ap (λ (p : ℕ). Refused (refusal.IllFormed p (subpart_of (drop place text)))) (let z : place + 0 ≡ place = omega arith in z)
+    ap (λ f. Err (stop_refusal place f)) (text_ill (drop place text) (ill_first s (drop place text) e))
+    ∙ ap (λ (p : ℕ). Err (refusal.IllFormed p (subpart_of (drop place text)))) (let z : place + 0 ≡ place = omega arith in z)
 
 module _ (s text : List ℕ) (place : ℕ) (within : place ≤ length text) where
   at_step : (t : Step) → step_of (drop place text) ≡ t → token_at s text place ≡ taken_by text place (first_by (tokens_of s (drop place text)) t)
@@ -128,13 +127,13 @@ first_within s text k e f =
 
 module _ (s text : List ℕ) (place : ℕ) where
   -- 1 to 5
-  pub taken_refused : {r : Refusal} → before_text max_text s text ≡ some r → Refused r ≡ taken_of s text place
+  pub taken_refused : {r : Refusal} → before_text max_text s text ≡ some r → Err r ≡ taken_of s text place
   unfolding taken_within
   taken_refused e = rw e
 
   module _ (read : before_text max_text s text ≡ none) where
     -- 13
-    pub taken_past : length text < place → Refused refusal.Shape ≡ taken_of s text place
+    pub taken_past : length text < place → Err refusal.Shape ≡ taken_of s text place
     unfolding taken_within place_refusal
     taken_past h = rw (read, lt-ltb (length text) place h)
 

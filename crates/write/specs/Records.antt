@@ -1,10 +1,9 @@
 -- Inner: no public statement cites this file.
 -- Records made from the starts of tokens, and the line ends that a token may hold.
-use Rattle.std.specs.Prelude.{ℕ, zero, suc, ◌+◌, ◌*◌, ◌/◌, ◌≤◌, ◌≡◌, true, List, [], ◌∷◌, ◌++◌, ◌⊎◌, length, take, get_or}
+use Rattle.std.specs.Prelude.{ℕ, zero, suc, ◌+◌, ◌*◌, ◌/◌, ◌≤◌, ◌≡◌, true, List, [], ◌∷◌, ◌++◌, ◌⊎◌, length, take, get_or, Ok}
 use Rattle.utf8.specs.Text.{Character, characters_at, width_of}
 use Rattle.line.specs.Line.{is_line_end, LineAt}
 use Rattle.lists.specs.Writing.{Writing}
-use Rattle.grammar.specs.declared.Counted.TheVariants.{Records}
 use Rattle.grammar.specs.Counted.{count_through}
 use Rattle.grammar.specs.Record.{Record, record_size, record_words, records_from, tokens_width}
 use Rattle.grammar.specs.Before.{max_text}
@@ -37,7 +36,7 @@ pub record Spans (text : List ℕ) (start end : ℕ) : Type 0 where
 
 -- a text that is accepted, of `total` tokens, whose records have room
 pub record Listing (s text out : List ℕ) (total : ℕ) : Type 0 where
-  pub counted : count_through s text ≡ Records total
+  pub counted : count_through s text ≡ Ok total
   pub short : length text ≤ max_text
   pub room : record_size * total ≤ length out
 

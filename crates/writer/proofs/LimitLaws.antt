@@ -8,11 +8,11 @@ use mathlib.Core.Option.{some}
 use lib.ListN.{length}
 use lib.Dec.{leb}
 use borrow.Author.Tests.{le-leb, lt-leb, eq-eqb}
+use Rattle.std.specs.Prelude.{Err}
 use Rattle.refusal.specs.declared.Refusal.TheVariants as refusal
 use Rattle.image.specs.declared.Profile.{Profile}
 use Rattle.image.specs.Limits.{max_ranges}
 use Rattle.image.specs.Same.{SameEntries}
-use Rattle.writer.specs.declared.Written.TheVariants as written
 use Rattle.writer.specs.Write.{ranges_in, write_refusal_within, written_by, write_within, bytes_by, bytes_within}
 use Rattle.writer.specs.Writable.{Shaped}
 use Rattle.writer.proofs.RoundTrip.{answer_same, bytes_same}
@@ -46,7 +46,7 @@ module _ (limit : ℕ) (words : List ℕ) (p : Profile) (shaped : Shaped words) 
   unfolding write_refusal_within
   refusal_above room = simp (eq-eqb _ _ shaped, lt-leb _ _ many) (counts_refused (leb (ranges_in words) max_ranges))
 
-  pub answer_above : (room : ℕ) → write_within limit words p room ≡ written.Refused refusal.Header
+  pub answer_above : (room : ℕ) → write_within limit words p room ≡ Err refusal.Header
   unfolding write_within
   answer_above room = ap (written_by words p) (refusal_above room)
 

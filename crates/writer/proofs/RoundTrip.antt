@@ -8,6 +8,7 @@ use mathlib.Core.Option.{Option, none, some}
 use native.Mathlib.Omega.{arith}
 use lib.ListN.{length, take, drop, get_or, length-drop, take-append-drop, get_or-append}
 use lib.Seq.{get_or-append-add, take_at, take_all, drop-drop}
+use Rattle.std.specs.Prelude.{Ok}
 use Rattle.lists.specs.First.{first_where}
 use Rattle.lists.specs.Each.{each, each_from}
 use Rattle.lists.specs.Laid.{laid}
@@ -30,7 +31,6 @@ use Rattle.image.specs.Means.{is_read}
 use Rattle.image.proofs.GoodLaws.{good_entry_same, range_same, entry_same}
 use Rattle.image.proofs.ImageLaws.{accepted, refused_none, accepted_size, entry_read, zeros_past}
 use Rattle.image.proofs.ReadLaws.{means_read}
-use Rattle.writer.specs.declared.Written.TheVariants as written
 use Rattle.writer.specs.Writable.{Shaped, Writable, is_written}
 use Rattle.image.specs.Same.{SameEntries}
 use Rattle.writer.specs.Back.{ReadBack}
@@ -224,7 +224,7 @@ module _ (limit : ℕ) (words : List ℕ) (p q : Profile) (h : SameEntries p q) 
   answer_same room = ap (written_by words p) (refusal_same room) ∙ go (write_refusal_within limit words q room)
     where
       go : (o : Option Refusal) → written_by words p o ≡ written_by words q o
-      go none = ap (λ (k : ℕ). written.Image (image_end (ranges_in words) k)) h.count
+      go none = ap (λ (k : ℕ). Ok (image_end (ranges_in words) k)) h.count
       go (some r) = refl
 
   pub bytes_same : (version : ℕ) (out : List ℕ) → bytes_within limit version words p out ≡ bytes_within limit version words q out
@@ -374,7 +374,7 @@ images_equal s t b c a d v n r p =
 -- where the writer answers with a length, the buffer's first bytes, of that length, read back as what was written
 pub written_back :
     (version : ℕ) (words : List ℕ) (p : Profile) (out : List ℕ) (len : ℕ) → IsWord version → AllWords words → AllWords p.points → AllWords p.roles
-    → write_of words p (length out) ≡ written.Image len → ReadBack version words p (take len (bytes_after version words p out))
+    → write_of words p (length out) ≡ Ok len → ReadBack version words p (take len (bytes_after version words p out))
 written_back version words p out len hv hw hp hr e =
     let k = written_means version words p out len e in
     let s = image_of version (range_in words) (ranges_in words) p in
@@ -399,9 +399,9 @@ read_gives version words p s buffer k l =
 -- writing what was read from an accepted image gives its bytes again
 pub write_again :
     (s : List ℕ) → AllBytes s → refusal_of s ≡ none → (out : List ℕ) → length s ≤ length out
-    → (write_of (ranges_of s) (profile_of s) (length out) ≡ written.Image (length s)) × (bytes_after (version_of s) (ranges_of s) (profile_of s) out ≡ laid out 0 s)
+    → (write_of (ranges_of s) (profile_of s) (length out) ≡ Ok (length s)) × (bytes_after (version_of s) (ranges_of s) (profile_of s) out ≡ laid out 0 s)
 unfolding profile_within
 write_again s b a out l =
     let z : bytes_needed (ranges_of s) (profile_of s) ≡ length s = omega (arith, count_read s b a, accepted_size s a) in
     let (e, f) = means_write (version_of s) (ranges_of s) (profile_of s) out _ _ (is_written (may_rewrite s b a) (omega arith)) in
-    (e ∙ ap written.Image z, f ∙ ap (laid out 0) (rewritten s b a))
+    (e ∙ ap Ok z, f ∙ ap (laid out 0) (rewritten s b a))

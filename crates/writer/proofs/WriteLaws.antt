@@ -7,6 +7,7 @@ use mathlib.Core.Option.{Option, none, some}
 use lib.ListN.{length}
 use lib.Dec.{leb, eqb}
 use borrow.Author.Tests.{leb-true, leb-false, eqb-true, eqb-false, le-leb, lt-leb, eq-eqb, ne_eqb}
+use Rattle.std.specs.Prelude.{Result, Ok, Err}
 use Rattle.lists.proofs.BoolLaws.{impossible}
 use Rattle.refusal.specs.declared.Refusal.{Refusal}
 use Rattle.refusal.specs.declared.Refusal.TheVariants as refusal
@@ -16,8 +17,6 @@ use Rattle.image.specs.Ranges.{range_in}
 use Rattle.image.specs.Profile.{point_in, role_in}
 use Rattle.image.specs.Check.{records_refusal}
 use Rattle.image.proofs.RecordsLaws.{records_mean, range_refused, entry_refused, none_refused}
-use Rattle.writer.specs.declared.Written.{Written}
-use Rattle.writer.specs.declared.Written.TheVariants as written
 use Rattle.writer.specs.Writable.{
   Shaped,
   CountsFit,
@@ -96,7 +95,7 @@ module _ (version : ℕ) (words : List ℕ) (p : Profile) (out : List ℕ) where
   by_shape false e = bad_shape (eqb-false _ _ e)
 
   -- what the answer and the buffer say
-  pub write_means : (a : Written) (b : List ℕ) → write_of words p room ≡ a → bytes_after version words p out ≡ b → WriteMeans version words p out a b
+  pub write_means : (a : Result ℕ Refusal) (b : List ℕ) → write_of words p room ≡ a → bytes_after version words p out ≡ b → WriteMeans version words p out a b
   unfolding write_within bytes_within write_refusal_within
   write_means a b e f = rw (← e, ← f) (by_shape _ refl)
 
@@ -108,7 +107,7 @@ module _ (version : ℕ) (words : List ℕ) (p : Profile) (out : List ℕ) where
 
   -- and back: where it is so, those are they
   pub means_write :
-      (a : Written) (b : List ℕ) → WriteMeans version words p out a b → (write_of words p room ≡ a) × (bytes_after version words p out ≡ b)
+      (a : Result ℕ Refusal) (b : List ℕ) → WriteMeans version words p out a b → (write_of words p room ≡ a) × (bytes_after version words p out ≡ b)
   unfolding write_refusal_within
   means_write _ _ (bad_shape n) = write_by (some refusal.Shape) (simp (ne_eqb (length words % words_per_range) 0 n))
   means_write _ _ (many_ranges t l) = write_by (some refusal.Header) (past_shape words p room t ∙ simp (lt-leb _ _ l))
@@ -120,7 +119,7 @@ module _ (version : ℕ) (words : List ℕ) (p : Profile) (out : List ℕ) where
   means_write _ _ (is_written w l) = write_by none (past_records words p room w ∙ simp (le-leb _ _ l))
 
   -- a refused call leaves the buffer as it was
-  pub write_kept : (r : Refusal) → write_of words p room ≡ written.Refused r → bytes_after version words p out ≡ out
+  pub write_kept : (r : Refusal) → write_of words p room ≡ Err r → bytes_after version words p out ≡ out
   write_kept r e = go _ refl
     where
       go : (o : Option Refusal) → write_refusal words p room ≡ o → bytes_after version words p out ≡ out
@@ -129,11 +128,11 @@ module _ (version : ℕ) (words : List ℕ) (p : Profile) (out : List ℕ) where
 
   -- an answer with a length: what was written
   pub written_means :
-      (len : ℕ) → write_of words p room ≡ written.Image len
+      (len : ℕ) → write_of words p room ≡ Ok len
       → Writable words p × (len ≡ bytes_needed words p) × (len ≤ length out) × (bytes_after version words p out ≡ bytes_by version words p out none)
-  written_means len e = go len _ (write_means (written.Image len) _ e refl)
+  written_means len e = go len _ (write_means (Ok len) _ e refl)
     where
       go :
-          (len : ℕ) (b : List ℕ) → WriteMeans version words p out (written.Image len) b
+          (len : ℕ) (b : List ℕ) → WriteMeans version words p out (Ok len) b
           → Writable words p × (len ≡ bytes_needed words p) × (len ≤ length out) × (b ≡ bytes_by version words p out none)
       go _ _ (is_written w l) = (w, refl, l, refl)

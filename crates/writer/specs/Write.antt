@@ -6,7 +6,7 @@
 --   write_refusal_within, write_refusal   13, then 2 for the counts, 3, 4, 12
 --   written_by, write_within, write_of    the answer of the writer: a refusal, or the length of the image
 --   bytes_by, bytes_within, bytes_after   what the buffer holds after writing
-use Rattle.std.specs.Prelude.{cond, ℕ, ◌/◌, ◌%◌, List, length, get_or, leb, eqb}
+use Rattle.std.specs.Prelude.{cond, ℕ, ◌/◌, ◌%◌, List, length, get_or, leb, eqb, Result, Ok, Err}
 use Rattle.std.proofs.Math.Option.{Option, none, some}
 use Rattle.lists.specs.Laid.{laid}
 use Rattle.refusal.specs.declared.Refusal.{Refusal}
@@ -18,8 +18,6 @@ use Rattle.image.specs.Ranges.{range_in}
 use Rattle.image.specs.Profile.{point_in, role_in}
 use Rattle.image.specs.Image.{image_of}
 use Rattle.image.specs.Check.{records_refusal}
-use Rattle.writer.specs.declared.Written.{Written}
-use Rattle.writer.specs.declared.Written.TheVariants as written
 
 abbrev pub ranges_in : List ℕ → ℕ
 ranges_in words = length words / words_per_range
@@ -46,14 +44,14 @@ write_refusal_within limit words p room =
 abbrev pub write_refusal : List ℕ → Profile → ℕ → Option Refusal
 write_refusal words p room = write_refusal_within max_entries words p room
 
-abbrev pub written_by : List ℕ → Profile → Option Refusal → Written
-written_by words p none = written.Image (bytes_needed words p)
-written_by words p (some r) = written.Refused r
+abbrev pub written_by : List ℕ → Profile → Option Refusal → Result ℕ Refusal
+written_by words p none = Ok (bytes_needed words p)
+written_by words p (some r) = Err r
 
-unfoldable pub write_within : ℕ → List ℕ → Profile → ℕ → Written
+unfoldable pub write_within : ℕ → List ℕ → Profile → ℕ → Result ℕ Refusal
 write_within limit words p room = written_by words p (write_refusal_within limit words p room)
 
-abbrev pub write_of : List ℕ → Profile → ℕ → Written
+abbrev pub write_of : List ℕ → Profile → ℕ → Result ℕ Refusal
 write_of words p room = write_within max_entries words p room
 
 abbrev pub bytes_by : ℕ → List ℕ → Profile → List ℕ → Option Refusal → List ℕ

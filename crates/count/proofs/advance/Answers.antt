@@ -1,7 +1,7 @@
 -- `count::advance` meets its contract, by the character's turn. Assumes nothing.
 use mathlib.Core.Path.{refl, ap, ◌∙◌}
 use native.Mathlib.Omega.{arith}
-use Rattle.grammar.specs.declared.Counted.TheVariants.{Refused}
+use Rattle.std.specs.Prelude.{Err}
 use Rattle.turns.proofs.ReachLaws.{here_small}
 use Rattle.count.proofs.RuleLaws.{rule_after, rule_waits}
 use Rattle.count.proofs.CountLaws.{counts_stop, counting_turn, counting_waits}
@@ -30,7 +30,7 @@ pub returns-then-turn-eq-WAITS : goal.returns-then-turn-eq-WAITS
 returns-then-turn-eq-WAITS c = advanced_waits _ c.requires.counting_as.counting.less c.requires.count_look c.requires.memo_of.0 _ (c.rule-then-turn-eq-WAITS.ensures ∙ rule_waits _) c.if-turn-eq-WAITS.true
 
 pub returns-then-turn-gt-JOINS : goal.returns-then-turn-gt-JOINS
-returns-then-turn-gt-JOINS c = ap Refused c.refuse_at.ensures ∙ counts_stop c.requires.counting_as.counting c.requires.count_look (omega (arith, c.if-turn-gt-JOINS.true))
+returns-then-turn-gt-JOINS c = ap Err c.refuse_at.ensures ∙ counts_stop c.requires.counting_as.counting c.requires.count_look (omega (arith, c.if-turn-gt-JOINS.true))
 
 pub overflow_add-r-2 : goal.overflow_add-r-2
 overflow_add-r-2 c =

@@ -2,7 +2,7 @@
 use Prim.Native.Nat.{ℕ, ◌≤◌}
 use mathlib.Core.Path.{ap, ◌∙◌}
 use native.Mathlib.Omega.{arith}
-use Rattle.grammar.specs.declared.Counted.TheVariants.{Refused}
+use Rattle.std.specs.Prelude.{Err}
 use Rattle.turns.proofs.ReachLaws.{Here, here, here_small}
 use Rattle.count.specs.Turns.{count_waiting}
 use Rattle.count.specs.Counting.{CountLook, CountingFrom, settled_run}
@@ -46,7 +46,7 @@ looked_next c =
     record { accepted = c.requires.image_value; here = stands (record { before = c.before.before.before.before.before.before.before.before.before.before.before.before; type_inv = record { text = c.type_inv.text; cells = c.type_inv.cells; image = c.type_inv.image } }); known = c.rule-turn-2.ensures ∙ rule_turn _ _ (omega (arith, c.requires.counting_as.counting.less)) }
 
 pub returns-then-c-eq0 : goal.returns-then-c-eq0
-returns-then-c-eq0 c = ap Refused c.refuse_at.ensures ∙ counts_ill c.requires.counting_as.counting (c.read_for_tokens-c.ensures.none c.if-c-eq0.true)
+returns-then-c-eq0 c = ap Err c.refuse_at.ensures ∙ counts_ill c.requires.counting_as.counting (c.read_for_tokens-c.ensures.none c.if-c-eq0.true)
 
 pub rule-turn-requires : goal.rule-turn-requires
 rule-turn-requires c = record { rules_value = c.requires.rules_value; row_lt_rule_rows = (omega (arith, c.requires.counting_as.counting.less), here_small c.requires.image_value (stands (goal.at.rule-turn-requires c).Else-c-eq0)) }
@@ -57,7 +57,7 @@ advance-requires c = record { rules_value = c.requires.rules_value; counting_as 
 pub returns-then-run-eq-WAITING : goal.returns-then-run-eq-WAITING
 returns-then-run-eq-WAITING c =
     let s = waits_here c.requires.counting_as.counting (looked (goal.at.returns-then-run-eq-WAITING c).After-rule-turn) c.if-turn-ne-SETTLES.false in
-    ap Refused c.refuse_at-then-run-eq-WAITING.ensures ∙ counts_left c.requires.counting_as.counting s.1 s.0 c.if-run-eq-WAITING.true
+    ap Err c.refuse_at-then-run-eq-WAITING.ensures ∙ counts_left c.requires.counting_as.counting s.1 s.0 c.if-run-eq-WAITING.true
 
 pub overflow_add-next : goal.overflow_add-next
 overflow_add-next c = omega (arith, counting_few (settled (goal.at.overflow_add-next c).Else-run-eq-WAITING _ c.requires.counting_as.counting), c.before.before.before.before.before.before.before.before.before.before.before.before.before.before)

@@ -5,6 +5,7 @@ use mathlib.Core.List.{List}
 use native.Mathlib.Nat.{zero-add}
 use native.Mathlib.Omega.{arith}
 use lib.ListN.{drop, length-drop}
+use Rattle.std.specs.Prelude.{Err}
 use Rattle.lists.specs.Filled.{Filled}
 use Rattle.lists.proofs.LaidLaws.{rest}
 use Rattle.character.specs.Traits.{token_traits}
@@ -12,7 +13,6 @@ use Rattle.character.specs.Read.{TokenTableOf}
 use Rattle.turns.specs.declared.First.{First}
 use Rattle.turns.specs.First.{first_of}
 use Rattle.grammar.proofs.BeforeLaws.{nothing_refused}
-use Rattle.token.specs.declared.Taken.TheVariants.{Refused}
 use Rattle.token.specs.Taken.{taken_of}
 use Rattle.token.proofs.TakenLaws.{taken_by, stops_ill, taken_past, taken_first, first_within}
 use Rattle.token.proofs.take_accepted.Goals as goal
@@ -56,7 +56,7 @@ returns-in-Nothing c = stands (goal.at.returns-in-Nothing c).After-first_token-f
 pub returns-in-IllFormed : goal.returns-in-IllFormed
 returns-in-IllFormed c =
     let b = (goal.at.returns-in-IllFormed c).After-first_token-first in
-    ap Refused c.refuse_at.ensures ∙ stops_ill _ _ _ (found b _ c.in-IllFormed.is) ∙ stands b _ c.in-IllFormed.is
+    ap Err c.refuse_at.ensures ∙ stops_ill _ _ _ (found b _ c.in-IllFormed.is) ∙ stands b _ c.in-IllFormed.is
 
 pub returns-in-NoToken : goal.returns-in-NoToken
 returns-in-NoToken c = stands (goal.at.returns-in-NoToken c).After-first_token-first _ c.in-NoToken.is

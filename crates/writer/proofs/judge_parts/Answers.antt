@@ -3,13 +3,13 @@ use Prim.Native.Nat.{ℕ, ◌≤◌, ◌<◌}
 use mathlib.Core.Path.{◌≡◌, ◌∙◌}
 use mathlib.Core.List.{List}
 use borrow.Author.Tests.{eq-eqb, ne_eqb, le-leb, lt-leb}
+use Rattle.std.specs.Prelude.{Ok, Err}
 use Rattle.refusal.specs.declared.Refusal.TheVariants as refusal
 use Rattle.image.specs.declared.Profile.{Profile}
 use Rattle.image.specs.Limits.{max_ranges, max_entries}
 use Rattle.image.specs.Ranges.{range_in, first_bad_range}
 use Rattle.image.specs.Profile.{point_in, role_in, first_bad_entry}
 use Rattle.image.proofs.RecordsLaws.{range_found, entry_found, none_found}
-use Rattle.writer.specs.declared.Written.TheVariants as written
 use Rattle.writer.specs.Write.{ranges_in, bytes_needed, write_within, write_of, write_refusal_within, write_refusal}
 use Rattle.writer.specs.Writable.{Shaped}
 use Rattle.writer.proofs.WriteLaws.{after_records, after_counts, past_counts, answer_by}
@@ -23,21 +23,21 @@ module _
     past : write_refusal words p room ≡ after_counts words p room
     past = past_counts words p room (record { shaped = s; few_ranges = n; few_entries = m })
 
-    range_bad : i < ranges_in words → written.Refused (refusal.Range i) ≡ write_of words p room
+    range_bad : i < ranges_in words → Err (refusal.Range i) ≡ write_of words p room
     range_bad l = answer_by words p room _ (past ∙ range_found _ _ _ _ _ _ i ei l)
 
     module _ (l : ranges_in words ≤ i) (j : ℕ) (ej : j ≡ first_bad_entry (point_in p) (role_in p) p.used) where
-      entry_bad : j < p.used → written.Refused (refusal.Entry j) ≡ write_of words p room
+      entry_bad : j < p.used → Err (refusal.Entry j) ≡ write_of words p room
       entry_bad k = answer_by words p room _ (past ∙ entry_found _ _ _ _ _ _ i ei l j ej k)
 
       none_bad : p.used ≤ j → write_refusal words p room ≡ after_records words p room
       none_bad k = past ∙ none_found _ _ _ _ _ _ i ei l j ej k
 
-      lacks_room : p.used ≤ j → room < bytes_needed words p → written.Refused (refusal.Buffer (bytes_needed words p)) ≡ write_of words p room
+      lacks_room : p.used ≤ j → room < bytes_needed words p → Err (refusal.Buffer (bytes_needed words p)) ≡ write_of words p room
       unfolding write_within
       lacks_room k r = rw (none_bad k) (simp (lt-leb _ _ r))
 
-      has_room : p.used ≤ j → bytes_needed words p ≤ room → written.Image (bytes_needed words p) ≡ write_of words p room
+      has_room : p.used ≤ j → bytes_needed words p ≤ room → Ok (bytes_needed words p) ≡ write_of words p room
       unfolding write_within
       has_room k r = rw (none_bad k) (simp (le-leb _ _ r))
 
