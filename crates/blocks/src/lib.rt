@@ -12,6 +12,7 @@ ghost use Rattle.character.specs.Read.{MemoOf};
 ghost use Rattle.blocks.specs.Blocks.{block_size, block_count, Fits, Learning, Blank, HeldAt, FoundAt, BlockLong, Meets, Put, RowPut, Learns};
 
 use character::Memo;
+use image::ClassImage;
 
 // The code points of a block.
 const BLOCK: usize = 64;
@@ -126,8 +127,7 @@ pub fn known_four<'a>(index: &'a [u8], cells: &'a [u8], text: &'a [u8], at: usiz
 }
 
 // Fills the rows of ASCII and, if they have room, those of Start. The first row that is free.
-pub fn begin(image: &[u8], cells: &mut [u8]) -> usize
-    requires image_value { refusal_of image.now ≡ none }
+pub fn begin(image: &ClassImage, cells: &mut [u8]) -> usize
     requires in_bounds { (128 ≤ length cells.old) × Blank cells.old }
     ensures { ((index : List ℕ) → Blank index → Learning image.now index cells.new result) × (length cells.new ≡ length cells.old) }
 {

@@ -2,9 +2,7 @@
 #![tactic(auto)]
 
 ghost use Rattle.std.specs.Prelude.{◌≡◌, List, ℕ, ◌+◌, ◌-◌, ◌/◌, ◌%◌, ◌≤◌, ◌<◌, length, ◌&&◌, leb};
-ghost use Rattle.std.proofs.Math.Option.{none};
 ghost use Rattle.image.specs.Profile.{is_medial, is_hashtag};
-ghost use Rattle.image.specs.Check.{refusal_of};
 ghost use Rattle.image.specs.Records.{record_at, record_count};
 ghost use Rattle.image.specs.declared.records.Section.TheVariants.{Ranges, Entries};
 ghost use Rattle.image.specs.Placed.{Passed, Placed};
@@ -14,6 +12,7 @@ ghost use Rattle.character.specs.Traits.{medial_part, hashtag_part, token_traits
 ghost use Rattle.character.specs.Stretch.{StretchOf, WhiteStretchOf, Shared};
 ghost use Rattle.character.specs.Read.{MemoOf, MemoAt, TableOf, TokenTableOf, Settled, ascii_character, ReadAs, ReadTokenAs};
 
+use image::ClassImage;
 use image::records::Section;
 
 // The class White; in traits its number is that of blanks, and line ends and marks have one each.
@@ -157,32 +156,30 @@ pub fn token_traits(traits: u32) -> u32
 }
 
 // The first number after record i - 1 of a section, where that record ends before x.
-fn gap_start(image: &[u8], section: Section, i: usize, x: u32) -> u32
-    requires image_value { refusal_of image.now ≡ none }
+fn gap_start(image: &ClassImage, section: Section, i: usize, x: u32) -> u32
     requires passed { Passed (record_at image.now section) (record_count image.now section) i x }
     ensures { (result ≤ x) × (0 < i → (record_at image.now section (i - 1)).last < result) }
 {
     if i == 0 {
         return 0;
     }
-    let r = image::records::record_at(image, section, i - 1);
+    let r = image.record_at(section, i - 1);
     r.last + 1
 }
 
 // The stretch of x in a section, of which the place of x is i.
-fn stretch_at(image: &[u8], section: Section, i: usize, x: u32) -> Stretch
-    requires image_value { refusal_of image.now ≡ none }
+fn stretch_at(image: &ClassImage, section: Section, i: usize, x: u32) -> Stretch
     requires placed { Placed (record_at image.now section) (record_count image.now section) i x }
     ensures { StretchOf image.now section x result }
 {
-    if image::records::count_records(image, section) <= i {
+    if image.count_records(section) <= i {
         return Stretch {
             first: gap_start(image, section, i, x),
             last: 0xFFFFFFFF,
             class: 0,
         };
     }
-    let r = image::records::record_at(image, section, i);
+    let r = image.record_at(section, i);
     if x < r.first {
         return Stretch {
             first: gap_start(image, section, i, x),
@@ -198,15 +195,14 @@ fn stretch_at(image: &[u8], section: Section, i: usize, x: u32) -> Stretch
 }
 
 // The place of x in a section of an accepted image, by halving. A loop, for speed: only the place is wanted here, not the steps.
-fn place_of(image: &[u8], section: Section, x: u32) -> usize
-    requires { refusal_of image.now ≡ none }
+fn place_of(image: &ClassImage, section: Section, x: u32) -> usize
     ensures { Placed (record_at image.now section) (record_count image.now section) result x }
 {
     let mut lo = 0;
-    let mut hi = image::records::count_records(image, section);
+    let mut hi = image.count_records(section);
     while lo < hi {
         let mid = (lo + hi) / 2;
-        let r = image::records::record_at(image, section, mid);
+        let r = image.record_at(section, mid);
         if r.last < x {
             lo = mid + 1;
             continue;
@@ -217,15 +213,14 @@ fn place_of(image: &[u8], section: Section, x: u32) -> usize
 }
 
 // The place of x in a section, from one on that x has passed.
-fn next_place(image: &[u8], section: Section, from: usize, x: u32) -> usize
-    requires image_value { refusal_of image.now ≡ none }
+fn next_place(image: &ClassImage, section: Section, from: usize, x: u32) -> usize
     requires passed { Passed (record_at image.now section) (record_count image.now section) from x }
     ensures { Placed (record_at image.now section) (record_count image.now section) result x }
 {
-    let count = image::records::count_records(image, section);
+    let count = image.count_records(section);
     let mut i = from;
     while i < count {
-        let r = image::records::record_at(image, section, i);
+        let r = image.record_at(section, i);
         if x <= r.last {
             break;
         }
@@ -235,8 +230,7 @@ fn next_place(image: &[u8], section: Section, from: usize, x: u32) -> usize
 }
 
 // The stretch of x in a section of an accepted image.
-fn find_stretch(image: &[u8], section: Section, x: u32) -> Stretch
-    requires { refusal_of image.now ≡ none }
+fn find_stretch(image: &ClassImage, section: Section, x: u32) -> Stretch
     ensures { StretchOf image.now section x result }
 {
     let i = place_of(image, section, x);
@@ -245,8 +239,7 @@ fn find_stretch(image: &[u8], section: Section, x: u32) -> Stretch
 
 // The code points around `x` that have its class in the ranges, its role and, where it is White after the profile, its kind of White: what
 // its stretches of both sections share.
-fn memo_of(image: &[u8], class: Stretch, role: Stretch, x: u32) -> Memo
-    requires image_value { refusal_of image.now ≡ none }
+fn memo_of(image: &ClassImage, class: Stretch, role: Stretch, x: u32) -> Memo
     requires stretch_of { StretchOf image.now Ranges x class }
     requires stretch_of_2 { StretchOf image.now Entries x role }
     ensures { MemoAt image.now x result }
@@ -270,8 +263,7 @@ fn memo_of(image: &[u8], class: Stretch, role: Stretch, x: u32) -> Memo
 }
 
 // The same by a search for both stretches.
-fn search(image: &[u8], x: u32) -> Memo
-    requires { refusal_of image.now ≡ none }
+fn search(image: &ClassImage, x: u32) -> Memo
     ensures { MemoAt image.now x result }
 {
     let class = find_stretch(image, Section::Ranges, x);
@@ -290,8 +282,7 @@ fn is_known(memo: Memo, x: u32) -> bool
 }
 
 // A place that `x` has passed in a section: the first one for 0, without a search.
-fn passed_place(image: &[u8], section: Section, x: u32) -> usize
-    requires { refusal_of image.now ≡ none }
+fn passed_place(image: &ClassImage, section: Section, x: u32) -> usize
     ensures { Passed (record_at image.now section) (record_count image.now section) result x }
 {
     if x == 0 {
@@ -301,8 +292,7 @@ fn passed_place(image: &[u8], section: Section, x: u32) -> usize
 }
 
 // The traits of the code points from `base` on, as many as `out` has room for: a search in each section, then a walk from stretch to stretch.
-pub fn fill_part(image: &[u8], base: u32, out: &mut [u8])
-    requires image_value { refusal_of image.now ≡ none }
+pub fn fill_part(image: &ClassImage, base: u32, out: &mut [u8])
     requires out_bound { base + length out.old ≤ 0x110000 }
     ensures { Filled (length out.old) (λ (j : ℕ). traits_of image.now (base + j)) out.new (length out.old) }
 {
@@ -325,8 +315,7 @@ pub fn fill_part(image: &[u8], base: u32, out: &mut [u8])
 }
 
 // The traits of the ASCII code points.
-pub fn fill_table(image: &[u8]) -> [u8; 128]
-    requires { refusal_of image.now ≡ none }
+pub fn fill_table(image: &ClassImage) -> [u8; 128]
     ensures { TableOf image.now result }
 {
     let mut table = [0u8; 128];
@@ -335,8 +324,7 @@ pub fn fill_table(image: &[u8]) -> [u8; 128]
 }
 
 // What the token rules know of the code points from `base` on, as many as `out` has room for, each with `tag` more.
-pub fn fill_cells(image: &[u8], base: u32, tag: u8, out: &mut [u8])
-    requires image_value { refusal_of image.now ≡ none }
+pub fn fill_cells(image: &ClassImage, base: u32, tag: u8, out: &mut [u8])
     requires out_bound { base + length out.old ≤ 0x110000 }
     requires tag_bound { tag ≤ 64 }
     ensures { Filled (length out.old) (λ (j : ℕ). tag + token_traits image.now (base + j)) out.new (length out.old) }
@@ -350,8 +338,7 @@ pub fn fill_cells(image: &[u8], base: u32, tag: u8, out: &mut [u8])
 }
 
 // The character of a packed sequence: 8 times its code point, and its length.
-fn settle(image: &[u8], memo: Memo, packed: usize) -> Character
-    requires image_value { refusal_of image.now ≡ none }
+fn settle(image: &ClassImage, memo: Memo, packed: usize) -> Character
     requires memo_of { MemoOf image.now memo }
     requires packed_bound { packed / 8 < 0x110000 }
     ensures { Settled image.now packed result }
@@ -375,8 +362,7 @@ fn settle(image: &[u8], memo: Memo, packed: usize) -> Character
 }
 
 // The character of `text` at a place before its end, by decoding it.
-pub fn read_decoded<'a>(image: &'a [u8], memo: Memo, text: &'a [u8], at: usize) -> Character
-    requires image_value { refusal_of image.now ≡ none }
+pub fn read_decoded<'a>(image: &ClassImage, memo: Memo, text: &'a [u8], at: usize) -> Character
     requires memo_of { MemoOf image.now memo }
     requires at_in_bounds { at < length text.now }
     ensures { ReadAs image.now text.now at result }
@@ -399,13 +385,12 @@ fn ascii(b: u8, traits: u8, memo: Memo) -> Character
 
 // The character of `text` at a place before its end: ASCII by the table.
 pub fn read<'a>(
-    image: &'a [u8],
+    image: &ClassImage,
     table: &'a [u8; 128],
     memo: Memo,
     text: &'a [u8],
     at: usize,
 ) -> Character
-    requires image_value { refusal_of image.now ≡ none }
     requires table_of { TableOf image.now table.now }
     requires memo_of { MemoOf image.now memo }
     requires at_in_bounds { at < length text.now }
@@ -420,13 +405,12 @@ pub fn read<'a>(
 
 // The same with what the token rules know in place of all traits. The table holds just that: no mask costs time where a text is ASCII.
 pub fn read_for_tokens<'a>(
-    image: &'a [u8],
+    image: &ClassImage,
     table: &'a [u8],
     memo: Memo,
     text: &'a [u8],
     at: usize,
 ) -> Character
-    requires image_value { refusal_of image.now ≡ none }
     requires token_table_of { TokenTableOf image.now table.now }
     requires memo_of { MemoOf image.now memo }
     requires at_in_bounds { at < length text.now }

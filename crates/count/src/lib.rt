@@ -5,7 +5,6 @@
 
 ghost use Rattle.std.specs.Prelude.{◌≡◌, List, ℕ, ◌+◌, ◌-◌, ◌≤◌, ◌<◌, length, get_or};
 ghost use Rattle.std.proofs.Math.Option.{none};
-ghost use Rattle.image.specs.Check.{refusal_of};
 ghost use Rattle.character.specs.Read.{MemoOf, TokenTableOf};
 ghost use Rattle.blocks.specs.Blocks.{Cached, Learning, Learnt};
 ghost use Rattle.grammar.specs.Counted.{count_through};
@@ -18,6 +17,7 @@ ghost use Rattle.count.specs.Rules.{rule_rows, rule_for, rule_table};
 use blocks::BLOCKS;
 use character::{Character, Memo};
 use grammar::Counted;
+use image::ClassImage;
 use refusal::Refusal;
 
 // The state: nothing yet, 0; an identifier; a medial Syntax right after one, 2; blanks, 3; line ends, 4; a mark after an identifier;
@@ -235,7 +235,7 @@ pub fn begin(text: &[u8], rows: usize) -> Run
 
 // What a character does that was read, where it settles nothing: `turn` is its own.
 fn advance<'a>(
-    image: &'a [u8],
+    image: &ClassImage,
     rules: &'a [u8; 592],
     text: &'a [u8],
     run: Run,
@@ -282,13 +282,12 @@ fn advance<'a>(
 
 // Reads one character, whatever it is and does.
 pub fn look<'a>(
-    image: &'a [u8],
+    image: &ClassImage,
     cells: &'a [u8],
     rules: &'a [u8; 592],
     text: &'a [u8],
     run: Run,
 ) -> Going
-    requires image_value { refusal_of image.now ≡ none }
     requires token_table_of { TokenTableOf image.now cells.now }
     requires rules_value { rules.now ≡ rule_table }
     requires counting_as { CountingAs image.now text.now run }
@@ -380,7 +379,7 @@ pub fn four_steps<'a>(
 // Counts on as far as what characters do is known from the one before. The row is the traits of the last character, or of one that leads to
 // the state at first; `last` is the place of a medial that waits.
 fn run_count<'a>(
-    image: &'a [u8],
+    image: &ClassImage,
     index: &'a [u8],
     cells: &'a [u8],
     rules: &'a [u8; 592],
@@ -388,7 +387,6 @@ fn run_count<'a>(
     row: usize,
     run: Run,
 ) -> Run
-    requires image_value { refusal_of image.now ≡ none }
     requires cached { Cached image.now index.now cells.now }
     requires rules_value { rules.now ≡ rule_table }
     requires row_bound { (row < 16) × (run.state ≡ row_state row) }
@@ -493,14 +491,13 @@ fn finish(text: &[u8], run: Run) -> Counted
 
 // Counts on to the text's end.
 pub fn count_on<'a>(
-    image: &'a [u8],
+    image: &ClassImage,
     index: &mut [u8],
     cells: &mut [u8],
     rules: &'a [u8; 592],
     text: &'a [u8],
     run: Run,
 ) -> Counted
-    requires image_value { refusal_of image.now ≡ none }
     requires learning { Learning image.now index.old cells.old run.rows }
     requires rules_value { rules.now ≡ rule_table }
     requires counting_as { CountingAs image.now text.now run }

@@ -1,18 +1,16 @@
-// Tokens: what is judged before a text, a record and its words, what counting answers, and the refusal where no token begins.
+// Tokens: what is judged before a text, a record and its words, and the refusal where no token begins.
 // What tokens are, and what the token calls answer, is in `specs/`.
 #![tactic(auto)]
 
 ghost use Rattle.std.specs.Prelude.{◌≡◌, ◌≤◌, length, drop};
 ghost use Rattle.lists.specs.Laid.{laid};
-ghost use Rattle.std.proofs.Math.Option.{none};
 ghost use Rattle.utf8.specs.Text.{text_of};
-ghost use Rattle.image.specs.Check.{refusal_of};
-ghost use Rattle.given.specs.Given.{judgement_of};
+ghost use Rattle.image.specs.Opened.{opened_by, judgement_of};
 ghost use Rattle.grammar.specs.Record.{record_size, token_words};
 ghost use Rattle.grammar.specs.Before.{max_text, before_text};
 ghost use Rattle.grammar.specs.Counted.{stop_refusal};
 
-use given::Judgement;
+use image::ClassImage;
 use refusal::Refusal;
 use utf8::Text;
 
@@ -22,33 +20,28 @@ pub const MAX_TEXT: usize = 1048576;
 // The words of a token's record, and of a hashtag's.
 pub const RECORD_WORDS: usize = 4;
 
-// How many records there are, of tokens or of hashtags, or why not.
-#[derive(Drop)]
-pub enum Counted {
-    Refused(Refusal),
-    Records(usize),
-}
-
-// Judges a text's length, under an image that was checked.
-pub fn judge_checked<'a>(image: &'a [u8], text: &'a [u8], most: usize) -> Judgement
-    requires { refusal_of image.now ≡ none }
+// Judges a text's length, under an image that was accepted.
+pub fn judge_checked(image: &ClassImage, text: &[u8], most: usize) -> Result<(), Refusal>
     ensures { result ≡ judgement_of (before_text most image.now text.now) }
 {
+    image.recall();
     if most < text.len() {
-        return Judgement::Refused(Refusal::TextLength);
+        return Err(Refusal::TextLength);
     }
-    Judgement::Accepted
+    Ok(())
 }
 
-// Judges what is given with a text, then its length.
-pub fn judge_text<'a>(image: &'a [u8], text: &'a [u8], most: usize) -> Judgement
-    ensures { result ≡ judgement_of (before_text most image.now text.now) }
+// Judges what is given with a text, then its length: the image, or the refusal.
+pub fn judge_text<'a>(
+    image: &'a [u8],
+    text: &[u8],
+    most: usize,
+) -> Result<ClassImage<'a>, Refusal>
+    ensures { result ≡ opened_by image.now (before_text most image.now text.now) }
 {
-    let given = given::judge_given(image);
-    match given {
-        Judgement::Refused(r) => Judgement::Refused(r),
-        Judgement::Accepted => judge_checked(image, text, most),
-    }
+    let image = given::judge_given(image)?;
+    judge_checked(&image, text, most)?;
+    Ok(image)
 }
 
 // The refusal where no sequence or no token begins at a place: the text from there on is first checked as UTF-8.

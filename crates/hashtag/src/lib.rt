@@ -9,7 +9,6 @@ ghost use Rattle.utf8.specs.declared.Text.TheVariants.{WellFormed};
 ghost use Rattle.utf8.specs.Head.{step_of, IllHead};
 ghost use Rattle.utf8.specs.Text.{characters_at, width_of, text_of};
 ghost use Rattle.line.specs.Line.{LineAt};
-ghost use Rattle.image.specs.Check.{refusal_of};
 ghost use Rattle.given.specs.Given.{judgement_of};
 ghost use Rattle.character.specs.Traits.{part_class};
 ghost use Rattle.character.specs.Read.{TableOf};
@@ -24,6 +23,7 @@ ghost use Rattle.hashtag.specs.Seek.{continues_first, free_at, stop_for, StopsOf
 
 use given::Judgement;
 use grammar::{Counted, MAX_TEXT, RECORD_WORDS};
+use image::ClassImage;
 use refusal::Refusal;
 
 // The kind of a hashtag in its record.
@@ -94,8 +94,7 @@ fn continues(code: u32, traits: u32) -> bool
 }
 
 // Whether the character at a place is hashtag Continue; there may be none.
-fn continues_at<'a>(image: &'a [u8], table: &'a [u8; 128], text: &'a [u8], at: usize) -> bool
-    requires image_value { refusal_of image.now ≡ none }
+fn continues_at<'a>(image: &ClassImage, table: &'a [u8; 128], text: &'a [u8], at: usize) -> bool
     requires table_of { TableOf image.now table.now }
     ensures { result ≡ continues_first image.now (characters_at text.now at) }
 {
@@ -110,8 +109,7 @@ fn continues_at<'a>(image: &'a [u8], table: &'a [u8; 128], text: &'a [u8], at: u
 }
 
 // One past the run of hashtag Continue that begins at a place.
-fn find_run_end<'a>(image: &'a [u8], table: &'a [u8; 128], text: &'a [u8], from: usize) -> usize
-    requires image_value { refusal_of image.now ≡ none }
+fn find_run_end<'a>(image: &ClassImage, table: &'a [u8; 128], text: &'a [u8], from: usize) -> usize
     requires table_of { TableOf image.now table.now }
     requires from_in_bounds { from ≤ length text.now }
     ensures { (result ≡ from + width_of (run_of image.now (characters_at text.now from))) × (result ≤ length text.now) }
@@ -255,13 +253,12 @@ fn is_sign_at(text: &[u8], at: usize) -> bool
 
 // Whether no hashtag Continue stands right before a place; the character there begins at `before`, or there is none and the two are the same.
 fn is_free<'a>(
-    image: &'a [u8],
+    image: &ClassImage,
     table: &'a [u8; 128],
     text: &'a [u8],
     before: usize,
     at: usize,
 ) -> bool
-    requires image_value { refusal_of image.now ≡ none }
     requires table_of { TableOf image.now table.now }
     ensures { result ≡ free_at image.now text.now before at }
 {
@@ -273,13 +270,12 @@ fn is_free<'a>(
 
 // Whether a sign begins a hashtag: no hashtag Continue stands right before it, and one right after it.
 fn begins<'a>(
-    image: &'a [u8],
+    image: &ClassImage,
     table: &'a [u8; 128],
     text: &'a [u8],
     before: usize,
     sign: Sign,
 ) -> bool
-    requires image_value { refusal_of image.now ≡ none }
     requires table_of { TableOf image.now table.now }
     ensures { result ≡ (free_at image.now text.now before sign.at && continues_first image.now (characters_at text.now sign.next)) }
 {
@@ -292,13 +288,12 @@ fn begins<'a>(
 // The next hashtag from a place on, where no hashtag Continue stands right before that place. `before` is where the character right before
 // `at` begins, or `at` itself where there is none.
 fn seek<'a>(
-    image: &'a [u8],
+    image: &ClassImage,
     table: &'a [u8; 128],
     stops: &'a [u8; 256],
     text: &'a [u8],
     from: usize,
 ) -> Sign
-    requires image_value { refusal_of image.now ≡ none }
     requires table_of { TableOf image.now table.now }
     requires stops_of { StopsOf false stops.now }
     requires from_in_bounds { from ≤ length text.now }
@@ -347,14 +342,13 @@ fn step_back(text: &[u8], from: usize, to: usize) -> usize
 // As `seek`, in a text that is well-formed from the place on, which has this line: bytes at which it doesn't stop are passed over, whatever
 // character they are of.
 fn seek_known<'a>(
-    image: &'a [u8],
+    image: &ClassImage,
     table: &'a [u8; 128],
     stops: &'a [u8; 256],
     text: &'a [u8],
     from: usize,
     mut line: u32,
 ) -> FoundSign
-    requires image_value { refusal_of image.now ≡ none }
     requires table_of { TableOf image.now table.now }
     requires stops_of { StopsOf true stops.now }
     requires text_len_bound { length text.now ≤ max_text }
@@ -400,8 +394,7 @@ fn close(text: &[u8], at: usize, count: usize) -> Counted
 }
 
 // The number of hashtags.
-fn count_hashtags<'a>(image: &'a [u8], table: &'a [u8; 128], text: &'a [u8]) -> Counted
-    requires image_value { refusal_of image.now ≡ none }
+fn count_hashtags<'a>(image: &ClassImage, table: &'a [u8; 128], text: &'a [u8]) -> Counted
     requires table_of { TableOf image.now table.now }
     ensures { result ≡ counted_through image.now text.now }
 {
@@ -420,8 +413,7 @@ fn count_hashtags<'a>(image: &'a [u8], table: &'a [u8; 128], text: &'a [u8]) -> 
 }
 
 // The words of all hashtags of a well-formed text.
-fn write_hashtags<'a>(image: &'a [u8], table: &'a [u8; 128], text: &'a [u8], out: &mut [u32])
-    requires image_value { refusal_of image.now ≡ none }
+fn write_hashtags<'a>(image: &ClassImage, table: &'a [u8; 128], text: &'a [u8], out: &mut [u32])
     requires table_of { TableOf image.now table.now }
     requires text_len_bound { length text.now ≤ max_text }
     requires text_value { text_of text.now ≡ WellFormed }
@@ -447,7 +439,7 @@ fn write_hashtags<'a>(image: &'a [u8], table: &'a [u8; 128], text: &'a [u8], out
 }
 
 // The list of the hashtags of a text that may be read.
-fn list_accepted<'a>(image: &'a [u8], text: &'a [u8], out: &mut [u32]) -> Counted
+fn list_accepted<'a>(image: &ClassImage, text: &'a [u8], out: &mut [u32]) -> Counted
     requires { before_text max_text image.now text.now ≡ none }
     ensures value { result ≡ counted_by (hashtag_list_of image.now text.now (length out.old)) }
     ensures out_after { out.new ≡ hashtag_list_words image.now text.now out.old }
@@ -467,7 +459,7 @@ fn list_accepted<'a>(image: &'a [u8], text: &'a [u8], out: &mut [u32]) -> Counte
 }
 
 // The list of a text's hashtags, after what is judged before it.
-fn list_judged<'a>(before: Judgement, image: &'a [u8], text: &'a [u8], out: &mut [u32]) -> Counted
+fn list_judged<'a>(before: Judgement, image: &ClassImage, text: &'a [u8], out: &mut [u32]) -> Counted
     requires { before ≡ judgement_of (before_text max_text image.now text.now) }
     ensures value { result ≡ counted_by (hashtag_list_of image.now text.now (length out.old)) }
     ensures out_after { out.new ≡ hashtag_list_words image.now text.now out.old }
@@ -479,8 +471,7 @@ fn list_judged<'a>(before: Judgement, image: &'a [u8], text: &'a [u8], out: &mut
 }
 
 // The list of a text's hashtags, written whole, under an image that was checked. After a refusal the buffer is as it was.
-pub fn list_checked<'a>(image: &'a [u8], text: &'a [u8], out: &mut [u32]) -> Counted
-    requires { refusal_of image.now ≡ none }
+pub fn list_checked<'a>(image: &ClassImage, text: &'a [u8], out: &mut [u32]) -> Counted
     ensures value { result ≡ counted_by (hashtag_list_of image.now text.now (length out.old)) }
     ensures out_after { out.new ≡ hashtag_list_words image.now text.now out.old }
 {
@@ -489,7 +480,7 @@ pub fn list_checked<'a>(image: &'a [u8], text: &'a [u8], out: &mut [u32]) -> Cou
 }
 
 // The list of a text's hashtags, written whole. After a refusal the buffer is as it was.
-pub fn list<'a>(image: &'a [u8], text: &'a [u8], out: &mut [u32]) -> Counted
+pub fn list<'a>(image: &ClassImage, text: &'a [u8], out: &mut [u32]) -> Counted
     ensures value { result ≡ counted_by (hashtag_list_of image.now text.now (length out.old)) }
     ensures out_after { out.new ≡ hashtag_list_words image.now text.now out.old }
 {

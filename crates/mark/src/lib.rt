@@ -4,8 +4,6 @@
 #![tactic(auto)]
 
 ghost use Rattle.std.specs.Prelude.{◌≡◌, List, ℕ, ◌+◌, ◌-◌, ◌*◌, ◌≤◌, ◌<◌, length, set};
-ghost use Rattle.std.proofs.Math.Option.{none};
-ghost use Rattle.image.specs.Check.{refusal_of};
 ghost use Rattle.blocks.specs.Blocks.{Cached, Learning};
 ghost use Rattle.grammar.specs.Before.{max_text};
 ghost use Rattle.turns.specs.Starts.{Started};
@@ -17,6 +15,7 @@ ghost use Rattle.mark.specs.Marking.{Marking, Marked, LearningOn, Putting, FourA
 
 use blocks::BLOCKS;
 use count::{Going, NO_ROW, ODD, ROW_STATES, Run, STATE_TRAITS, WAITING};
+use image::ClassImage;
 
 // So many starts are left free, for the tokens that one character may complete and for the end of the last.
 const MARGIN: usize = 4;
@@ -69,7 +68,7 @@ fn put_four<'a>(
 // Marks on as far as what characters do is known from the one before, and starts are free. Each character is marked as if a token began
 // with it: where none begins, the next is marked over it. One arm for each length, in one function: the loop's numbers stay in registers.
 fn run_mark<'a>(
-    image: &'a [u8],
+    image: &ClassImage,
     index: &'a [u8],
     cells: &'a [u8],
     rules: &'a [u8; 592],
@@ -78,7 +77,6 @@ fn run_mark<'a>(
     done: usize,
     run: Run,
 ) -> Run
-    requires image_value { refusal_of image.now ≡ none }
     requires cached { Cached image.now index.now cells.now }
     requires rules_value { rules.now ≡ rule_table }
     requires text_len_bound { length text.now ≤ max_text }
@@ -209,7 +207,7 @@ fn put_starts(rules: &[u8; 592], starts: &mut [u32], done: usize, run: Run, next
 
 // Marks on, to the text's end or until starts run out.
 pub fn mark_on<'a>(
-    image: &'a [u8],
+    image: &ClassImage,
     index: &mut [u8],
     cells: &mut [u8],
     rules: &'a [u8; 592],
@@ -218,7 +216,6 @@ pub fn mark_on<'a>(
     done: usize,
     run: Run,
 ) -> Going
-    requires image_value { refusal_of image.now ≡ none }
     requires learning { Learning image.now index.old cells.old run.rows }
     requires rules_value { rules.now ≡ rule_table }
     requires text_len_bound { length text.now ≤ max_text }
@@ -254,7 +251,7 @@ pub fn mark_on<'a>(
 
 // Marks a text, which isn't empty, from its front.
 pub fn mark_first<'a>(
-    image: &'a [u8],
+    image: &ClassImage,
     index: &mut [u8],
     cells: &mut [u8],
     rules: &'a [u8; 592],
@@ -262,7 +259,6 @@ pub fn mark_first<'a>(
     starts: &mut [u32],
     rows: usize,
 ) -> Going
-    requires image_value { refusal_of image.now ≡ none }
     requires learning { Learning image.now index.old cells.old rows }
     requires rules_value { rules.now ≡ rule_table }
     requires text_nonzero { (0 < length text.now) × (length text.now ≤ max_text) }

@@ -4,7 +4,6 @@
 
 ghost use Rattle.std.specs.Prelude.{◌≡◌, ◌≤◌, ◌<◌, length, leb};
 ghost use Rattle.std.proofs.Math.Option.{none};
-ghost use Rattle.image.specs.Check.{refusal_of};
 ghost use Rattle.given.specs.Given.{judgement_of};
 ghost use Rattle.lists.specs.Laid.{laid};
 ghost use Rattle.blocks.specs.Blocks.{Blank, Learnt};
@@ -22,6 +21,7 @@ use blocks::BLOCKS;
 use count::{Going, Run, WAITING};
 use given::Judgement;
 use grammar::{Counted, MAX_TEXT, RECORD_WORDS};
+use image::ClassImage;
 use refusal::Refusal;
 use turns::First;
 use write::Written;
@@ -47,8 +47,7 @@ pub enum Taken {
 }
 
 // The number of a text's tokens under a checked image. The index and the cells come blank.
-fn count_with<'a>(image: &'a [u8], index: &mut [u8], cells: &mut [u8], text: &'a [u8]) -> Counted
-    requires image_value { refusal_of image.now ≡ none }
+fn count_with<'a>(image: &ClassImage, index: &mut [u8], cells: &mut [u8], text: &'a [u8]) -> Counted
     requires blank { Blank index.old × Blank cells.old × (128 ≤ length cells.old) }
     ensures { result ≡ count_through image.now text.now }
 {
@@ -59,7 +58,7 @@ fn count_with<'a>(image: &'a [u8], index: &mut [u8], cells: &mut [u8], text: &'a
 }
 
 // The number of a text's tokens, after what is judged before it.
-fn count_judged<'a>(before: Judgement, image: &'a [u8], text: &'a [u8]) -> Counted
+fn count_judged<'a>(before: Judgement, image: &ClassImage, text: &'a [u8]) -> Counted
     requires { before ≡ judgement_of (before_text max_text image.now text.now) }
     ensures { result ≡ counted_by (count_of image.now text.now) }
 {
@@ -79,15 +78,14 @@ fn count_judged<'a>(before: Judgement, image: &'a [u8], text: &'a [u8]) -> Count
 }
 
 // The number of a text's tokens, under an image that was checked.
-pub fn count_checked<'a>(image: &'a [u8], text: &'a [u8]) -> Counted
-    requires { refusal_of image.now ≡ none }
+pub fn count_checked<'a>(image: &ClassImage, text: &'a [u8]) -> Counted
     ensures { result ≡ counted_by (count_of image.now text.now) }
 {
     count_judged(grammar::judge_checked(image, text, MAX_TEXT), image, text)
 }
 
 // The number of a text's tokens.
-pub fn count<'a>(image: &'a [u8], text: &'a [u8]) -> Counted
+pub fn count<'a>(image: &ClassImage, text: &'a [u8]) -> Counted
     ensures { result ≡ counted_by (count_of image.now text.now) }
 {
     count_judged(grammar::judge_text(image, text, MAX_TEXT), image, text)
@@ -102,7 +100,7 @@ fn is_room(words: usize, count: usize) -> bool
 
 // Marks the text's end, in a run that has come there, and a medial before it that waits. How many tokens start from number `done` on.
 fn end_starts<'a>(
-    image: &'a [u8],
+    image: &ClassImage,
     rules: &'a [u8; 592],
     text: &'a [u8],
     starts: &mut [u32],
@@ -128,7 +126,7 @@ fn end_starts<'a>(
 
 // Writes the records of an accepted text's tokens: those that are marked, then those that are marked next, to the text's end.
 fn write_all<'a>(
-    image: &'a [u8],
+    image: &ClassImage,
     index: &mut [u8],
     cells: &mut [u8],
     text: &'a [u8],
@@ -137,7 +135,6 @@ fn write_all<'a>(
     total: usize,
     run: Run,
 )
-    requires image_value { refusal_of image.now ≡ none }
     requires learnt { Learnt image.now index.old cells.old }
     requires listing { Listing image.now text.now out.old total }
     requires marking { Marking image.now text.now starts.old 0 run }
@@ -171,14 +168,13 @@ fn write_all<'a>(
 // The list of a text's tokens under a checked image. The index and the cells come blank. The text is marked as far as there are starts, then
 // counted to its end; only then is anything written.
 fn list_with<'a>(
-    image: &'a [u8],
+    image: &ClassImage,
     index: &mut [u8],
     cells: &mut [u8],
     starts: &mut [u32],
     text: &'a [u8],
     out: &mut [u32],
 ) -> Counted
-    requires image_value { refusal_of image.now ≡ none }
     requires blank { Blank index.old × Blank cells.old × (128 ≤ length cells.old) }
     requires text_len_bound { length text.now ≤ max_text }
     requires in_bounds { 8 ≤ length starts.old }
@@ -210,7 +206,7 @@ fn list_with<'a>(
 }
 
 // The list of a text's tokens, after what is judged before it.
-fn list_judged<'a>(before: Judgement, image: &'a [u8], text: &'a [u8], out: &mut [u32]) -> Counted
+fn list_judged<'a>(before: Judgement, image: &ClassImage, text: &'a [u8], out: &mut [u32]) -> Counted
     requires { before ≡ judgement_of (before_text max_text image.now text.now) }
     ensures value { result ≡ counted_by (list_of image.now text.now (length out.old)) }
     ensures out_after { out.new ≡ list_words image.now text.now out.old }
@@ -233,8 +229,7 @@ fn list_judged<'a>(before: Judgement, image: &'a [u8], text: &'a [u8], out: &mut
 }
 
 // The list of a text's tokens, written whole, under an image that was checked. After a refusal the buffer is as it was.
-pub fn list_checked<'a>(image: &'a [u8], text: &'a [u8], out: &mut [u32]) -> Counted
-    requires { refusal_of image.now ≡ none }
+pub fn list_checked<'a>(image: &ClassImage, text: &'a [u8], out: &mut [u32]) -> Counted
     ensures value { result ≡ counted_by (list_of image.now text.now (length out.old)) }
     ensures out_after { out.new ≡ list_words image.now text.now out.old }
 {
@@ -243,7 +238,7 @@ pub fn list_checked<'a>(image: &'a [u8], text: &'a [u8], out: &mut [u32]) -> Cou
 }
 
 // The list of a text's tokens, written whole. After a refusal the buffer is as it was.
-pub fn list<'a>(image: &'a [u8], text: &'a [u8], out: &mut [u32]) -> Counted
+pub fn list<'a>(image: &ClassImage, text: &'a [u8], out: &mut [u32]) -> Counted
     ensures value { result ≡ counted_by (list_of image.now text.now (length out.old)) }
     ensures out_after { out.new ≡ list_words image.now text.now out.old }
 {
@@ -252,7 +247,7 @@ pub fn list<'a>(image: &'a [u8], text: &'a [u8], out: &mut [u32]) -> Counted
 }
 
 // The token at a place of a text that may be read.
-fn take_accepted<'a>(image: &'a [u8], text: &'a [u8], place: usize) -> Taken
+fn take_accepted<'a>(image: &ClassImage, text: &'a [u8], place: usize) -> Taken
     requires { before_text max_text image.now text.now ≡ none }
     ensures { result ≡ taken_of image.now text.now place }
 {
@@ -275,7 +270,7 @@ fn take_accepted<'a>(image: &'a [u8], text: &'a [u8], place: usize) -> Taken
 }
 
 // The token at a place, after what is judged before the text.
-fn take_judged<'a>(before: Judgement, image: &'a [u8], text: &'a [u8], place: usize) -> Taken
+fn take_judged<'a>(before: Judgement, image: &ClassImage, text: &'a [u8], place: usize) -> Taken
     requires { before ≡ judgement_of (before_text max_text image.now text.now) }
     ensures { result ≡ taken_of image.now text.now place }
 {
@@ -286,8 +281,7 @@ fn take_judged<'a>(before: Judgement, image: &'a [u8], text: &'a [u8], place: us
 }
 
 // The token at a place, under an image that was checked.
-pub fn take_checked<'a>(image: &'a [u8], text: &'a [u8], place: usize) -> Taken
-    requires { refusal_of image.now ≡ none }
+pub fn take_checked<'a>(image: &ClassImage, text: &'a [u8], place: usize) -> Taken
     ensures { result ≡ taken_of image.now text.now place }
 {
     take_judged(
@@ -299,7 +293,7 @@ pub fn take_checked<'a>(image: &'a [u8], text: &'a [u8], place: usize) -> Taken
 }
 
 // The token at a place.
-pub fn take_token<'a>(image: &'a [u8], text: &'a [u8], place: usize) -> Taken
+pub fn take_token<'a>(image: &ClassImage, text: &'a [u8], place: usize) -> Taken
     ensures { result ≡ taken_of image.now text.now place }
 {
     take_judged(

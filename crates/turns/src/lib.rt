@@ -3,11 +3,10 @@
 #![tactic(auto)]
 
 ghost use Rattle.std.specs.Prelude.{◌≡◌, ◌<◌};
-ghost use Rattle.std.proofs.Math.Option.{none};
-ghost use Rattle.image.specs.Check.{refusal_of};
 ghost use Rattle.character.specs.Read.{TokenTableOf};
 ghost use Rattle.turns.specs.Turns.{states, waiting_of, turn_of, after_of, turn_table, after_table, waiting_table};
 ghost use Rattle.turns.specs.First.{first_of, pending_first};
+use image::ClassImage;
 
 // The state of a reader: nothing yet; a token of this kind, 1 to 5; an identifier with a medial after it that waits for the next character:
 // WAITING, and the kind of token that the medial itself begins.
@@ -113,8 +112,7 @@ fn end_first(state: u32, mid: usize, at: usize) -> First
 }
 
 // The first token of a text.
-pub fn first_token<'a>(image: &'a [u8], table: &'a [u8], text: &'a [u8]) -> First
-    requires image_value { refusal_of image.now ≡ none }
+pub fn first_token<'a>(image: &ClassImage, table: &'a [u8], text: &'a [u8]) -> First
     requires token_table_of { TokenTableOf image.now table.now }
     ensures { result ≡ first_of image.now text.now }
 {

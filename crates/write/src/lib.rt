@@ -2,15 +2,14 @@
 #![tactic(auto)]
 
 ghost use Rattle.std.specs.Prelude.{◌≡◌, true, not, ◌||◌, ◌+◌, ◌*◌, ◌/◌, ◌≤◌, ◌<◌, eqb, length};
-ghost use Rattle.std.proofs.Math.Option.{none};
 ghost use Rattle.line.specs.Line.{LineAt};
-ghost use Rattle.image.specs.Check.{refusal_of};
 ghost use Rattle.character.specs.Read.{TokenTableOf};
 ghost use Rattle.grammar.specs.Before.{max_text};
 ghost use Rattle.grammar.specs.Record.{record_size};
 ghost use Rattle.write.specs.Records.{Apart, Plain, Spans, Listing, Piece, WrittenTo, Wrote};
 
 use grammar::RECORD_WORDS;
+use image::ClassImage;
 
 // The kind of line ends.
 const LINE_ENDS: u32 = 4;
@@ -38,8 +37,7 @@ fn is_apart(traits: u8) -> bool
 }
 
 // Whether line ends stand in no token but those of line ends: if so, no other token has to be looked through.
-pub fn are_plain<'a>(image: &'a [u8], cells: &'a [u8]) -> bool
-    requires image_value { refusal_of image.now ≡ none }
+pub fn are_plain<'a>(image: &ClassImage, cells: &'a [u8]) -> bool
     requires token_table_of { TokenTableOf image.now cells.now }
     ensures { result ≡ true → Plain image.now }
 {
@@ -97,7 +95,7 @@ fn may_end_lines(kind: u32, plain: bool) -> bool
 // Writes n records, from the starts of their tokens and of what comes after them. The rest of the buffer, from the first free word on, is
 // handed on for each.
 pub fn put_records<'a>(
-    image: &'a [u8],
+    image: &ClassImage,
     text: &'a [u8],
     starts: &'a [u32],
     plain: bool,
@@ -106,7 +104,6 @@ pub fn put_records<'a>(
     n: usize,
     from: Written,
 ) -> Written
-    requires image_value { refusal_of image.now ≡ none }
     requires listing { Listing image.now text.now out.old total }
     requires plain { plain ≡ true → Plain image.now }
     requires piece { Piece image.now text.now starts.now (from.w / record_size) n total }
