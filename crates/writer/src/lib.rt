@@ -18,14 +18,6 @@ use image::{
 };
 use refusal::Refusal;
 
-#[derive(Drop)]
-pub enum Written {
-    // Nothing was written.
-    Refused(Refusal),
-    // An image of this many bytes was written.
-    Image { len: usize },
-}
-
 // Writes a number's four bytes at the front of `out`.
 fn put_word(out: &mut [u8], w: u32)
     requires { word_bytes ≤ length out.old }
@@ -188,39 +180,39 @@ fn first_bad_entry<'a>(
     i
 }
 
-// What the writer answers for a buffer of `room` bytes.
+// The bytes of the image, or the refusal, for a buffer of `room` bytes.
 fn judge_parts<'a>(
     words: &[u32],
     points: &'a [u32; MAX_ENTRIES],
     roles: &'a [u32; MAX_ENTRIES],
     m: usize,
     room: usize,
-) -> Written
+) -> Result<usize, Refusal>
     ensures { result ≡ write_of words.now (profile_by points.now roles.now m) room }
 {
     if words.len() % RANGE_WORDS != 0 {
-        return Written::Refused(Refusal::Shape);
+        return Err(Refusal::Shape);
     }
     let n = words.len() / RANGE_WORDS;
     if MAX_RANGES < n {
-        return Written::Refused(Refusal::Header);
+        return Err(Refusal::Header);
     }
     if MAX_ENTRIES < m {
-        return Written::Refused(Refusal::Header);
+        return Err(Refusal::Header);
     }
     let i = first_bad_range(words, n);
     if i < n {
-        return Written::Refused(Refusal::Range(i));
+        return Err(Refusal::Range(i));
     }
     let j = first_bad_entry(points, roles, m);
     let len = HEADER_BYTES + RANGE_BYTES * n + ENTRY_BYTES * m;
     if j < m {
-        return Written::Refused(Refusal::Entry(j));
+        return Err(Refusal::Entry(j));
     }
     if room < len {
-        return Written::Refused(Refusal::Buffer(len));
+        return Err(Refusal::Buffer(len));
     }
-    Written::Image { len }
+    Ok(len)
 }
 
 // Writes the image with this version, these ranges and the first `used` profile entries at the front of `out`, or leaves
@@ -232,21 +224,16 @@ pub fn write_arrays<'a>(
     roles: &'a [u32; MAX_ENTRIES],
     used: usize,
     out: &mut [u8],
-) -> Written
+) -> Result<usize, Refusal>
     ensures { (result ≡ write_of words.now (profile_by points.now roles.now used) (length out.old)) × (out.new ≡ bytes_after version words.now (profile_by points.now roles.now used) out.old) }
 {
-    let answer = judge_parts(words, points, roles, used, out.len());
-    match answer {
-        Written::Refused(r) => Written::Refused(r),
-        Written::Image { len } => {
-            put_image(version, words, points, roles, used, out);
-            Written::Image { len }
-        }
-    }
+    let len = judge_parts(words, points, roles, used, out.len())?;
+    put_image(version, words, points, roles, used, out);
+    Ok(len)
 }
 
 // As `write_arrays`, of a profile record.
-pub fn write(version: u32, words: &[u32], profile: Profile, out: &mut [u8]) -> Written
+pub fn write(version: u32, words: &[u32], profile: Profile, out: &mut [u8]) -> Result<usize, Refusal>
     ensures { (result ≡ write_of words.now profile (length out.old)) × (out.new ≡ bytes_after version words.now profile out.old) }
 {
     write_arrays(
