@@ -16,7 +16,6 @@ ghost use Rattle.count.specs.Rules.{rule_rows, rule_for, rule_table};
 
 use blocks::BLOCKS;
 use character::{Character, Memo};
-use grammar::Counted;
 use image::ClassImage;
 use refusal::Refusal;
 
@@ -475,18 +474,18 @@ fn run_count<'a>(
 }
 
 // The answer at the text's end.
-fn finish(text: &[u8], run: Run) -> Counted
+fn finish(text: &[u8], run: Run) -> Result<usize, Refusal>
     requires { (run.mid ≤ length text.now) × (run.count ≤ length text.now) }
     ensures { result ≡ finished_by text.now run }
 {
     if run.state == WAITING {
-        return Counted::Refused(grammar::refuse_at(text, run.mid));
+        return Err(grammar::refuse_at(text, run.mid));
     }
     if run.refused < text.len() {
-        return Counted::Refused(Refusal::Mark(run.refused));
+        return Err(Refusal::Mark(run.refused));
     }
     let all = run.count + count_pending(run.state);
-    Counted::Records(all)
+    Ok(all)
 }
 
 // Counts on to the text's end.
@@ -497,7 +496,7 @@ pub fn count_on<'a>(
     rules: &'a [u8; 592],
     text: &'a [u8],
     run: Run,
-) -> Counted
+) -> Result<usize, Refusal>
     requires learning { Learning image.now index.old cells.old run.rows }
     requires rules_value { rules.now ≡ rule_table }
     requires counting_as { CountingAs image.now text.now run }
@@ -517,7 +516,7 @@ pub fn count_on<'a>(
         let going = look(image, cells, rules, text, run);
         match going {
             Going::Refused(r) => {
-                return Counted::Refused(r);
+                return Err(r);
             }
             Going::On(r) => {
                 let memo = r.memo;

@@ -9,7 +9,6 @@ ghost use Rattle.utf8.specs.declared.Text.TheVariants.{WellFormed};
 ghost use Rattle.utf8.specs.Head.{step_of, IllHead};
 ghost use Rattle.utf8.specs.Text.{characters_at, width_of, text_of};
 ghost use Rattle.line.specs.Line.{LineAt};
-ghost use Rattle.given.specs.Given.{judgement_of};
 ghost use Rattle.character.specs.Traits.{part_class};
 ghost use Rattle.character.specs.Read.{TableOf};
 ghost use Rattle.grammar.specs.Kinds.{is_continue};
@@ -21,8 +20,7 @@ ghost use Rattle.hashtag.specs.Find.{run_of, hashtags_of};
 ghost use Rattle.hashtag.specs.Listed.{spans_words, hashtag_list_of, hashtag_list_words, counted_through, closed_by};
 ghost use Rattle.hashtag.specs.Seek.{continues_first, free_at, stop_for, StopsOf, Skipped, sum_of, LinesCounted, LinesCountedTo, Backed, sign_of, Sought};
 
-use given::Judgement;
-use grammar::{Counted, MAX_TEXT, RECORD_WORDS};
+use grammar::{MAX_TEXT, RECORD_WORDS};
 use image::ClassImage;
 use refusal::Refusal;
 
@@ -382,19 +380,19 @@ fn seek_known<'a>(
 }
 
 // The answer where the characters end at a place: so many hashtags, or refusal 6 if the text goes on there.
-fn close(text: &[u8], at: usize, count: usize) -> Counted
+fn close(text: &[u8], at: usize, count: usize) -> Result<usize, Refusal>
     requires at_in_bounds { at ≤ length text.now }
     requires ill_head { at < length text.now → IllHead (drop at text.now) }
     ensures { result ≡ closed_by at count (text_of (drop at text.now)) }
 {
     if at < text.len() {
-        return Counted::Refused(grammar::refuse_at(text, at));
+        return Err(grammar::refuse_at(text, at));
     }
-    Counted::Records(count)
+    Ok(count)
 }
 
 // The number of hashtags.
-fn count_hashtags<'a>(image: &ClassImage, table: &'a [u8; 128], text: &'a [u8]) -> Counted
+fn count_hashtags<'a>(image: &ClassImage, table: &'a [u8; 128], text: &'a [u8]) -> Result<usize, Refusal>
     requires table_of { TableOf image.now table.now }
     ensures { result ≡ counted_through image.now text.now }
 {
@@ -409,7 +407,7 @@ fn count_hashtags<'a>(image: &ClassImage, table: &'a [u8; 128], text: &'a [u8]) 
         count += 1;
         at = sign.next;
     }
-    Counted::Records(count)
+    Ok(count)
 }
 
 // The words of all hashtags of a well-formed text.
@@ -438,52 +436,35 @@ fn write_hashtags<'a>(image: &ClassImage, table: &'a [u8; 128], text: &'a [u8], 
     }
 }
 
-// The list of the hashtags of a text that may be read.
-fn list_accepted<'a>(image: &ClassImage, text: &'a [u8], out: &mut [u32]) -> Counted
+// The list of a text's hashtags, where nothing before it is refused.
+fn list_accepted(image: &ClassImage, text: &[u8], out: &mut [u32]) -> Result<usize, Refusal>
     requires { before_text max_text image.now text.now ≡ none }
     ensures value { result ≡ counted_by (hashtag_list_of image.now text.now (length out.old)) }
     ensures out_after { out.new ≡ hashtag_list_words image.now text.now out.old }
 {
     let table = character::fill_table(image);
-    let counted = count_hashtags(image, &table, text);
-    match counted {
-        Counted::Refused(r) => Counted::Refused(r),
-        Counted::Records(count) => {
-            if out.len() / RECORD_WORDS < count {
-                return Counted::Refused(Refusal::Room(count));
-            }
-            write_hashtags(image, &table, text, out);
-            Counted::Records(count)
-        }
+    let count = count_hashtags(image, &table, text)?;
+    if out.len() / RECORD_WORDS < count {
+        return Err(Refusal::Room(count));
     }
+    write_hashtags(image, &table, text, out);
+    Ok(count)
 }
 
-// The list of a text's hashtags, after what is judged before it.
-fn list_judged<'a>(before: Judgement, image: &ClassImage, text: &'a [u8], out: &mut [u32]) -> Counted
-    requires { before ≡ judgement_of (before_text max_text image.now text.now) }
+// The list of a text's hashtags, written whole, under an image that was accepted. After a refusal the buffer is as it was.
+pub fn list_checked(image: &ClassImage, text: &[u8], out: &mut [u32]) -> Result<usize, Refusal>
     ensures value { result ≡ counted_by (hashtag_list_of image.now text.now (length out.old)) }
     ensures out_after { out.new ≡ hashtag_list_words image.now text.now out.old }
 {
-    match before {
-        Judgement::Refused(r) => Counted::Refused(r),
-        Judgement::Accepted => list_accepted(image, text, out),
-    }
-}
-
-// The list of a text's hashtags, written whole, under an image that was checked. After a refusal the buffer is as it was.
-pub fn list_checked<'a>(image: &ClassImage, text: &'a [u8], out: &mut [u32]) -> Counted
-    ensures value { result ≡ counted_by (hashtag_list_of image.now text.now (length out.old)) }
-    ensures out_after { out.new ≡ hashtag_list_words image.now text.now out.old }
-{
-    let before = grammar::judge_checked(image, text, MAX_TEXT);
-    list_judged(before, image, text, out)
+    grammar::judge_checked(image, text, MAX_TEXT)?;
+    list_accepted(image, text, out)
 }
 
 // The list of a text's hashtags, written whole. After a refusal the buffer is as it was.
-pub fn list<'a>(image: &ClassImage, text: &'a [u8], out: &mut [u32]) -> Counted
+pub fn list(image: &[u8], text: &[u8], out: &mut [u32]) -> Result<usize, Refusal>
     ensures value { result ≡ counted_by (hashtag_list_of image.now text.now (length out.old)) }
     ensures out_after { out.new ≡ hashtag_list_words image.now text.now out.old }
 {
-    let before = grammar::judge_text(image, text, MAX_TEXT);
-    list_judged(before, image, text, out)
+    let image = grammar::judge_text(image, text, MAX_TEXT)?;
+    list_accepted(&image, text, out)
 }

@@ -4,7 +4,6 @@
 
 ghost use Rattle.std.specs.Prelude.{◌≡◌, ◌≤◌, ◌<◌, length, leb};
 ghost use Rattle.std.proofs.Math.Option.{none};
-ghost use Rattle.given.specs.Given.{judgement_of};
 ghost use Rattle.lists.specs.Laid.{laid};
 ghost use Rattle.blocks.specs.Blocks.{Blank, Learnt};
 ghost use Rattle.grammar.specs.Record.{room_of, listed_words};
@@ -18,9 +17,8 @@ ghost use Rattle.token.specs.Taken.{taken_of};
 ghost use Rattle.token.specs.Ended.{Ended};
 
 use blocks::BLOCKS;
-use count::{Going, Run, WAITING};
-use given::Judgement;
-use grammar::{Counted, MAX_TEXT, RECORD_WORDS};
+use count::{Run, WAITING};
+use grammar::{MAX_TEXT, RECORD_WORDS};
 use image::ClassImage;
 use refusal::Refusal;
 use turns::First;
@@ -38,16 +36,16 @@ const STARTS: usize = 1152;
 // The cells of 60 rows.
 const CELLS: usize = 3840;
 
-// The token at a place, or that the text ends there, or why not.
-#[derive(Drop)]
-pub enum Taken {
-    Refused(Refusal),
-    Done,
-    Token { kind: u32, start: usize, end: usize },
+// A token: its kind, its first byte, and one past its last.
+#[derive(Clone, Copy)]
+pub struct Token {
+    pub kind: u32,
+    pub start: usize,
+    pub end: usize,
 }
 
 // The number of a text's tokens under a checked image. The index and the cells come blank.
-fn count_with<'a>(image: &ClassImage, index: &mut [u8], cells: &mut [u8], text: &'a [u8]) -> Counted
+fn count_with<'a>(image: &ClassImage, index: &mut [u8], cells: &mut [u8], text: &'a [u8]) -> Result<usize, Refusal>
     requires blank { Blank index.old × Blank cells.old × (128 ≤ length cells.old) }
     ensures { result ≡ count_through image.now text.now }
 {
@@ -57,38 +55,35 @@ fn count_with<'a>(image: &ClassImage, index: &mut [u8], cells: &mut [u8], text: 
     count::count_on(image, index, cells, &rules, text, run)
 }
 
-// The number of a text's tokens, after what is judged before it.
-fn count_judged<'a>(before: Judgement, image: &ClassImage, text: &'a [u8]) -> Counted
-    requires { before ≡ judgement_of (before_text max_text image.now text.now) }
+// The number of a text's tokens, where nothing before it is refused.
+fn count_accepted(image: &ClassImage, text: &[u8]) -> Result<usize, Refusal>
+    requires { before_text max_text image.now text.now ≡ none }
     ensures { result ≡ counted_by (count_of image.now text.now) }
 {
-    match before {
-        Judgement::Refused(r) => Counted::Refused(r),
-        Judgement::Accepted => {
-            if text.len() < SHORT {
-                let mut index = [0u8; 1];
-                let mut cells = [0u8; 128];
-                return count_with(image, &mut index, &mut cells, text);
-            }
-            let mut index = [0u8; BLOCKS];
-            let mut cells = [0u8; CELLS];
-            count_with(image, &mut index, &mut cells, text)
-        }
+    if text.len() < SHORT {
+        let mut index = [0u8; 1];
+        let mut cells = [0u8; 128];
+        return count_with(image, &mut index, &mut cells, text);
     }
+    let mut index = [0u8; BLOCKS];
+    let mut cells = [0u8; CELLS];
+    count_with(image, &mut index, &mut cells, text)
 }
 
-// The number of a text's tokens, under an image that was checked.
-pub fn count_checked<'a>(image: &ClassImage, text: &'a [u8]) -> Counted
+// The number of a text's tokens, under an image that was accepted.
+pub fn count_checked(image: &ClassImage, text: &[u8]) -> Result<usize, Refusal>
     ensures { result ≡ counted_by (count_of image.now text.now) }
 {
-    count_judged(grammar::judge_checked(image, text, MAX_TEXT), image, text)
+    grammar::judge_checked(image, text, MAX_TEXT)?;
+    count_accepted(image, text)
 }
 
 // The number of a text's tokens.
-pub fn count<'a>(image: &ClassImage, text: &'a [u8]) -> Counted
+pub fn count(image: &[u8], text: &[u8]) -> Result<usize, Refusal>
     ensures { result ≡ counted_by (count_of image.now text.now) }
 {
-    count_judged(grammar::judge_text(image, text, MAX_TEXT), image, text)
+    let image = grammar::judge_text(image, text, MAX_TEXT)?;
+    count_accepted(&image, text)
 }
 
 // Whether so many words have room for the records of `count` tokens.
@@ -151,15 +146,10 @@ fn write_all<'a>(
         from = write::put_records(image, text, starts, plain, out, total, n, from);
         starts[0] = starts[n];
         done = run.count;
-        let going = mark::mark_on(image, index, cells, &rules, text, starts, done, run);
-        match going {
-            Going::Refused(_) => {
-                return; // the text is accepted
-            }
-            Going::On(r) => {
-                run = r;
-            }
-        }
+        let Ok(next) = mark::mark_on(image, index, cells, &rules, text, starts, done, run) else {
+            return; // the text is accepted
+        };
+        run = next;
     }
     let n = end_starts(image, &rules, text, starts, done, run);
     let _last = write::put_records(image, text, starts, plain, out, total, n, from);
@@ -174,7 +164,7 @@ fn list_with<'a>(
     starts: &mut [u32],
     text: &'a [u8],
     out: &mut [u32],
-) -> Counted
+) -> Result<usize, Refusal>
     requires blank { Blank index.old × Blank cells.old × (128 ≤ length cells.old) }
     requires text_len_bound { length text.now ≤ max_text }
     requires in_bounds { 8 ≤ length starts.old }
@@ -182,124 +172,94 @@ fn list_with<'a>(
     ensures out_after { out.new ≡ list_words image.now text.now out.old }
 {
     if text.len() == 0 {
-        return Counted::Records(0);
+        return Ok(0);
     }
     let rules = count::RULES;
     let rows = blocks::begin(image, cells);
-    let going = mark::mark_first(image, index, cells, &rules, text, starts, rows);
-    match going {
-        Going::Refused(r) => Counted::Refused(r),
-        Going::On(run) => {
-            let counted = count::count_on(image, index, cells, &rules, text, run);
-            match counted {
-                Counted::Refused(r) => Counted::Refused(r),
-                Counted::Records(count) => {
-                    if !is_room(out.len(), count) {
-                        return Counted::Refused(Refusal::Room(count));
-                    }
-                    write_all(image, index, cells, text, starts, out, count, run);
-                    Counted::Records(count)
-                }
-            }
-        }
+    let run = mark::mark_first(image, index, cells, &rules, text, starts, rows)?;
+    let count = count::count_on(image, index, cells, &rules, text, run)?;
+    if !is_room(out.len(), count) {
+        return Err(Refusal::Room(count));
     }
+    write_all(image, index, cells, text, starts, out, count, run);
+    Ok(count)
 }
 
-// The list of a text's tokens, after what is judged before it.
-fn list_judged<'a>(before: Judgement, image: &ClassImage, text: &'a [u8], out: &mut [u32]) -> Counted
-    requires { before ≡ judgement_of (before_text max_text image.now text.now) }
+// The list of a text's tokens, where nothing before it is refused.
+fn list_accepted(image: &ClassImage, text: &[u8], out: &mut [u32]) -> Result<usize, Refusal>
+    requires { before_text max_text image.now text.now ≡ none }
     ensures value { result ≡ counted_by (list_of image.now text.now (length out.old)) }
     ensures out_after { out.new ≡ list_words image.now text.now out.old }
 {
-    match before {
-        Judgement::Refused(r) => Counted::Refused(r),
-        Judgement::Accepted => {
-            if text.len() < SHORT {
-                let mut index = [0u8; 1];
-                let mut cells = [0u8; 128];
-                let mut starts = [0u32; SHORT_STARTS];
-                return list_with(image, &mut index, &mut cells, &mut starts, text, out);
-            }
-            let mut index = [0u8; BLOCKS];
-            let mut cells = [0u8; CELLS];
-            let mut starts = [0u32; STARTS];
-            list_with(image, &mut index, &mut cells, &mut starts, text, out)
-        }
+    if text.len() < SHORT {
+        let mut index = [0u8; 1];
+        let mut cells = [0u8; 128];
+        let mut starts = [0u32; SHORT_STARTS];
+        return list_with(image, &mut index, &mut cells, &mut starts, text, out);
     }
+    let mut index = [0u8; BLOCKS];
+    let mut cells = [0u8; CELLS];
+    let mut starts = [0u32; STARTS];
+    list_with(image, &mut index, &mut cells, &mut starts, text, out)
 }
 
-// The list of a text's tokens, written whole, under an image that was checked. After a refusal the buffer is as it was.
-pub fn list_checked<'a>(image: &ClassImage, text: &'a [u8], out: &mut [u32]) -> Counted
+// The list of a text's tokens, written whole, under an image that was accepted. After a refusal the buffer is as it was.
+pub fn list_checked(image: &ClassImage, text: &[u8], out: &mut [u32]) -> Result<usize, Refusal>
     ensures value { result ≡ counted_by (list_of image.now text.now (length out.old)) }
     ensures out_after { out.new ≡ list_words image.now text.now out.old }
 {
-    let before = grammar::judge_checked(image, text, MAX_TEXT);
-    list_judged(before, image, text, out)
+    grammar::judge_checked(image, text, MAX_TEXT)?;
+    list_accepted(image, text, out)
 }
 
 // The list of a text's tokens, written whole. After a refusal the buffer is as it was.
-pub fn list<'a>(image: &ClassImage, text: &'a [u8], out: &mut [u32]) -> Counted
+pub fn list(image: &[u8], text: &[u8], out: &mut [u32]) -> Result<usize, Refusal>
     ensures value { result ≡ counted_by (list_of image.now text.now (length out.old)) }
     ensures out_after { out.new ≡ list_words image.now text.now out.old }
 {
-    let before = grammar::judge_text(image, text, MAX_TEXT);
-    list_judged(before, image, text, out)
+    let image = grammar::judge_text(image, text, MAX_TEXT)?;
+    list_accepted(&image, text, out)
 }
 
-// The token at a place of a text that may be read.
-fn take_accepted<'a>(image: &ClassImage, text: &'a [u8], place: usize) -> Taken
+// The token at a place, where nothing before it is refused; `None` where the text ends there.
+fn take_accepted(image: &ClassImage, text: &[u8], place: usize) -> Result<Option<Token>, Refusal>
     requires { before_text max_text image.now text.now ≡ none }
     ensures { result ≡ taken_of image.now text.now place }
 {
     if text.len() < place {
-        return Taken::Refused(Refusal::Shape);
+        return Err(Refusal::Shape);
     }
     let mut table = [0u8; 128];
     character::fill_cells(image, 0, 0, &mut table);
     let first = turns::first_token(image, &table, &text[place..]);
     match first {
-        First::Nothing => Taken::Done,
-        First::IllFormed => Taken::Refused(grammar::refuse_at(text, place)),
-        First::NoToken => Taken::Refused(Refusal::Characters(place)),
-        First::Token { kind, end } => Taken::Token {
+        First::Nothing => Ok(None),
+        First::IllFormed => Err(grammar::refuse_at(text, place)),
+        First::NoToken => Err(Refusal::Characters(place)),
+        First::Token { kind, end } => Ok(Some(Token {
             kind,
             start: place,
             end: place + end,
-        },
+        })),
     }
 }
 
-// The token at a place, after what is judged before the text.
-fn take_judged<'a>(before: Judgement, image: &ClassImage, text: &'a [u8], place: usize) -> Taken
-    requires { before ≡ judgement_of (before_text max_text image.now text.now) }
+// The token at a place, under an image that was accepted.
+pub fn take_checked(
+    image: &ClassImage,
+    text: &[u8],
+    place: usize,
+) -> Result<Option<Token>, Refusal>
     ensures { result ≡ taken_of image.now text.now place }
 {
-    match before {
-        Judgement::Refused(r) => Taken::Refused(r),
-        Judgement::Accepted => take_accepted(image, text, place),
-    }
-}
-
-// The token at a place, under an image that was checked.
-pub fn take_checked<'a>(image: &ClassImage, text: &'a [u8], place: usize) -> Taken
-    ensures { result ≡ taken_of image.now text.now place }
-{
-    take_judged(
-        grammar::judge_checked(image, text, MAX_TEXT),
-        image,
-        text,
-        place,
-    )
+    grammar::judge_checked(image, text, MAX_TEXT)?;
+    take_accepted(image, text, place)
 }
 
 // The token at a place.
-pub fn take_token<'a>(image: &ClassImage, text: &'a [u8], place: usize) -> Taken
+pub fn take_token(image: &[u8], text: &[u8], place: usize) -> Result<Option<Token>, Refusal>
     ensures { result ≡ taken_of image.now text.now place }
 {
-    take_judged(
-        grammar::judge_text(image, text, MAX_TEXT),
-        image,
-        text,
-        place,
-    )
+    let image = grammar::judge_text(image, text, MAX_TEXT)?;
+    take_accepted(&image, text, place)
 }
