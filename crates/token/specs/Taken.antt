@@ -7,14 +7,12 @@
 --   first_at                the first of the tokens from a place on; 7 where none begins
 --   token_at                what stands at a place: 6, "done", the first token, or 7
 --   taken_within, taken_of   the answer: what is judged before the text, then 13, else what stands at the place
-use Rattle.std.specs.Prelude.{ℕ, ◌+◌, ◌-◌, not, ◌&&◌, cond, List, [], ◌∷◌, length, take, drop, ltb, eqb}
+use Rattle.std.specs.Prelude.{ℕ, ◌+◌, ◌-◌, not, ◌&&◌, cond, List, [], ◌∷◌, length, take, drop, ltb, eqb, Ok, Err}
 use Rattle.std.proofs.Math.Option.{Option, none, some}
 use Rattle.refusal.specs.declared.Refusal.{Refusal}
 use Rattle.refusal.specs.declared.Refusal.TheVariants as refusal
-use Rattle.utf8.specs.declared.Text.{Text}
-use Rattle.utf8.specs.declared.Text.TheVariants.{WellFormed, IllFormed}
 use Rattle.utf8.specs.Subpart.{subpart_of}
-use Rattle.utf8.specs.Text.{Character, text_of}
+use Rattle.utf8.specs.Text.{Character, text_of, Form}
 use Rattle.image.specs.Limits.{max_entries}
 use Rattle.grammar.specs.Scan.{Tok}
 use Rattle.grammar.specs.Grammar.{Kind}
@@ -34,9 +32,9 @@ unfoldable pub place_refusal : List ℕ → ℕ → Option Refusal
 place_refusal text place = refused_if (ltb (length text) place) refusal.Shape
 
 -- sequences are counted from the place on
-abbrev pub stop_by : ℕ → ℕ → Text → ℕ
-stop_by place end WellFormed = end
-stop_by place end (IllFormed p n) = place + p
+abbrev pub stop_by : ℕ → ℕ → Form → ℕ
+stop_by place end (Ok u) = end
+stop_by place end (Err e) = place + e.place
 
 unfoldable pub stop_of : List ℕ → ℕ → ℕ
 stop_of text place = stop_by place (length text) (text_of (drop place text))

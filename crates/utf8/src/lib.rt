@@ -24,7 +24,7 @@ struct Lead {
 }
 
 // What stands at the head of a slice.
-#[derive(Drop)]
+#[derive(Clone, Copy, Debug, PartialEq, Eq)]
 pub enum Step {
     // A well-formed sequence of `len` bytes, and its code point.
     Scalar { code: u32, len: usize },
@@ -34,11 +34,11 @@ pub enum Step {
     End,
 }
 
-// Whether a text is well-formed, or the first place at which no well-formed sequence begins, and the length of the maximal subpart there.
-#[derive(Drop)]
-pub enum Text {
-    WellFormed,
-    IllFormed { place: usize, len: usize },
+// The first place of a text at which no well-formed sequence begins, and the length of the maximal subpart there.
+#[derive(Clone, Copy, Debug, PartialEq, Eq)]
+pub struct IllFormed {
+    pub place: usize,
+    pub len: usize,
 }
 
 // Whether a number is a Unicode scalar value.
@@ -334,8 +334,8 @@ pub fn decode(s: &[u8]) -> Step
     }
 }
 
-// The first place of `s` at which no well-formed sequence begins and the length of the maximal subpart there, or that there is none.
-pub fn check_text(s: &[u8]) -> Text
+// Whether `s` is well-formed.
+pub fn check_text(s: &[u8]) -> Result<(), IllFormed>
     ensures { result ≡ text_of s.now }
 {
     let mut at = 0;
@@ -346,12 +346,12 @@ pub fn check_text(s: &[u8]) -> Text
         }
         let len = decode_packed(s, at) % 8;
         if len == 0 {
-            return Text::IllFormed {
+            return Err(IllFormed {
                 place: at,
                 len: measure_subpart(&s[at..]),
-            };
+            });
         }
         at += len;
     }
-    Text::WellFormed
+    Ok(())
 }
