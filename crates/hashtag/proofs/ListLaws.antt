@@ -75,7 +75,7 @@ module _ (s text : List ℕ) where
 
   pub counting_ends : {count at : ℕ} → Counting count at → length text ≤ at → Records count ≡ counted_through s text
   counting_ends {count} {at} i h =
-      closes at count WellFormed (sym (end_here text at h) ∙ i.reached.form) (omega (arith, i.sum, ap length (none_left h)))
+      closes at count (Ok tt) (sym (end_here text at h) ∙ i.reached.form) (omega (arith, i.sum, ap length (none_left h)))
 
   -- those that were found are in the buffer, up to word w; the place has this line
   pub record Writing (out₀ out : List ℕ) (w at line : ℕ) : Type 0 where
