@@ -17,7 +17,8 @@ use Rattle.utf8.specs.Subpart.{subpart_of, MaximalSubpart}
 use Rattle.utf8.specs.Head.{step_of, IllHead, NoSequence, StepMeans, sequence, no_sequence, empty}
 use Rattle.utf8.specs.Lead.{packed, length_of, known_length, is_trail}
 use Rattle.utf8.specs.Text.{
-  Form, ill,
+  Form,
+  ill,
   Character,
   Decoded,
   ended,
