@@ -1,7 +1,7 @@
 // Runs `utf8` on the first and last sequence of each row of Table 3-7, on the sequences just outside each row, and on ill-formed texts.
 use refusal::Refusal;
 use std::io;
-use utf8::{Step, Text};
+use utf8::{IllFormed, Step};
 
 // What stands at the head, and whether the text is well-formed, or the refusal that its first ill-formed place gives.
 fn show(rt: &impl Print, s: &[u8]) -> io::Result<()> {
@@ -20,10 +20,9 @@ fn show(rt: &impl Print, s: &[u8]) -> io::Result<()> {
         }
         Step::End => printing::print_text(rt, b"end")?,
     }
-    let text = utf8::check_text(s);
-    match text {
-        Text::WellFormed => printing::print_text(rt, b", text well-formed\n"),
-        Text::IllFormed { place, len } => {
+    match utf8::check_text(s) {
+        Ok(()) => printing::print_text(rt, b", text well-formed\n"),
+        Err(IllFormed { place, len }) => {
             printing::print_text(rt, b", text ")?;
             printing::print_refusal(rt, Refusal::IllFormed { place, len })?;
             printing::print_text(rt, b"\n")

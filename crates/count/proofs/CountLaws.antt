@@ -15,10 +15,8 @@ use Rattle.lists.proofs.BoolLaws.{impossible}
 use Rattle.refusal.specs.declared.Refusal.{Refusal}
 use Rattle.refusal.specs.declared.Refusal.TheVariants as refusal
 use Rattle.refusal.specs.Outcome.{Outcome, given, refused, unless, outcome_map}
-use Rattle.utf8.specs.declared.Text.{Text}
-use Rattle.utf8.specs.declared.Text.TheVariants as form
 use Rattle.utf8.specs.Head.{IllHead}
-use Rattle.utf8.specs.Text.{Character, decode, text_of, shift, characters_at}
+use Rattle.utf8.specs.Text.{Character, decode, text_of, shift, characters_at, Form}
 use Rattle.utf8.proofs.TextLaws.{text_ill, end_here}
 use Rattle.grammar.specs.White.{blank, line_end, mark}
 use Rattle.grammar.specs.Scan.{units_of}
@@ -209,10 +207,10 @@ waits_before {s} {n = n} {mid = mid} {at = at} {ts = ts} {q₀ = q₀} i h = go 
     go (held k u d) e = omega (arith, e.2)
 
 -- no token begins at a place: 6 if the text from there on has an ill-formed place, else 7
-stop_by : (s : List ℕ) (p : ℕ) (f : Text) (ts : Tokens) (c : Character) (l : List Character) → tokens_width ts ≡ p →
+stop_by : (s : List ℕ) (p : ℕ) (f : Form) (ts : Tokens) (c : Character) (l : List Character) → tokens_width ts ≡ p →
     unless (form_refusal_by (shift p f)) (judged s ts (c ∷ l)) ≡ refused (stop_refusal p f)
-stop_by s p form.WellFormed ts c l w = rw w
-stop_by s p (form.IllFormed q n) ts c l w = refl
+stop_by s p (Ok u) ts c l w = rw w
+stop_by s p (Err e) ts c l w = refl
 
 stops_at : (s text : List ℕ) (p : ℕ) (ts us : Tokens) (c : Character) (l : List Character) → Place text p → p ≡ tokens_width ts + tokens_width us →
     preceded ts (tokens_left us (c ∷ l)) ≡ reading_of s text → Err (stop_refusal p (text_of (drop p text))) ≡ count_through s text

@@ -8,14 +8,13 @@ use native.Mathlib.Omega.{arith}
 use lib.ListN.{length}
 use lib.Dec.{ltb}
 use borrow.Author.Tests.{ltb-true, ltb-false}
+use Rattle.std.specs.Prelude.{Ok}
 use Rattle.lists.specs.Laid.{laid}
 use Rattle.refusal.specs.declared.Refusal.{Refusal}
 use Rattle.refusal.specs.declared.Refusal.TheVariants as refusal
 use Rattle.refusal.specs.Refusal.{number_of}
 use Rattle.refusal.specs.Outcome.{Outcome, given, refused, unless, refused_if, outcome_map}
-use Rattle.utf8.specs.declared.Text.{Text}
-use Rattle.utf8.specs.declared.Text.TheVariants as form
-use Rattle.utf8.specs.Text.{Character, TextMeans, well_formed, ill_formed as bad_form, text_of}
+use Rattle.utf8.specs.Text.{Character, TextMeans, well_formed, ill_formed as bad_form, text_of, Form, ill}
 use Rattle.utf8.proofs.TextLaws.{text_means, means_text}
 use Rattle.image.specs.Accepted.{Accepted}
 use Rattle.image.specs.Means.{RefusalMeans}
@@ -62,7 +61,7 @@ module _ (s text : List ℕ) where
       go (some before) f = refuses (mark f)
   judged_means ts (c ∷ r) d = refuses (no_token (record { tokens = ts; first = c; others = r; divided = d; place = refl }))
 
-  form_means : Accepted s → length text ≤ max_text → (t : Text) → TextMeans text t → OutcomeMeans (unless (form_refusal_by t) (judged s (reading_of s text).tokens (reading_of s text).left))
+  form_means : Accepted s → length text ≤ max_text → (t : Form) → TextMeans text t → OutcomeMeans (unless (form_refusal_by t) (judged s (reading_of s text).tokens (reading_of s text).left))
   form_means a l t (well_formed e) = judged_means (reading_of s text).tokens (reading_of s text).left (reading_divides (record { image = a; short = l; well_formed = e }))
   form_means a l t (bad_form e h p m) = refuses (ill_formed (allowed a l) (bad_form e h p m))
 
@@ -83,7 +82,7 @@ module _ (s text : List ℕ) where
   judged_by d =
       let h = d.readable in
       let u = divided_unique (reading_divides h) d in
-      rw (means_before max_text s text (allowed h.image h.short), means_text text form.WellFormed (well_formed h.well_formed)) (λ i. judged s (u.0 i) (u.1 i))
+      rw (means_before max_text s text (allowed h.image h.short), means_text text (Ok tt) (well_formed h.well_formed)) (λ i. judged s (u.0 i) (u.1 i))
 
   -- one that has a division, by its first mark that is refused
   marked_by : {ts : List (Tok Character Kind)} (a : Option ℕ) → Divided s text ts [] → place_of (first_refused (meaning_of s) [] ts) ≡ a → outcome_of s text ≡ unless (map refusal.Mark a) (given ts)
@@ -98,7 +97,7 @@ module _ (s text : List ℕ) where
   unfolding outcome_within read_through
   means_outcome o (divides d n) = marked_by none d (marked_none _ (marks d) n)
   means_outcome o (refuses (refused_before m)) = rw (means_before max_text s text m)
-  means_outcome o (refuses (ill_formed {p} {n} b m)) = rw (means_before max_text s text b, means_text text (form.IllFormed p n) m)
+  means_outcome o (refuses (ill_formed {p} {n} b m)) = rw (means_before max_text s text b, means_text text (ill p n) m)
   means_outcome o (refuses (no_token t)) = judged_by t.divided ∙ ap (λ (p : ℕ). refused (refusal.Characters p)) (sym t.place)
   means_outcome o (refuses (mark {p} f)) = let d = f.mark.divided in marked_by (some p) d (marked_some _ (marks d) f)
 

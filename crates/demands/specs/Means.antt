@@ -5,8 +5,7 @@ use Rattle.std.proofs.Math.Option.{none, some}
 use Rattle.refusal.specs.declared.Refusal.{Refusal}
 use Rattle.refusal.specs.declared.Refusal.TheVariants as refusal
 use Rattle.refusal.specs.Outcome.{Outcome, given, refused}
-use Rattle.utf8.specs.declared.Text.TheVariants as form
-use Rattle.utf8.specs.Text.{Character, TextMeans}
+use Rattle.utf8.specs.Text.{Character, TextMeans, ill}
 use Rattle.grammar.specs.Scan.{Tok}
 use Rattle.grammar.specs.Grammar.{Kind}
 use Rattle.grammar.specs.Record.{room_of}
@@ -19,7 +18,7 @@ module _ (s text : List ℕ) where
     -- 1 to 5
     refused_before : {r : Refusal} → BeforeMeans max_text s text (some r) → Refuses r
     -- 6: p is the first place at which no well-formed sequence begins, and n bytes there are the maximal subpart
-    ill_formed : {p n : ℕ} → BeforeMeans max_text s text none → TextMeans text (form.IllFormed p n) → Refuses (refusal.IllFormed p n)
+    ill_formed : {p n : ℕ} → BeforeMeans max_text s text none → TextMeans text (ill p n) → Refuses (refusal.IllFormed p n)
     -- 7: the longest run of tokens from byte 0 ends at p, and no token begins there
     no_token : {p : ℕ} → Stopped s text p → Refuses (refusal.Characters p)
     -- 14: the text has a division, and the first mark in it that is refused stands at p

@@ -5,14 +5,13 @@ use mathlib.Core.List.{List, [], ◌∷◌}
 use mathlib.Core.Option.{Option, none, some}
 use native.Mathlib.Omega.{arith}
 use lib.ListN.{length, length-append}
+use Rattle.std.specs.Prelude.{Ok, Err}
 use Rattle.lists.proofs.BoolLaws.{impossible}
 use Rattle.refusal.specs.declared.Refusal.{Refusal}
 use Rattle.refusal.specs.declared.Refusal.TheVariants as refusal
 use Rattle.refusal.specs.Refusal.{number_of}
 use Rattle.refusal.specs.Outcome.{Outcome, given, refused, unless}
-use Rattle.utf8.specs.declared.Text.{Text}
-use Rattle.utf8.specs.declared.Text.TheVariants as form
-use Rattle.utf8.specs.Text.{Character, decode, text_of}
+use Rattle.utf8.specs.Text.{Character, decode, text_of, Form}
 use Rattle.utf8.proofs.TextLaws.{characters_few}
 use Rattle.image.proofs.ImageLaws.{means_refusal, refusal_number}
 use Rattle.grammar.specs.Scan.{Tok}
@@ -60,9 +59,9 @@ module _ (s text : List ℕ) where
   by_left [] = by_mark (first_refused (meaning_of s) [] (tokens_of s text))
   by_left (c ∷ l) = λ n e. impossible (cc)
 
-  by_form : (t : Text) (o : Outcome (List (Tok Character Kind))) → Read o → Read (unless (form_refusal_by t) o)
-  by_form form.WellFormed o h = h
-  by_form (form.IllFormed p m) o h = λ n e. impossible (cc)
+  by_form : (t : Form) (o : Outcome (List (Tok Character Kind))) → Read o → Read (unless (form_refusal_by t) o)
+  by_form (Ok u) o h = h
+  by_form (Err e) o h = λ n e. impossible (cc)
 
   outcome_read : Read (outcome_of s text)
   unfolding outcome_within read_through

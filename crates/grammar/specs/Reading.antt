@@ -15,14 +15,12 @@
 --   written_within, written_of     the tokens that are written into a buffer of so many words
 --   list_within, list_of           the answer of writing the list
 --   list_words_within, list_words   what the buffer then holds
-use Rattle.std.specs.Prelude.{ℕ, List, [], ◌∷◌, length, ltb}
+use Rattle.std.specs.Prelude.{ℕ, List, [], ◌∷◌, length, ltb, Ok, Err}
 use Rattle.std.proofs.Math.Option.{Option, none, some}
 use Rattle.lists.specs.Laid.{laid}
 use Rattle.refusal.specs.declared.Refusal.{Refusal}
 use Rattle.refusal.specs.declared.Refusal.TheVariants as refusal
-use Rattle.utf8.specs.declared.Text.{Text}
-use Rattle.utf8.specs.declared.Text.TheVariants.{WellFormed, IllFormed}
-use Rattle.utf8.specs.Text.{Character, decode, text_of}
+use Rattle.utf8.specs.Text.{Character, decode, text_of, Form}
 use Rattle.image.specs.Class.{class_named}
 use Rattle.image.specs.Limits.{max_entries}
 use Rattle.image.specs.Check.{class_of, medial_of}
@@ -55,9 +53,9 @@ abbrev pub tokens_of : List ℕ → List ℕ → List (Tok Character Kind)
 tokens_of s text = (reading_of s text).tokens
 
 -- the first place in the whole text at which no well-formed sequence begins, and the length of the maximal subpart there
-abbrev pub form_refusal_by : Text → Option Refusal
-form_refusal_by WellFormed = none
-form_refusal_by (IllFormed p n) = some (refusal.IllFormed p n)
+abbrev pub form_refusal_by : Form → Option Refusal
+form_refusal_by (Ok u) = none
+form_refusal_by (Err e) = some (refusal.IllFormed e.place e.len)
 
 abbrev pub form_refusal : List ℕ → Option Refusal
 form_refusal text = form_refusal_by (text_of text)

@@ -12,7 +12,7 @@ ghost use Rattle.grammar.specs.Counted.{stop_refusal};
 
 use image::ClassImage;
 use refusal::Refusal;
-use utf8::Text;
+use utf8::IllFormed;
 
 // The most bytes that a text may have.
 pub const MAX_TEXT: usize = 1048576;
@@ -49,10 +49,9 @@ pub fn refuse_at(text: &[u8], at: usize) -> Refusal
     requires { at ≤ length text.now }
     ensures { result ≡ stop_refusal at (text_of (drop at text.now)) }
 {
-    let form = utf8::check_text(&text[at..]);
-    match form {
-        Text::WellFormed => Refusal::Characters(at),
-        Text::IllFormed { place, len } => Refusal::IllFormed {
+    match utf8::check_text(&text[at..]) {
+        Ok(()) => Refusal::Characters(at),
+        Err(IllFormed { place, len }) => Refusal::IllFormed {
             place: at + place,
             len,
         },

@@ -11,9 +11,7 @@ use Rattle.lists.proofs.BoolLaws.{impossible}
 use Rattle.refusal.specs.declared.Refusal.{Refusal}
 use Rattle.refusal.specs.declared.Refusal.TheVariants as refusal
 use Rattle.refusal.specs.Outcome.{given, refused, unless, outcome_map}
-use Rattle.utf8.specs.declared.Text.{Text}
-use Rattle.utf8.specs.declared.Text.TheVariants.{WellFormed, IllFormed}
-use Rattle.utf8.specs.Text.{text_of}
+use Rattle.utf8.specs.Text.{text_of, Form}
 use Rattle.grammar.specs.Record.{record_size, room_of}
 use Rattle.grammar.specs.Before.{max_text, before_text}
 use Rattle.grammar.specs.Reading.{form_refusal_by}
@@ -46,7 +44,7 @@ module _ (s text out : List ℕ) where
 
     module _ {n : ℕ} (e : Ok n ≡ counted_through s text) where
       record All : Type 0 where
-        form : text_of text ≡ WellFormed
+        form : text_of text ≡ Ok tt
         number : n ≡ length (hashtags_of s text)
         found : hashtags_found s text ≡ given (hashtags_of s text)
 
@@ -54,16 +52,16 @@ module _ (s text out : List ℕ) where
       unfolding counted_through hashtags_through
       all = go (text_of text) refl e
         where
-          go : (t : Text) → text_of text ≡ t → Ok n ≡ counted_by (outcome_map length (unless (form_refusal_by t) (given (hashtags_of s text)))) → All
-          go WellFormed f g = record { form = f; number = cc; found = through ∙ rw f }
-          go (IllFormed p k) f g = impossible (cc)
+          go : (t : Form) → text_of text ≡ t → Ok n ≡ counted_by (outcome_map length (unless (form_refusal_by t) (given (hashtags_of s text)))) → All
+          go (Ok u) f g = record { form = f; number = cc; found = through ∙ rw f }
+          go (Err i) f g = impossible (cc)
 
       -- 8: nothing is written
       pub list_no_room : room_of (length out) < n → ListsHashtags (Err (refusal.Room n)) out
       list_no_room h = lists (writes_no_room (spans_words text) out all.found all.number h)
 
       module _ (h : n ≤ room_of (length out)) where
-        pub list_fits : (text_of text ≡ WellFormed) × (record_size * length (hashtags_of s text) ≤ length out)
+        pub list_fits : (text_of text ≡ Ok tt) × (record_size * length (hashtags_of s text) ≤ length out)
         list_fits = let m = all.number in (all.form, omega arith)
 
         -- all is written

@@ -9,8 +9,8 @@ use native.Mathlib.Omega.{arith}
 use native.Mathlib.Decide.{dec_lt}
 use lib.ListN.{length, get_or, drop}
 use lib.Seq.{get_or-drop}
+use Rattle.std.specs.Prelude.{Ok}
 use Rattle.lists.proofs.BoolLaws.{impossible}
-use Rattle.utf8.specs.declared.Text.TheVariants.{WellFormed}
 use Rattle.utf8.specs.Lead.{known_length, is_trail}
 use Rattle.utf8.specs.Text.{characters_at, text_of}
 use Rattle.utf8.proofs.TextLaws.{first_byte, first_at}
@@ -108,7 +108,7 @@ module _ (s text : List ℕ) where
       go zero e = absurd (omega (arith, h.here.some_bytes))
       go (suc k) e = sum_first text at k (λ i l u. trail_passes (get_or text i 0) (others_are h i l (omega arith)))
 
-  module _ (from : ℕ) (well : text_of (drop from text) ≡ WellFormed) where
+  module _ (from : ℕ) (well : text_of (drop from text) ≡ Ok tt) where
     pub stands_here : {at line : ℕ} (n : ℕ) → Walked from at line → at < length text → n ≡ known_length (get_or text at 0) → Stands s text at n
     stands_here {at} {line} n i h e = subst (Stands s text at) (sym e) (stands_known s text at h (seeking_known s text i.seeking well))
 

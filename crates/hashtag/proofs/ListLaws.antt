@@ -6,12 +6,10 @@ use mathlib.Core.List.{List, [], ◌∷◌, ◌++◌, append_assoc, append-nil}
 use native.Mathlib.Omega.{arith}
 use lib.ListN.{length, take, drop, length-append, length-take, length-drop}
 use borrow.Rule.Slice.PartMut.{put_mid}
-use Rattle.std.specs.Prelude.{Ok}
+use Rattle.std.specs.Prelude.{Ok, Err}
 use Rattle.lists.specs.Laid.{laid}
 use Rattle.lists.proofs.LaidLaws.{laid_none, laid_step, length-laid, lent}
-use Rattle.utf8.specs.declared.Text.{Text}
-use Rattle.utf8.specs.declared.Text.TheVariants.{WellFormed, IllFormed}
-use Rattle.utf8.specs.Text.{characters_at, width_of, text_of, shift}
+use Rattle.utf8.specs.Text.{characters_at, width_of, text_of, shift, Form}
 use Rattle.utf8.proofs.TextLaws.{shift_zero, end_here, characters_end}
 use Rattle.line.specs.Line.{LineAt}
 use Rattle.line.proofs.LineLaws.{line_begins}
@@ -63,10 +61,10 @@ module _ (s text : List ℕ) where
       record { reached = reached_next i.reached h; few = omega (arith, i.few, h.above); sum = omega (arith, i.sum, ap length (h.some l)) }
 
   -- the answer, by what is said of the text from a place on
-  closes : (at count : ℕ) (t : Text) → shift at t ≡ text_of text → length (hashtags_of s text) ≡ count → closed_by at count t ≡ counted_through s text
+  closes : (at count : ℕ) (t : Form) → shift at t ≡ text_of text → length (hashtags_of s text) ≡ count → closed_by at count t ≡ counted_through s text
   unfolding counted_through hashtags_through
-  closes at count WellFormed e n = rw (sym e) (ap Ok (sym n))
-  closes at count (IllFormed p k) e n = rw (sym e)
+  closes at count (Ok u) e n = rw (sym e) (ap Ok (sym n))
+  closes at count (Err i) e n = rw (sym e)
 
   pub counting_closes : {count at : ℕ} {r : Sign} → Counting count at → Sought s text at r → r.next ≤ r.at → closed_by r.at count (text_of (drop r.at text)) ≡ counted_through s text
   counting_closes {count} {at} {r} i h l =
@@ -76,7 +74,7 @@ module _ (s text : List ℕ) where
 
   pub counting_ends : {count at : ℕ} → Counting count at → length text ≤ at → Ok count ≡ counted_through s text
   counting_ends {count} {at} i h =
-      closes at count WellFormed (sym (end_here text at h) ∙ i.reached.form) (omega (arith, i.sum, ap length (none_left h)))
+      closes at count (Ok tt) (sym (end_here text at h) ∙ i.reached.form) (omega (arith, i.sum, ap length (none_left h)))
 
   -- those that were found are in the buffer, up to word w; the place has this line
   pub record Writing (out₀ out : List ℕ) (w at line : ℕ) : Type 0 where
@@ -94,7 +92,7 @@ module _ (s text : List ℕ) where
       record { reached = reached_begins; lined = line_begins text; done = []; all = refl; placed = refl; long = refl; same = sym (laid_none out 0) }
 
   module _ {out₀ out : List ℕ} {w at line : ℕ} (i : Writing out₀ out w at line) where
-    pub writing_known : text_of text ≡ WellFormed → text_of (drop at text) ≡ WellFormed
+    pub writing_known : text_of text ≡ Ok tt → text_of (drop at text) ≡ Ok tt
     writing_known e = unshifted at (text_of (drop at text)) (i.reached.form ∙ e)
 
     all_written : hashtags_at s text true at ≡ [] → out ≡ laid out₀ 0 (spans_words text (hashtags_of s text))

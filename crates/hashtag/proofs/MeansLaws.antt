@@ -7,13 +7,12 @@ use mathlib.Core.Option.{Option, none, some}
 use lib.ListN.{length}
 use lib.Dec.{ltb}
 use borrow.Author.Tests.{ltb-true, ltb-false}
+use Rattle.std.specs.Prelude.{Ok}
 use Rattle.lists.specs.Laid.{laid}
 use Rattle.refusal.specs.declared.Refusal.{Refusal}
 use Rattle.refusal.specs.declared.Refusal.TheVariants as refusal
 use Rattle.refusal.specs.Outcome.{Outcome, given, refused, unless, refused_if, outcome_map}
-use Rattle.utf8.specs.declared.Text.{Text}
-use Rattle.utf8.specs.declared.Text.TheVariants as form
-use Rattle.utf8.specs.Text.{Character, Encoded, TextMeans, well_formed, ill_formed as bad_form, decode, text_of}
+use Rattle.utf8.specs.Text.{Character, Encoded, TextMeans, well_formed, ill_formed as bad_form, decode, text_of, Form, ill}
 use Rattle.utf8.proofs.TextLaws.{means_decode, text_means, means_text}
 use Rattle.image.specs.Accepted.{Accepted}
 use Rattle.grammar.specs.Record.{room_of}
@@ -35,7 +34,7 @@ module _ (s text : List ℕ) where
   characters_are : {cs : List Character} → Encoded text cs [] → (decode text).characters ≡ cs
   characters_are e = ap (λ d. d.characters) (means_decode e)
 
-  form_means : Accepted s → length text ≤ max_text → (t : Text) → TextMeans text t → FoundMeans (unless (form_refusal_by t) (given (hashtags_of s text)))
+  form_means : Accepted s → length text ≤ max_text → (t : Form) → TextMeans text t → FoundMeans (unless (form_refusal_by t) (given (hashtags_of s text)))
   form_means a l t (well_formed {cs} e) =
       tags (record { image = a; short = l; characters = cs; well_formed = e; hashtags = subst (λ cs. AllHashtags s cs (hashtags_of s text)) (characters_are e) (hashtags_all s text) })
   form_means a l t (bad_form e h p m) = refuses (ill_formed (allowed a l) (bad_form e h p m))
@@ -54,9 +53,9 @@ module _ (s text : List ℕ) where
   means_found : (o : Outcome (List Span)) → FoundMeans o → hashtags_found s text ≡ o
   unfolding found_within hashtags_through
   means_found o (tags d) =
-      rw (means_before max_text s text (allowed d.image d.short), means_text text form.WellFormed (well_formed d.well_formed)) (ap given (tagged_is d))
+      rw (means_before max_text s text (allowed d.image d.short), means_text text (Ok tt) (well_formed d.well_formed)) (ap given (tagged_is d))
   means_found o (refuses (refused_before m)) = rw (means_before max_text s text m)
-  means_found o (refuses (ill_formed {p} {n} b m)) = rw (means_before max_text s text b, means_text text (form.IllFormed p n) m)
+  means_found o (refuses (ill_formed {p} {n} b m)) = rw (means_before max_text s text b, means_text text (ill p n) m)
 
   -- writing the list into a buffer of so many words
   module _ (words : ℕ) where

@@ -11,14 +11,13 @@ use lib.ListN.{length, get_or, drop, length-drop}
 use lib.Seq.{get_or-drop}
 use lib.Dec.{eqb}
 use borrow.Author.Tests.{lt-ltb, le-ltb, ne_eqb}
+use Rattle.std.specs.Prelude.{Ok, Err}
 use Rattle.lists.proofs.BoolLaws.{and_left, and_right, impossible}
 use Rattle.utf8.specs.declared.Step.{Step}
 use Rattle.utf8.specs.declared.Step.TheVariants.{Scalar, IllFormed, End}
 use Rattle.utf8.specs.Head.{step_of, IllHead}
-use Rattle.utf8.specs.declared.Text.{Text}
-use Rattle.utf8.specs.declared.Text.TheVariants.{WellFormed, IllFormed as Bad}
 use Rattle.utf8.specs.Lead.{length_of, known_length, is_trail}
-use Rattle.utf8.specs.Text.{Character, characters_at, width_of, text_of, shift}
+use Rattle.utf8.specs.Text.{Character, characters_at, width_of, text_of, shift, Form}
 use Rattle.utf8.proofs.SequenceLaws.{trail_range, known_bounds, ill_at, end_empty}
 use Rattle.utf8.proofs.TextLaws.{step_bounds, known_length_lem, turn, ascii_at, characters_step, characters_ill, characters_end}
 use Rattle.line.specs.Ends.{look, end_of}
@@ -103,14 +102,14 @@ measured_some text at n e z = go (step_of (drop at text)) refl e
     go End f l = absurd (z l)
 
 -- of a text that is well-formed from the place on the first byte tells it
-measured_known : (text : List ℕ) (at : ℕ) → at < length text → text_of (drop at text) ≡ WellFormed → known_length (get_or text at 0) ≡ length_of (step_of (drop at text))
+measured_known : (text : List ℕ) (at : ℕ) → at < length text → text_of (drop at text) ≡ Ok tt → known_length (get_or text at 0) ≡ length_of (step_of (drop at text))
 measured_known text at h w =
     let z : get_or (drop at text) 0 0 ≡ get_or text at 0 = get_or-drop at text 0 0 ∙ ap (λ (k : ℕ). get_or text k 0) (let q : at + 0 ≡ at = omega arith in q) in
     ap known_length (sym z) ∙ known_length_lem (drop at text) (omega (arith, length-drop at text)) w
 
-pub unshifted : (k : ℕ) (t : Text) → shift k t ≡ WellFormed → t ≡ WellFormed
-unshifted k WellFormed e = refl
-unshifted k (Bad p n) e = impossible (cc)
+pub unshifted : (k : ℕ) (t : Form) → shift k t ≡ Ok tt → t ≡ Ok tt
+unshifted k (Ok u) e = refl
+unshifted k (Err i) e = impossible (cc)
 
 module _ (s text : List ℕ) where
   -- a character stands at a place
@@ -144,7 +143,7 @@ module _ (s text : List ℕ) where
   stands at n h e z = let (x, f) = measured_some text at n e z in stands_at at n f h
 
   -- and by the first byte of a text that is well-formed
-  pub stands_known : (at : ℕ) → at < length text → text_of (drop at text) ≡ WellFormed → Stands at (known_length (get_or text at 0))
+  pub stands_known : (at : ℕ) → at < length text → text_of (drop at text) ≡ Ok tt → Stands at (known_length (get_or text at 0))
   stands_known at h w =
       stands at (known_length (get_or text at 0)) h (measured_known text at h w) (λ z. absurd (omega (arith, (known_bounds (get_or text at 0)).0)))
 
@@ -199,7 +198,7 @@ module _ (s text : List ℕ) where
   seeking_begins from h = record { above = omega arith; within = h; form = refl; rest = rw (le-ltb from from (omega arith)) }
 
   -- from there on it is as well-formed as from the first place on
-  pub seeking_known : {from before at : ℕ} → Seeking from before at → text_of (drop from text) ≡ WellFormed → text_of (drop at text) ≡ WellFormed
+  pub seeking_known : {from before at : ℕ} → Seeking from before at → text_of (drop from text) ≡ Ok tt → text_of (drop at text) ≡ Ok tt
   seeking_known {from} {before} {at} i e = unshifted at (text_of (drop at text)) (i.form ∙ ap (shift from) e)
 
   module _ {from before at : ℕ} (i : Seeking from before at) where

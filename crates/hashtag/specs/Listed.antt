@@ -13,10 +13,9 @@
 --   hashtag_words_within, hashtag_list_words     what the buffer then holds
 use Rattle.refusal.specs.declared.Refusal.{Refusal}
 use Rattle.std.specs.Prelude.{ℕ, ◌+◌, List, [], ◌∷◌, ◌++◌, length, Result, Ok, Err}
+use Rattle.utf8.specs.Text.{Form}
 use Rattle.refusal.specs.Outcome.{Outcome, given, unless, outcome_map}
 use Rattle.refusal.specs.declared.Refusal.TheVariants as refusal
-use Rattle.utf8.specs.declared.Text.{Text}
-use Rattle.utf8.specs.declared.Text.TheVariants.{WellFormed, IllFormed}
 use Rattle.line.specs.Line.{line_of}
 use Rattle.image.specs.Limits.{max_entries}
 use Rattle.grammar.specs.Record.{token_words}
@@ -44,9 +43,9 @@ unfoldable pub counted_through : List ℕ → List ℕ → Result ℕ Refusal
 counted_through s text = counted_by (outcome_map length (hashtags_through s text))
 
 -- n hashtags were found, and the characters end at the place `at`
-abbrev pub closed_by : ℕ → ℕ → Text → Result ℕ Refusal
-closed_by at n WellFormed = Ok n
-closed_by at n (IllFormed p k) = Err (refusal.IllFormed (at + p) k)
+abbrev pub closed_by : ℕ → ℕ → Form → Result ℕ Refusal
+closed_by at n (Ok u) = Ok n
+closed_by at n (Err e) = Err (refusal.IllFormed (at + e.place) e.len)
 
 unfoldable pub found_within : ℕ → List ℕ → List ℕ → Outcome (List Span)
 found_within limit s text = unless (before_within limit max_text s text) (hashtags_through s text)

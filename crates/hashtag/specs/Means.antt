@@ -5,8 +5,7 @@ use Rattle.std.proofs.Math.Option.{none, some}
 use Rattle.refusal.specs.declared.Refusal.{Refusal}
 use Rattle.refusal.specs.declared.Refusal.TheVariants as refusal
 use Rattle.refusal.specs.Outcome.{Outcome, given, refused}
-use Rattle.utf8.specs.declared.Text.TheVariants as form
-use Rattle.utf8.specs.Text.{Character, Encoded, TextMeans}
+use Rattle.utf8.specs.Text.{Character, Encoded, TextMeans, ill}
 use Rattle.image.specs.Accepted.{Accepted}
 use Rattle.grammar.specs.Record.{room_of}
 use Rattle.grammar.specs.Before.{max_text, BeforeMeans}
@@ -26,7 +25,7 @@ module _ (s text : List ℕ) where
     -- 1 to 5
     refused_before : {r : Refusal} → BeforeMeans max_text s text (some r) → Refuses r
     -- 6: p is the first place at which no well-formed sequence begins, and n bytes there are the maximal subpart
-    ill_formed : {p n : ℕ} → BeforeMeans max_text s text none → TextMeans text (form.IllFormed p n) → Refuses (refusal.IllFormed p n)
+    ill_formed : {p n : ℕ} → BeforeMeans max_text s text none → TextMeans text (ill p n) → Refuses (refusal.IllFormed p n)
 
   -- writing the list into a buffer of so many words: the number of hashtags where there is room for them, else 8 with the records needed
   pub data HashtagListMeans (words : ℕ) : Outcome ℕ → Type 0 where

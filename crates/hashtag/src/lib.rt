@@ -5,7 +5,6 @@
 ghost use Rattle.std.specs.Prelude.{◌≡◌, Bool, true, false, not, ◌&&◌, ◌||◌, ◌+◌, ◌*◌, ◌%◌, ◌≤◌, ◌<◌, length, drop, leb};
 ghost use Rattle.std.proofs.Math.Option.{none};
 ghost use Rattle.lists.specs.Laid.{laid};
-ghost use Rattle.utf8.specs.declared.Text.TheVariants.{WellFormed};
 ghost use Rattle.utf8.specs.Head.{step_of, IllHead};
 ghost use Rattle.utf8.specs.Text.{characters_at, width_of, text_of};
 ghost use Rattle.line.specs.Line.{LineAt};
@@ -350,7 +349,7 @@ fn seek_known<'a>(
     requires table_of { TableOf image.now table.now }
     requires stops_of { StopsOf true stops.now }
     requires text_len_bound { length text.now ≤ max_text }
-    requires from_in_bounds { (from ≤ length text.now) × (text_of (drop from text.now) ≡ WellFormed) }
+    requires from_in_bounds { (from ≤ length text.now) × (text_of (drop from text.now) ≡ Ok tt) }
     requires line_at { LineAt text.now from line }
     ensures sought { Sought image.now text.now from result.sign }
     ensures line_at_2 { LineAt text.now result.sign.at result.line × LineAt text.now result.sign.next result.line }
@@ -414,7 +413,7 @@ fn count_hashtags<'a>(image: &ClassImage, table: &'a [u8; 128], text: &'a [u8]) 
 fn write_hashtags<'a>(image: &ClassImage, table: &'a [u8; 128], text: &'a [u8], out: &mut [u32])
     requires table_of { TableOf image.now table.now }
     requires text_len_bound { length text.now ≤ max_text }
-    requires text_value { text_of text.now ≡ WellFormed }
+    requires text_value { text_of text.now ≡ Ok tt }
     requires text_in_bounds { record_size * length (hashtags_of image.now text.now) ≤ length out.old }
     ensures { out.new ≡ laid out.old 0 (spans_words text.now (hashtags_of image.now text.now)) }
 {

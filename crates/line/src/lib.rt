@@ -16,7 +16,11 @@ const LINE_SEPARATOR: u32 = 0x2028;
 
 const PARAGRAPH_SEPARATOR: u32 = 0x2029;
 
-// The first bytes of the last three.
+// Their first bytes.
+const FEED_BYTE: usize = LINE_FEED as usize;
+
+const RETURN_BYTE: usize = CARRIAGE_RETURN as usize;
+
 const FIRST_OF_TWO: usize = 0xC2;
 
 const FIRST_OF_THREE: usize = 0xE2;
@@ -28,67 +32,36 @@ pub const LOOK: u8 = 8;
 pub fn is_line_end(code: u32) -> bool
     ensures { result ≡ is_line_end code }
 {
-    if code < LINE_FEED {
-        return false;
-    }
-    if code <= CARRIAGE_RETURN {
-        return true;
-    }
-    if code == NEXT_LINE {
-        return true;
-    }
-    if code == LINE_SEPARATOR {
-        return true;
-    }
-    code == PARAGRAPH_SEPARATOR
+    matches!(
+        code,
+        LINE_FEED..=CARRIAGE_RETURN | NEXT_LINE | LINE_SEPARATOR | PARAGRAPH_SEPARATOR
+    )
 }
 
 // Whether LINE FEED stands at a place.
 fn is_feed_at(text: &[u8], at: usize) -> bool
     ensures { result ≡ feed_first (characters_at text.now at) }
 {
-    if text.len() <= at {
-        return false;
-    }
-    text[at] == LINE_FEED as u8
+    at < text.len() && text[at] == LINE_FEED as u8
 }
 
 // 1 where a line ends with a code point that the text from `next` on follows, else 0.
 pub fn count_end(text: &[u8], code: u32, next: usize) -> u32
     ensures { result ≡ one (ends_line code (characters_at text.now next)) }
 {
-    if !is_line_end(code) {
-        return 0;
-    }
-    if code != CARRIAGE_RETURN {
-        return 1;
-    }
-    if is_feed_at(text, next) {
-        return 0; // the line ends with the LINE FEED
-    }
-    1
+    // With CARRIAGE RETURN and LINE FEED the line ends with the LINE FEED.
+    (is_line_end(code) && !(code == CARRIAGE_RETURN && is_feed_at(text, next))) as u32
 }
 
 // What the first byte of a character tells: no line ends with it, 0; one does, 1; else LOOK.
 pub fn tell_end(b: usize) -> u8
     ensures { result ≡ end_of b }
 {
-    if b < LINE_FEED as usize {
-        return 0;
+    match b {
+        FEED_BYTE..RETURN_BYTE => 1,
+        RETURN_BYTE | FIRST_OF_TWO | FIRST_OF_THREE => LOOK,
+        _ => 0,
     }
-    if b < CARRIAGE_RETURN as usize {
-        return 1;
-    }
-    if b == CARRIAGE_RETURN as usize {
-        return LOOK;
-    }
-    if b == FIRST_OF_TWO {
-        return LOOK;
-    }
-    if b == FIRST_OF_THREE {
-        return LOOK;
-    }
-    0
 }
 
 // The same of the character at a place; 0 where there is none.

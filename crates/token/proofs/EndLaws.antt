@@ -10,15 +10,13 @@ use lib.ListN.{length, get_or, set, length-append, length-drop, length-set}
 use lib.Seq.{take_all, get_or-set_same}
 use lib.Dec.{eqb, ltb}
 use borrow.Author.Tests.{eqb-false, ne_eqb, lt-ltb, le-ltb}
-use Rattle.std.specs.Prelude.{Ok}
+use Rattle.std.specs.Prelude.{Ok, Err}
 use Rattle.lists.specs.Laid.{laid}
 use Rattle.lists.proofs.BoolLaws.{impossible}
 use Rattle.lists.proofs.LaidLaws.{laid_none}
 use Rattle.refusal.specs.declared.Refusal.{Refusal}
 use Rattle.refusal.specs.Outcome.{unless, outcome_map}
-use Rattle.utf8.specs.declared.Text.{Text}
-use Rattle.utf8.specs.declared.Text.TheVariants.{WellFormed, IllFormed}
-use Rattle.utf8.specs.Text.{Character, decode, text_of, width_of}
+use Rattle.utf8.specs.Text.{Character, decode, text_of, width_of, Form}
 use Rattle.utf8.proofs.TextLaws.{decode_covers, well_rest}
 use Rattle.grammar.specs.Scan.{Tok, units_of}
 use Rattle.grammar.specs.Grammar.{Kind, Token}
@@ -43,7 +41,7 @@ use Rattle.token.specs.Ended.{Ended}
 
 -- a text that is counted is well-formed, and each of its characters is in a token
 pub record Whole (s text : List ℕ) (total : ℕ) : Type 0 where
-  pub form : text_of text ≡ WellFormed
+  pub form : text_of text ≡ Ok tt
   pub none_left : (reading_of s text).left ≡ []
   pub number : length (tokens_of s text) ≡ total
 
@@ -51,12 +49,12 @@ pub whole : (s text : List ℕ) (total : ℕ) → count_through s text ≡ Ok to
 unfolding count_through read_through
 whole s text total e = go (text_of text) (reading_of s text).left refl refl (mark_refusal s (tokens_of s text)) refl e
   where
-    go : (f : Text) (l : List Character) → text_of text ≡ f → (reading_of s text).left ≡ l → (o : Option Refusal) → mark_refusal s (tokens_of s text) ≡ o →
+    go : (f : Form) (l : List Character) → text_of text ≡ f → (reading_of s text).left ≡ l → (o : Option Refusal) → mark_refusal s (tokens_of s text) ≡ o →
         counted_by (outcome_map length (unless (form_refusal_by f) (judged s (tokens_of s text) l))) ≡ Ok total → Whole s text total
-    go (IllFormed p n) l g h o m q = impossible (cc)
-    go WellFormed (c ∷ r) g h o m q = impossible (cc)
-    go WellFormed [] g h (some x) m q = impossible (cc)
-    go WellFormed [] g h none m q = record { form = g; none_left = h; number = let z = rw m at q in cc }
+    go (Err i) l g h o m q = impossible (cc)
+    go (Ok u) (c ∷ r) g h o m q = impossible (cc)
+    go (Ok u) [] g h (some x) m q = impossible (cc)
+    go (Ok u) [] g h none m q = record { form = g; none_left = h; number = let z = rw m at q in cc }
 
 -- its tokens have all its bytes
 all_bytes : {s text : List ℕ} {total : ℕ} → Whole s text total → tokens_width (tokens_of s text) ≡ length text

@@ -6,17 +6,15 @@ use mathlib.Core.Option.{none, some}
 use native.Mathlib.Omega.{arith}
 use lib.ListN.{length, take, drop, length-drop}
 use borrow.Author.Tests.{lt-ltb, le-ltb, eq-eqb, ne_eqb}
-use Rattle.std.specs.Prelude.{Err}
+use Rattle.std.specs.Prelude.{Err, Ok}
 use Rattle.lists.proofs.BoolLaws.{impossible}
 use Rattle.refusal.specs.declared.Refusal.{Refusal}
 use Rattle.refusal.specs.declared.Refusal.TheVariants as refusal
 use Rattle.utf8.specs.declared.Step.{Step}
 use Rattle.utf8.specs.declared.Step.TheVariants as step
-use Rattle.utf8.specs.declared.Text.{Text}
-use Rattle.utf8.specs.declared.Text.TheVariants as form
 use Rattle.utf8.specs.Subpart.{subpart_of}
 use Rattle.utf8.specs.Head.{step_of, IllHead}
-use Rattle.utf8.specs.Text.{Character, decode, width_of, text_of}
+use Rattle.utf8.specs.Text.{Character, decode, width_of, text_of, Form}
 use Rattle.utf8.proofs.SequenceLaws.{end_empty, ill_at, ill_not_empty}
 use Rattle.utf8.proofs.TextLaws.{step_bounds, decode_scalar, text_ill, text_end, well_rest, ill_rest, decode_covers, decode_before_ill, width_append}
 use Rattle.grammar.specs.Scan.{Tok, units_of, reading}
@@ -44,8 +42,8 @@ stop_width : (text : List ℕ) (place : ℕ) → place ≤ length text → stop_
 unfolding stop_of
 stop_width text place h = go (text_of (drop place text)) refl
   where
-    go : (t : Text) → text_of (drop place text) ≡ t → stop_by place (length text) t ≡ place + width_of (decode (drop place text)).characters
-    go form.WellFormed e =
+    go : (t : Form) → text_of (drop place text) ≡ t → stop_by place (length text) t ≡ place + width_of (decode (drop place text)).characters
+    go (Ok u) e =
         let part = drop place text in
         let w = width_of (decode part).characters in
         let c = decode_covers part in
@@ -53,7 +51,7 @@ stop_width text place h = go (text_of (drop place text)) refl
         let m = length-drop w part in
         let n : length (drop w part) ≡ 0 = ap length (c.after ∙ well_rest part e) in
         omega (arith, c.within)
-    go (form.IllFormed p n) e = let r = ill_rest (drop place text) p n e in omega (arith, r.place)
+    go (Err f) e = let r = ill_rest (drop place text) f.place f.len e in omega (arith, r.place)
 
 -- reading the part up to q finds the same tokens
 same_tokens : (s part : List ℕ) → tokens_of s (take (width_of (decode part).characters) part) ≡ tokens_of s part

@@ -12,10 +12,8 @@ use Rattle.std.specs.Prelude.{ℕ, ◌+◌, ◌-◌, not, ◌&&◌, cond, List, 
 use Rattle.std.proofs.Math.Option.{Option, none, some}
 use Rattle.refusal.specs.declared.Refusal.{Refusal}
 use Rattle.refusal.specs.declared.Refusal.TheVariants as refusal
-use Rattle.utf8.specs.declared.Text.{Text}
-use Rattle.utf8.specs.declared.Text.TheVariants.{WellFormed, IllFormed}
 use Rattle.utf8.specs.Subpart.{subpart_of}
-use Rattle.utf8.specs.Text.{Character, text_of}
+use Rattle.utf8.specs.Text.{Character, text_of, Form}
 use Rattle.image.specs.Limits.{max_entries}
 use Rattle.grammar.specs.Scan.{Tok}
 use Rattle.grammar.specs.Grammar.{Kind}
@@ -44,9 +42,9 @@ unfoldable pub place_refusal : List ℕ → ℕ → Option Refusal
 place_refusal text place = refused_if (ltb (length text) place) refusal.Shape
 
 -- sequences are counted from the place on
-abbrev pub stop_by : ℕ → ℕ → Text → ℕ
-stop_by place end WellFormed = end
-stop_by place end (IllFormed p n) = place + p
+abbrev pub stop_by : ℕ → ℕ → Form → ℕ
+stop_by place end (Ok u) = end
+stop_by place end (Err e) = place + e.place
 
 unfoldable pub stop_of : List ℕ → ℕ → ℕ
 stop_of text place = stop_by place (length text) (text_of (drop place text))

@@ -5,7 +5,6 @@ use mathlib.Core.Path.{◌≡◌, refl, sym, ap, ◌∙◌}
 use mathlib.Core.Bool.{Bool, true, false, false≢true, not, ◌&&◌, cond}
 use mathlib.Core.List.{List, [], ◌∷◌}
 use native.Mathlib.Omega.{arith}
-use native.Mathlib.Decide.{dec_lt}
 use lib.Dec.{leb, ltb}
 use lib.ListN.{length, take, drop, get_or, length-drop, drop_of_length-le}
 use lib.Seq.{drop-cons}
@@ -31,13 +30,6 @@ inside_above g b h = rw (lt-leb b g.high h) (go (leb g.low b))
 
 pub inside_below : (g : ByteRange) (b : ℕ) → b < g.low → inside g b ≡ false
 inside_below g b h = rw (lt-leb g.low b h)
-
-pub ltb-not : (a b : ℕ) → ltb a b ≡ not (leb b a)
-ltb-not a b =
-    elim (dec_lt a b) [
-      | yes h ↦ lt-ltb a b h ∙ sym (ap not (lt-leb b a h))
-      | no h ↦ (let g : b ≤ a = omega arith in le-ltb a b g ∙ sym (ap not (le-leb b a g)))
-    ]
 
 -- byte i of a text, and the row from byte i on
 module _ (g : ByteRange) (gs : Row) (s : List ℕ) (i : ℕ) where
@@ -84,12 +76,23 @@ fits-length [] s e = omega arith
 fits-length (g ∷ gs) [] e = absurd (false≢true e)
 fits-length (g ∷ gs) (b ∷ s) e = let h = fits-length gs s (and_right (inside g b) (fits gs s) e) in omega arith
 
-pub fits_short : (g : ByteRange) (gs : Row) (s : List ℕ) (i : ℕ) → length s < i + suc (length gs) → fits (g ∷ gs) (drop i s) ≡ false
-fits_short g gs s i h = go (fits (g ∷ gs) (drop i s)) refl
+pub fits_short : (gs : Row) (s : List ℕ) → length s < length gs → fits gs s ≡ false
+fits_short gs s h = go (fits gs s) refl
   where
-    go : (t : Bool) → fits (g ∷ gs) (drop i s) ≡ t → fits (g ∷ gs) (drop i s) ≡ false
-    go true e = absurd (omega (arith, fits-length (g ∷ gs) (drop i s) e, length-drop i s))
+    go : (t : Bool) → fits gs s ≡ t → fits gs s ≡ false
+    go true e = absurd (omega (arith, fits-length gs s e))
     go false e = e
+
+-- the ranges of a row's bytes after the first, from number i on
+module _ (gs : Row) (s : List ℕ) (i : ℕ) (d : ByteRange) (h : i < length gs) where
+  from_here : fits (drop i gs) (drop (suc i) s) ≡ fits (get_or gs i d ∷ drop (suc i) gs) (drop (suc i) s)
+  from_here = ap (λ (r : Row). fits r (drop (suc i) s)) (drop-cons gs i d h)
+
+  pub fits_next : byte_fits (get_or gs i d) s (suc i) ≡ true → fits (drop i gs) (drop (suc i) s) ≡ fits (drop (suc i) gs) (drop (suc (suc i)) s)
+  fits_next e = from_here ∙ fits_in (get_or gs i d) (drop (suc i) gs) s (suc i) e
+
+  pub fits_not : byte_fits (get_or gs i d) s (suc i) ≡ false → fits (drop i gs) (drop (suc i) s) ≡ false
+  fits_not e = from_here ∙ fits_out (get_or gs i d) (drop (suc i) gs) s (suc i) e
 
 -- n bytes of a text from byte i on, one by one
 abbrev pub bytes_at : ℕ → ℕ → List ℕ → List ℕ

@@ -11,13 +11,14 @@ use lib.Seq.{drop-drop, drop-append_seam, get_or-drop, get_or-take}
 use Rattle.lists.proofs.BoolLaws.{impossible}
 use Rattle.utf8.specs.declared.Step.{Step}
 use Rattle.utf8.specs.declared.Step.TheVariants.{Scalar, IllFormed, End}
-use Rattle.utf8.specs.declared.Text.{Text}
-use Rattle.utf8.specs.declared.Text.TheVariants as text
+use Rattle.std.specs.Prelude.{Ok, Err}
 use Rattle.utf8.specs.Scalar.{is_scalar}
 use Rattle.utf8.specs.Subpart.{subpart_of, MaximalSubpart}
 use Rattle.utf8.specs.Head.{step_of, IllHead, NoSequence, StepMeans, sequence, no_sequence, empty}
 use Rattle.utf8.specs.Lead.{packed, length_of, known_length, is_trail}
 use Rattle.utf8.specs.Text.{
+  Form,
+  ill,
   Character,
   Decoded,
   ended,
@@ -204,7 +205,7 @@ pub decode_before_ill : (s : List ℕ) → decode (take (width_of (decode s).cha
 decode_before_ill s = means_decode (encoded_before (decode_means s))
 
 -- what the answer of the check of a text means
-pub text_means : (s : List ℕ) (t : Text) → text_of s ≡ t → TextMeans s t
+pub text_means : (s : List ℕ) (t : Form) → text_of s ≡ t → TextMeans s t
 unfolding text_of
 text_means s t e = subst (TextMeans s) e (go (decode s).rest (decode_means s))
   where
@@ -213,33 +214,33 @@ text_means s t e = subst (TextMeans s) e (go (decode s).rest (decode_means s))
     go (b ∷ r) d = ill_formed d (omega arith) refl (subpart_means (b ∷ r) (omega arith))
 
 -- and back: where it is so, that is the answer
-pub means_text : (s : List ℕ) (t : Text) → TextMeans s t → text_of s ≡ t
+pub means_text : (s : List ℕ) (t : Form) → TextMeans s t → text_of s ≡ t
 unfolding text_of
 means_text s t (well_formed d) = rw (means_decode d)
 means_text s t (ill_formed {p} {n} {cs} {rest} d l e m) = rw (means_decode d) (go rest l m)
   where
-    go : (r : List ℕ) → 0 < length r → MaximalSubpart r n → text_by (width_of cs) r ≡ text.IllFormed p n
+    go : (r : List ℕ) → 0 < length r → MaximalSubpart r n → text_by (width_of cs) r ≡ ill p n
     go [] l m = absurd (omega arith)
-    go (b ∷ r) l m = (λ i. text.IllFormed (sym e i) (means_subpart (b ∷ r) n l m i))
+    go (b ∷ r) l m = (λ i. ill (sym e i) (means_subpart (b ∷ r) n l m i))
 
 -- the same of what decoding leaves
-pub well_rest : (s : List ℕ) → text_of s ≡ text.WellFormed → (decode s).rest ≡ []
-well_rest s e = go (text_means s text.WellFormed e)
+pub well_rest : (s : List ℕ) → text_of s ≡ Ok tt → (decode s).rest ≡ []
+well_rest s e = go (text_means s (Ok tt) e)
   where
-    go : TextMeans s text.WellFormed → (decode s).rest ≡ []
+    go : TextMeans s (Ok tt) → (decode s).rest ≡ []
     go (well_formed d) = ap (λ (c : Decoded). c.rest) (means_decode d)
 
-pub rest_well : (s : List ℕ) → (decode s).rest ≡ [] → text_of s ≡ text.WellFormed
-rest_well s e = means_text s text.WellFormed (well_formed (subst (λ (r : List ℕ). Encoded s (decode s).characters r) e (decode_means s)))
+pub rest_well : (s : List ℕ) → (decode s).rest ≡ [] → text_of s ≡ Ok tt
+rest_well s e = means_text s (Ok tt) (well_formed (subst (λ (r : List ℕ). Encoded s (decode s).characters r) e (decode_means s)))
 
 pub record IllRest (s : List ℕ) (p n : ℕ) : Type 0 where
   pub place : p ≡ width_of (decode s).characters
   pub subpart : SubpartBounds (decode s).rest n
 
-pub ill_rest : (s : List ℕ) (p n : ℕ) → text_of s ≡ text.IllFormed p n → IllRest s p n
-ill_rest s p n e = go (text_means s (text.IllFormed p n) e)
+pub ill_rest : (s : List ℕ) (p n : ℕ) → text_of s ≡ ill p n → IllRest s p n
+ill_rest s p n e = go (text_means s (ill p n) e)
   where
-    go : TextMeans s (text.IllFormed p n) → IllRest s p n
+    go : TextMeans s (ill p n) → IllRest s p n
     go (ill_formed d l q m) =
         record { place = rw (means_decode d) q; subpart = rw (means_decode d) (subpart_bounds l (encoded_stops d) m) }
 
@@ -249,7 +250,7 @@ pub record IllWithin (s : List ℕ) (p n : ℕ) : Type 0 where
   pub short : n ≤ 3
   pub within : p + n ≤ length s
 
-pub ill_within : (s : List ℕ) (p n : ℕ) → text_of s ≡ text.IllFormed p n → IllWithin s p n
+pub ill_within : (s : List ℕ) (p n : ℕ) → text_of s ≡ ill p n → IllWithin s p n
 ill_within s p n e =
     let r = ill_rest s p n e in
     let c = decode_covers s in
@@ -259,13 +260,13 @@ ill_within s p n e =
     record { some_bytes = b.some_bytes; short = b.short; within = omega (arith, c.within) }
 
 -- by the step at the head
-pub text_ill : (s : List ℕ) → IllHead s → text_of s ≡ text.IllFormed 0 (subpart_of s)
+pub text_ill : (s : List ℕ) → IllHead s → text_of s ≡ ill 0 (subpart_of s)
 text_ill s e =
     let l = ill_not_empty s e in
-    means_text s (text.IllFormed 0 (subpart_of s)) (ill_formed (ends (no_sequence_at s e)) l refl (subpart_means s l))
+    means_text s (ill 0 (subpart_of s)) (ill_formed (ends (no_sequence_at s e)) l refl (subpart_means s l))
 
 -- at the head of a well-formed text stands a sequence, and its first byte tells its length
-pub known_length_lem : (s : List ℕ) → 0 < length s → text_of s ≡ text.WellFormed → known_length (get_or s 0 0) ≡ length_of (step_of s)
+pub known_length_lem : (s : List ℕ) → 0 < length s → text_of s ≡ Ok tt → known_length (get_or s 0 0) ≡ length_of (step_of s)
 known_length_lem s h w = go (step_of s) refl
   where
     go : (t : Step) → step_of s ≡ t → known_length (get_or s 0 0) ≡ length_of t
@@ -273,20 +274,20 @@ known_length_lem s h w = go (step_of s) refl
     go (IllFormed n) e = impossible (cc (text_ill s (ill_at s n e)))
     go End e = absurd (omega (arith, ap length (end_empty s e)))
 
-pub text_end : (s : List ℕ) → s ≡ [] → text_of s ≡ text.WellFormed
+pub text_end : (s : List ℕ) → s ≡ [] → text_of s ≡ Ok tt
 text_end s e = rest_well s (ap (λ (c : Decoded). c.rest) (means_decode (ends (none_empty s e))) ∙ e)
 
 shift_by : (k p : ℕ) (r : List ℕ) → text_by (k + p) r ≡ shift k (text_by p r)
 shift_by k p [] = refl
 shift_by k p (b ∷ r) = refl
 
-pub shift_zero : (t : Text) → shift 0 t ≡ t
-shift_zero text.WellFormed = refl
-shift_zero (text.IllFormed p n) = ap (λ (q : ℕ). text.IllFormed q n) (let z : 0 + p ≡ p = omega arith in z)
+pub shift_zero : (t : Form) → shift 0 t ≡ t
+shift_zero (Ok u) = refl
+shift_zero (Err e) = ap (λ (q : ℕ). ill q e.len) (let z : 0 + e.place ≡ e.place = omega arith in z)
 
-pub shift_shift : (j k : ℕ) (t : Text) → shift j (shift k t) ≡ shift (j + k) t
-shift_shift j k text.WellFormed = refl
-shift_shift j k (text.IllFormed p n) = ap (λ (q : ℕ). text.IllFormed q n) (sym (add_assoc j k p))
+pub shift_shift : (j k : ℕ) (t : Form) → shift j (shift k t) ≡ shift (j + k) t
+shift_shift j k (Ok u) = refl
+shift_shift j k (Err e) = ap (λ (q : ℕ). ill q e.len) (sym (add_assoc j k e.place))
 
 pub text_scalar : (s : List ℕ) (x n : ℕ) → step_of s ≡ Scalar x n → text_of s ≡ shift n (text_of (drop n s))
 unfolding text_of
@@ -324,12 +325,12 @@ ascii_at s at h b =
 pub ascii_turn : (s : List ℕ) (at : ℕ) → at < length s → get_or s at 0 < 0x80 → Turn s at 1
 ascii_turn s at h b = turn s at (get_or s at 0) 1 (omega arith) (ascii_at s at h b)
 
-pub ill_here : (s : List ℕ) (at : ℕ) → IllHead (drop at s) → shift at (text_of (drop at s)) ≡ text.IllFormed at (subpart_of (drop at s))
+pub ill_here : (s : List ℕ) (at : ℕ) → IllHead (drop at s) → shift at (text_of (drop at s)) ≡ ill at (subpart_of (drop at s))
 ill_here s at e =
     ap (shift at) (text_ill (drop at s) e)
-    ∙ ap (λ (p : ℕ). text.IllFormed p (subpart_of (drop at s))) (let z : at + 0 ≡ at = omega arith in z)
+    ∙ ap (λ (p : ℕ). ill p (subpart_of (drop at s))) (let z : at + 0 ≡ at = omega arith in z)
 
-pub end_here : (s : List ℕ) (at : ℕ) → length s ≤ at → shift at (text_of (drop at s)) ≡ text.WellFormed
+pub end_here : (s : List ℕ) (at : ℕ) → length s ≤ at → shift at (text_of (drop at s)) ≡ Ok tt
 end_here s at h = ap (shift at) (text_end (drop at s) (drop_of_length-le s h))
 
 -- the characters from a place on: past the sequence there, or none

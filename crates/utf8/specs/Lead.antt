@@ -2,7 +2,6 @@
 -- What the first byte of a sequence decides (docs/RULES.md, "UTF-8 by its first byte"): the reader's form of Table 3-7.
 -- `proofs/LeadLaws.antt` joins the two.
 --
---   lead_with               a lead: a length, and the ranges of the second, third and fourth byte
 --   absent                 the range of a byte that a sequence doesn't have
 --   lead_after, lead_of_row   the lead of a row, by its ranges after the first; by all of them
 --   leads                  the first range of a row has the byte
@@ -23,20 +22,14 @@ use Rattle.utf8.specs.Table.{ByteRange, ◌to◌, Row, rows, inside, fits}
 use Rattle.utf8.specs.Encoding.{code_point}
 use Rattle.utf8.specs.Subpart.{subpart_of}
 
-abbrev pub lead_with : ℕ → ByteRange → ByteRange → ByteRange → Lead
-lead_with n g h i = record { len = n; low2 = g.low; high2 = g.high; low3 = h.low; high3 = h.high; low4 = i.low; high4 = i.high }
-
 abbrev pub absent : ByteRange
 absent = 0x80 to 0xBF
 
 abbrev pub lead_after : Row → Lead
-lead_after [] = lead_with 1 absent absent absent
-lead_after (g ∷ []) = lead_with 2 g absent absent
-lead_after (g ∷ h ∷ []) = lead_with 3 g h absent
-lead_after (g ∷ h ∷ i ∷ gs) = lead_with 4 g h i
+lead_after gs = record { len = suc (length gs); second = get_or gs 0 absent; third = get_or gs 1 absent; fourth = get_or gs 2 absent }
 
 abbrev pub lead_of_row : Row → Lead
-lead_of_row [] = lead_with 0 absent absent absent
+lead_of_row [] = record { len = 0; second = absent; third = absent; fourth = absent }
 lead_of_row (g ∷ gs) = lead_after gs
 
 abbrev pub leads : Row → ℕ → Bool
@@ -53,7 +46,7 @@ lead_of b = lead_in rows b
 
 abbrev pub trail_of : ℕ → Lead → Row
 trail_of zero l = []
-trail_of (suc n) l = take n (l.low2 to l.high2 ∷ l.low3 to l.high3 ∷ l.low4 to l.high4 ∷ [])
+trail_of (suc n) l = take n (l.second ∷ l.third ∷ l.fourth ∷ [])
 
 abbrev pub step_as : ℕ → Row → List ℕ → Step
 step_as zero gs s = IllFormed (subpart_of s)

@@ -10,10 +10,10 @@
 --   Fills, FillsSome   bytes are as a row says, and no more of them; as one of these rows says
 --   Sequence           a well-formed sequence: it fills a row of the table
 use Rattle.std.specs.Prelude.{ℕ, ◌≤◌, Bool, true, false, ◌&&◌, List, [], ◌∷◌, ◌⊎◌, leb}
+use Rattle.utf8.specs.declared.Bounds.{Bounds}
 
-pub record ByteRange : Type 0 where
-  pub low : ℕ
-  pub high : ℕ
+abbrev pub ByteRange : Type 0
+ByteRange = Bounds
 
 infix 70 ◌to◌
 abbrev pub ◌to◌ : ℕ → ℕ → ByteRange

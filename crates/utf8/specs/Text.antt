@@ -8,16 +8,17 @@
 --   decode               the characters of a text
 --   characters_at         those from a place on
 --   width_of              the bytes of characters
+--   Form, ill             whether a text is well-formed, or an ill-formed place and the length of the maximal subpart
+--                        there; the second of these
 --   text_by, text_of       whether a text is well-formed, or its first ill-formed place and the length of the
 --                        maximal subpart there
 --   shift                what is said of a part that begins at byte k, said of the whole
 --   character_of          the character of a sequence
 --   Encoded, TextMeans   what `decode` means; what `text_of` means
-use Rattle.std.specs.Prelude.{ℕ, zero, suc, ◌+◌, ◌<◌, List, [], ◌∷◌, ◌++◌, ◌≡◌, length, drop}
+use Rattle.std.specs.Prelude.{ℕ, zero, suc, ◌+◌, ◌<◌, List, [], ◌∷◌, ◌++◌, ◌≡◌, length, drop, Result, Ok, Err}
 use Rattle.utf8.specs.declared.Step.{Step}
 use Rattle.utf8.specs.declared.Step.TheVariants.{Scalar, IllFormed, End}
-use Rattle.utf8.specs.declared.Text.{Text}
-use Rattle.utf8.specs.declared.Text.TheVariants as text
+use Rattle.utf8.specs.declared.IllFormed.{IllFormed as Ill}
 use Rattle.utf8.specs.Table.{Sequence}
 use Rattle.utf8.specs.Encoding.{code_point}
 use Rattle.utf8.specs.Subpart.{subpart_of, MaximalSubpart}
@@ -58,16 +59,22 @@ abbrev pub width_of : List Character → ℕ
 width_of [] = 0
 width_of (c ∷ cs) = c.width + width_of cs
 
-abbrev pub text_by : ℕ → List ℕ → Text
-text_by p [] = text.WellFormed
-text_by p (b ∷ r) = text.IllFormed p (subpart_of (b ∷ r))
+abbrev pub Form : Type 0
+Form = Result (Unit {0}) Ill
 
-unfoldable pub text_of : List ℕ → Text
+abbrev pub ill : ℕ → ℕ → Form
+ill p n = Err (record { place = p; len = n })
+
+abbrev pub text_by : ℕ → List ℕ → Form
+text_by p [] = Ok tt
+text_by p (b ∷ r) = ill p (subpart_of (b ∷ r))
+
+unfoldable pub text_of : List ℕ → Form
 text_of s = text_by (width_of (decode s).characters) (decode s).rest
 
-abbrev pub shift : ℕ → Text → Text
-shift k text.WellFormed = text.WellFormed
-shift k (text.IllFormed p n) = text.IllFormed (k + p) n
+abbrev pub shift : ℕ → Form → Form
+shift k (Ok u) = Ok u
+shift k (Err e) = ill (k + e.place) e.len
 
 abbrev pub character_of : List ℕ → Character
 character_of q = record { code = code_point q; width = length q }
@@ -78,8 +85,8 @@ pub data Encoded : List ℕ → List Character → List ℕ → Type 0 where
   takes : {s : List ℕ} {cs : List Character} {rest : List ℕ} (q r : List ℕ) → s ≡ q ++ r → Sequence q → Encoded r cs rest → Encoded s (character_of q ∷ cs) rest
 
 -- the sequences go to the text's end; or p is the place where they end, bytes are left there, and n of them are the maximal subpart
-pub data TextMeans (s : List ℕ) : Text → Type 0 where
-  well_formed : {cs : List Character} → Encoded s cs [] → TextMeans s text.WellFormed
+pub data TextMeans (s : List ℕ) : Form → Type 0 where
+  well_formed : {cs : List Character} → Encoded s cs [] → TextMeans s (Ok tt)
   ill_formed :
       {p n : ℕ} {cs : List Character} {rest : List ℕ} → Encoded s cs rest → 0 < length rest → p ≡ width_of cs → MaximalSubpart rest n
-      → TextMeans s (text.IllFormed p n)
+      → TextMeans s (ill p n)

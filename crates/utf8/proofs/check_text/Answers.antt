@@ -5,9 +5,9 @@ use mathlib.Core.Path.{sym, ap, subst, ◌∙◌}
 use native.Mathlib.Omega.{arith}
 use lib.ListN.{drop, length-drop}
 use Rattle.lists.proofs.LaidLaws.{rest}
-use Rattle.utf8.specs.declared.Text.TheVariants as text
 use Rattle.utf8.specs.Subpart.{subpart_of}
 use Rattle.utf8.specs.Head.{IllHead}
+use Rattle.utf8.specs.Text.{ill}
 use Rattle.utf8.proofs.TextLaws.{shift_zero, Turn, turn, Unpacked, unpacked, ascii_turn, ill_here, end_here}
 use Rattle.utf8.proofs.check_text.Goals as goal
 use Rattle.utf8.proofs.check_text.Goals.{After-decode_packed-len, Else-len-eq0, Then-len-eq0}
@@ -48,7 +48,7 @@ measure_subpart-requires c = subst IllHead (sym (rest c.args.s.now c.loop-at.at)
 
 pub returns-then-len-eq0 : goal.returns-then-len-eq0
 returns-then-len-eq0 c =
-    ap (text.IllFormed c.loop-at.at) (c.measure_subpart.ensures ∙ ap subpart_of (rest c.args.s.now c.loop-at.at))
+    ap (ill c.loop-at.at) (c.measure_subpart.ensures ∙ ap subpart_of (rest c.args.s.now c.loop-at.at))
     ∙ sym (ill_here _ _ (part (goal.at.returns-then-len-eq0 c).Then-len-eq0)) ∙ c.loop-at.invariant.1
 
 pub overflow_add-at-in-loop-at : goal.overflow_add-at-in-loop-at

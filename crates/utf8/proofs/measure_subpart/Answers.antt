@@ -6,16 +6,14 @@ use mathlib.Core.List.{List, [], ◌∷◌, ◌++◌}
 use mathlib.Core.Path.{◌≡◌, refl, sym, ◌∙◌}
 use native.Mathlib.Omega.{arith}
 use native.Mathlib.Decide.{dec_lt}
-use borrow.Author.Tests.{not-true, not-false}
 use Rattle.utf8.specs.declared.Lead.{Lead}
-use Rattle.utf8.specs.Table.{Row, ◌to◌}
+use Rattle.utf8.specs.Table.{Row}
 use Rattle.utf8.specs.Subpart.{subpart_of}
 use Rattle.utf8.specs.Head.{IllHead}
 use Rattle.utf8.specs.Lead.{trail_of, byte_fits}
 use Rattle.utf8.proofs.SequenceLaws.{ill_not_empty}
 use Rattle.utf8.proofs.LeadLaws.{Begun, begins, next_in, subpart_out, subpart_alone, not_whole, lead_le}
 use Rattle.utf8.proofs.measure_subpart.Goals as goal
-use Rattle.utf8.proofs.measure_subpart.Goals.{After-read_lead-lead, Else-misses}
 
 -- the row goes on after bytes that fit, since no sequence ends there
 goes_on :
@@ -27,56 +25,48 @@ module _ {s : List ℕ} {l : Lead} (first : Begun s l [] 0) (i : IllHead s) (n :
   two : 2 ≤ l.len
   two = goes_on i first refl (omega arith)
 
-  one_byte : byte_fits (l.low2 to l.high2) s 1 ≡ false → 1 ≡ subpart_of s
+  one_byte : byte_fits l.second s 1 ≡ false → 1 ≡ subpart_of s
   one_byte f = subpart_out first _ _ (suc (l.len - 2)) (omega (arith, two)) refl f
 
-  module _ (f : byte_fits (l.low2 to l.high2) s 1 ≡ true) where
-    second : Begun s l (l.low2 to l.high2 ∷ []) 1
+  module _ (f : byte_fits l.second s 1 ≡ true) where
+    second : Begun s l (l.second ∷ []) 1
     second = next_in first _ f
 
     three : 3 ≤ l.len
     three = goes_on i second refl two
 
-    two_bytes : byte_fits (l.low3 to l.high3) s 2 ≡ false → 2 ≡ subpart_of s
+    two_bytes : byte_fits l.third s 2 ≡ false → 2 ≡ subpart_of s
     two_bytes g = subpart_out second _ _ (suc (suc (l.len - 3))) (omega (arith, three)) refl g
 
-    three_bytes : byte_fits (l.low3 to l.high3) s 2 ≡ true → 3 ≡ subpart_of s
-    three_bytes g = go (byte_fits (l.low4 to l.high4) s 3) refl
+    three_bytes : byte_fits l.third s 2 ≡ true → 3 ≡ subpart_of s
+    three_bytes g = go (byte_fits l.fourth s 3) refl
       where
-        third : Begun s l (l.low2 to l.high2 ∷ l.low3 to l.high3 ∷ []) 2
+        third : Begun s l (l.second ∷ l.third ∷ []) 2
         third = next_in second _ g
 
         four : l.len ≡ 4
         four = omega (arith, goes_on i third refl three, lead_le _ first.lead)
 
-        go : (t : Bool) → byte_fits (l.low4 to l.high4) s 3 ≡ t → 3 ≡ subpart_of s
+        go : (t : Bool) → byte_fits l.fourth s 3 ≡ t → 3 ≡ subpart_of s
         go true h = absurd (not_whole (next_in third _ h) i four refl)
         go false h = subpart_out third _ [] 3 four refl h
-
--- the head is ill-formed, and what its first byte decides
-ill : (c : goal.After-read_lead-lead) → IllHead c.args.s.now
-ill c = c.requires
-
-led : (c : goal.After-read_lead-lead) → Begun c.args.s.now c.read_lead-lead.result [] 0
-led c = begins _ _ c.read_lead-lead.ensures (ill_not_empty _ (ill c))
 
 pub bounds-s-0 : goal.bounds-s-0
 bounds-s-0 c = omega (arith, ill_not_empty _ c.requires)
 
 pub returns-then-lead-eq0 : goal.returns-then-lead-eq0
-returns-then-lead-eq0 c = subpart_alone (led (goal.at.returns-then-lead-eq0 c).After-read_lead-lead) c.if-lead-eq0.true
+returns-then-lead-eq0 c = subpart_alone (begins _ _ c.read_lead-lead.ensures (ill_not_empty _ c.requires)) c.if-lead-eq0.true
 
-pub returns-then-misses : goal.returns-then-misses
-returns-then-misses c = one_byte (led (goal.at.returns-then-misses c).After-read_lead-lead) (ill (goal.at.returns-then-misses c).After-read_lead-lead) c.if-lead-eq0.false (not-true _ (sym c.misses.ensures ∙ c.if-misses.true))
+pub returns-then-not-fits : goal.returns-then-not-fits
+returns-then-not-fits c =
+    one_byte (begins _ _ c.read_lead-lead.ensures (ill_not_empty _ c.requires)) c.requires c.if-lead-eq0.false (sym c.fits.ensures ∙ c.if-not-fits.true)
 
--- the second byte fits
-fits_2 : (c : goal.Else-misses)
-    → let l = c.read_lead-lead.result in
-    byte_fits (l.low2 to l.high2) c.args.s.now 1 ≡ true
-fits_2 c = not-false _ (sym c.misses.ensures ∙ c.if-misses.false)
-
-pub returns-then-misses-2 : goal.returns-then-misses-2
-returns-then-misses-2 c = two_bytes (led (goal.at.returns-then-misses-2 c).After-read_lead-lead) (ill (goal.at.returns-then-misses-2 c).After-read_lead-lead) c.if-lead-eq0.false (fits_2 (goal.at.returns-then-misses-2 c).Else-misses) (not-true _ (sym c.misses-2.ensures ∙ c.if-misses-2.true))
+pub returns-then-not-fits-2 : goal.returns-then-not-fits-2
+returns-then-not-fits-2 c =
+    two_bytes (begins _ _ c.read_lead-lead.ensures (ill_not_empty _ c.requires)) c.requires c.if-lead-eq0.false (sym c.fits.ensures ∙ c.if-not-fits.false)
+    (sym c.fits-2.ensures ∙ c.if-not-fits-2.true)
 
 pub returns : goal.returns
-returns c = three_bytes (led (goal.at.returns c).After-read_lead-lead) (ill (goal.at.returns c).After-read_lead-lead) c.if-lead-eq0.false (fits_2 (goal.at.returns c).Else-misses) (not-false _ (sym c.misses-2.ensures ∙ c.if-misses-2.false))
+returns c =
+    three_bytes (begins _ _ c.read_lead-lead.ensures (ill_not_empty _ c.requires)) c.requires c.if-lead-eq0.false (sym c.fits.ensures ∙ c.if-not-fits.false)
+    (sym c.fits-2.ensures ∙ c.if-not-fits-2.false)
