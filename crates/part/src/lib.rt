@@ -18,10 +18,10 @@ pub fn check(text: &[u8], start: usize, end: usize) -> u32
     ensures { result ≡ part_number text.now start end }
 {
     if end < start {
-        return refusal::number(Refusal::Shape);
+        return Refusal::Shape.number();
     }
     if text.len() < end {
-        return refusal::number(Refusal::Shape);
+        return Refusal::Shape.number();
     }
     0
 }

@@ -43,9 +43,9 @@ pub fn give(a: u64, b: u64, c: u64, answer: &mut [u64; 4]) -> u32
 pub fn refuse(r: Refusal, which: u64, answer: &mut [u64; 4]) -> u32
     ensures { Tells (refuses_of which r) result answer.new }
 {
-    let c = refusal::carry(r);
-    put(answer, c.first as u64, c.second as u64, which, 0);
-    refusal::number(r)
+    let [first, second] = r.carried().map(|n| n.unwrap_or(0) as u64);
+    put(answer, first, second, which, 0);
+    r.number()
 }
 
 // Tells the version, the number of ranges and the profile of an accepted image.
