@@ -137,11 +137,8 @@ pub fn tell_part(text: &[u8], start: usize, end: usize, answer: &mut [u64; 4]) -
     ensures tells { Tells (part_reply (part_of text.now start end) start) result answer.new }
     ensures answer_after { told_part text.now answer.new ≡ part_bytes text.now start end }
 {
-    let refused = part::check(text, start, end);
-    if refused != 0 {
-        put(answer, 0, 0, 0, 0);
-        return refused;
+    match part::part_of(text, start, end) {
+        Ok(part) => give(start as u64, part.len() as u64, 0, answer),
+        Err(r) => refuse(r, 0, answer),
     }
-    put(answer, start as u64, (end - start) as u64, 0, 0);
-    0
 }
