@@ -10,9 +10,13 @@ use lib.Dec.{ltb}
 use lib.ListN.{length, take, drop, length-append, length-drop, take-append-drop}
 use lib.Seq.{length-take-le, take-append_seam, drop-append_seam}
 use borrow.Author.Tests.{lt-ltb, le-ltb}
+use Rattle.std.specs.Prelude.{Option, Some, None}
+use Rattle.std.specs.Borrow.{Bor}
+use Rattle.std.specs.Option.{ok_or}
+use Rattle.std.specs.Slice.{IsGetRangeResult}
 use Rattle.refusal.specs.declared.Refusal.TheVariants as refusal
 use Rattle.refusal.specs.Outcome.{Outcome, given, refused, unless, refused_if}
-use Rattle.part.specs.Part.{part_of, number_by, part_number, PartMeans, misplaced, part}
+use Rattle.part.specs.Part.{part_of, outcome_by, PartMeans, misplaced, part}
 
 module _ (text : List ℕ) (start end : ℕ) where
   pub means_part : (o : Outcome (List ℕ)) → PartMeans text start end o → part_of text start end ≡ o
@@ -52,20 +56,8 @@ module _ (text : List ℕ) (start end : ℕ) where
   unfolding part_of
   part_inside h k = simp (le-ltb end start h, le-ltb (length text) end k)
 
-  -- the number tells which
-  pub part_within : part_number text start end ≡ 0 → (start ≤ end) × (end ≤ length text)
-  part_within z = go (part_of text start end) (part_means _ refl) z
-    where
-      go : (o : Outcome (List ℕ)) → PartMeans text start end o → number_by o ≡ 0 → (start ≤ end) × (end ≤ length text)
-      go o (misplaced h) n = absurd (omega (arith, n))
-      go o (part before bytes after e s m) n =
-          let l = ap length e ∙ length-append before (bytes ++ after) in
-          let k = length-append bytes after in
-          (omega arith, omega arith)
-
-  pub part_shape : (part_number text start end ≡ 0 → ⊥) → part_of text start end ≡ refused refusal.Shape
-  part_shape f = go (part_of text start end) (part_means _ refl) f
-    where
-      go : (o : Outcome (List ℕ)) → PartMeans text start end o → (number_by o ≡ 0 → ⊥) → o ≡ refused refusal.Shape
-      go o (misplaced h) n = refl
-      go o (part before bytes after e s m) n = absurd (n refl)
+  -- what `get` of the range gives, with this refusal where it gives none
+  pub got_part :
+      (o : Option (Bor (List ℕ))) → IsGetRangeResult text start end o → outcome_by (ok_or o refusal.Shape) ≡ part_of text start end
+  got_part None g = sym (means_part _ (misplaced g.0))
+  got_part (Some b) g = ap given g.0.2 ∙ sym (part_inside g.0.0 g.0.1)

@@ -1,7 +1,8 @@
 -- A token's bytes: 13, or that part of the text (docs/RULES.md, "Tokens" and "Named refusals").
-use Rattle.std.specs.Prelude.{ℕ, ◌+◌, ◌-◌, ◌<◌, ◌≡◌, List, [], ◌++◌, ◌⊎◌, length, take, drop, ltb}
+use Rattle.std.specs.Prelude.{ℕ, ◌+◌, ◌-◌, ◌<◌, ◌≡◌, List, [], ◌++◌, ◌⊎◌, length, take, drop, ltb, Result, Ok, Err}
+use Rattle.std.specs.Borrow.{Bor}
+use Rattle.refusal.specs.declared.Refusal.{Refusal}
 use Rattle.refusal.specs.declared.Refusal.TheVariants as refusal
-use Rattle.refusal.specs.Refusal.{number_of}
 use Rattle.refusal.specs.Outcome.{Outcome, given, refused, unless, refused_if}
 
 -- 13 where the start is after the end, or the end past the text's end; else the part
@@ -10,14 +11,6 @@ part_of text start end =
     unless (refused_if (ltb end start) refusal.Shape)
     (unless (refused_if (ltb (length text) end) refusal.Shape) (given (take (end - start) (drop start text))))
 
--- the refusal's number, or 0
-abbrev pub number_by : Outcome (List ℕ) → ℕ
-number_by (given b) = 0
-number_by (refused r) = number_of r
-
-abbrev pub part_number : List ℕ → ℕ → ℕ → ℕ
-part_number text start end = number_by (part_of text start end)
-
 -- the part; empty where it is refused
 abbrev pub bytes_by : Outcome (List ℕ) → List ℕ
 bytes_by (given b) = b
@@ -25,6 +18,11 @@ bytes_by (refused r) = []
 
 abbrev pub part_bytes : List ℕ → ℕ → ℕ → List ℕ
 part_bytes text start end = bytes_by (part_of text start end)
+
+-- what a call's result says
+abbrev pub outcome_by : Result (Bor (List ℕ)) Refusal → Outcome (List ℕ)
+outcome_by (Ok part) = given part.now
+outcome_by (Err r) = refused r
 
 -- what each answer means
 pub data PartMeans (text : List ℕ) (start end : ℕ) : Outcome (List ℕ) → Type 0 where

@@ -2,48 +2,13 @@
 #![tactic(auto)]
 
 ghost use Rattle.std.specs.Prelude.{◌≡◌};
-ghost use Rattle.part.specs.Part.{part_number, part_bytes};
+ghost use Rattle.part.specs.Part.{part_of, outcome_by};
 
 use refusal::Refusal;
 
-// A part of a text, or the number of the refusal beside an empty part; 0: not refused.
-#[derive(Drop)]
-pub struct Part<'a> {
-    pub refused: u32,
-    pub bytes: &'a [u8],
-}
-
-// The number of `Shape` where the start is after the end or the end past the text's end, else 0.
-pub fn check(text: &[u8], start: usize, end: usize) -> u32
-    ensures { result ≡ part_number text.now start end }
+// The part of a text from `start` to `end`; `Shape` where the start is after the end or the end past the text's end.
+pub fn part_of(text: &[u8], start: usize, end: usize) -> Result<&[u8], Refusal>
+    ensures { outcome_by result ≡ part_of text.now start end }
 {
-    if end < start {
-        return refusal::number(Refusal::Shape);
-    }
-    if text.len() < end {
-        return refusal::number(Refusal::Shape);
-    }
-    0
-}
-
-// The part of a text from `start` to `end`; the empty part where that is refused.
-pub fn bytes(text: &[u8], start: usize, end: usize) -> &[u8]
-    ensures { result.now ≡ part_bytes text.now start end }
-{
-    if end < start {
-        return &text[..0];
-    }
-    if text.len() < end {
-        return &text[..0];
-    }
-    &text[start..end]
-}
-
-// Both in one answer.
-pub fn part_of<'a>(text: &'a [u8], start: usize, end: usize) -> Part<'a>
-    ensures { (result.refused ≡ part_number text.now start end) × (result.bytes.now ≡ part_bytes text.now start end) }
-{
-    let refused = check(text, start, end);
-    let b = bytes(text, start, end);
-    Part { refused, bytes: b }
+    text.get(start..end).ok_or(Refusal::Shape)
 }

@@ -32,21 +32,11 @@ pub fn print_hex(rt: &impl Print, n: u32, digits: usize) -> io::Result<()> {
 }
 
 // The line of a refusal without its end: `refused`, then `of` as it stands, the refusal's number and what it carries, if anything.
-pub fn print_refusal_of(rt: &impl Print, of: &[u8], r: Refusal) -> io::Result<()> {
-    print_text(rt, b"refused")?;
-    print_text(rt, of)?;
-    print_next(rt, refusal::number(r) as usize)?;
-    let c = refusal::carry(r);
-    if 1 <= c.count {
-        print_next(rt, c.first)?;
-    }
-    if 2 <= c.count {
-        print_next(rt, c.second)?;
-    }
-    Ok(())
+pub fn print_refusal_of(rt: &impl Print, of: &str, r: Refusal) -> io::Result<()> {
+    print!(rt; "refused{of} {r}")
 }
 
 // The same with nothing between `refused` and the number.
 pub fn print_refusal(rt: &impl Print, r: Refusal) -> io::Result<()> {
-    print_refusal_of(rt, b"", r)
+    print_refusal_of(rt, "", r)
 }

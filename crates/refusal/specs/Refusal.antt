@@ -2,9 +2,11 @@
 --
 --   number_of    the number of a refusal
 --   carried_by   what a refusal carries, in the table's order
---   Carries     how many numbers these are, the first and the second, 0 where there is none
-use Rattle.std.specs.Prelude.{ℕ, ◌≡◌, List, [], ◌∷◌, length, get_or}
-use Rattle.refusal.specs.declared.Carried.{Carried}
+--   carried_array   the first of these, if any, and the second, if any: no refusal carries more (`two_at_most`)
+--   text_of      what `Display` writes: the number and what is carried, a space between two
+use Rattle.std.specs.Prelude.{ℕ, List, [], ◌∷◌, ◌++◌, Option, slice_get}
+use Rattle.std.specs.List.{flat_map}
+use Rattle.std.specs.Fmt.{decimal}
 use Rattle.refusal.specs.declared.Refusal.{Refusal}
 use Rattle.refusal.specs.declared.Refusal.TheVariants.{
   Length,
@@ -55,7 +57,9 @@ carried_by (Buffer n) = n ∷ []
 carried_by Shape = []
 carried_by (Mark p) = p ∷ []
 
-pub record Carries (xs : List ℕ) (c : Carried) : Type 0 where
-  pub count : c.count ≡ length xs
-  pub first : c.first ≡ get_or xs 0 0
-  pub second : c.second ≡ get_or xs 1 0
+-- at most two numbers: the first, if any, and the second, if any
+abbrev pub carried_array : Refusal → List (Option ℕ)
+carried_array r = slice_get (carried_by r) 0 ∷ slice_get (carried_by r) 1 ∷ []
+
+abbrev pub text_of : Refusal → List ℕ
+text_of r = decimal (number_of r) ++ flat_map (λ n. 32 ∷ decimal n) (carried_by r)

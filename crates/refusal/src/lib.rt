@@ -1,10 +1,12 @@
 // The named refusals of all calls, with their numbers and what each carries.
 #![tactic(auto)]
 
-ghost use Rattle.std.specs.Prelude.{◌≡◌, [], ◌∷◌};
-ghost use Rattle.refusal.specs.Refusal.{number_of, carried_by, Carries};
+ghost use Rattle.std.specs.Prelude.{◌≡◌, Some};
+ghost use Rattle.refusal.specs.Refusal.{number_of, carried_array, text_of};
 
-#[derive(Clone, Copy)]
+use std::fmt;
+
+#[derive(Clone, Copy, Debug, PartialEq, Eq)]
 pub enum Refusal {
     // 1: the image is too short or too long, or not of the header's total length.
     Length,
@@ -36,84 +38,62 @@ pub enum Refusal {
     Mark(usize),
 }
 
-// The refusal's number.
-pub fn number(r: Refusal) -> u32
-    ensures { result ≡ number_of r }
-{
-    match r {
-        Refusal::Length => 1,
-        Refusal::Header => 2,
-        Refusal::Range(_) => 3,
-        Refusal::Entry(_) => 4,
-        Refusal::TextLength => 5,
-        Refusal::IllFormed { .. } => 6,
-        Refusal::Characters(_) => 7,
-        Refusal::Room(_) => 8,
-        Refusal::NotScalar(_) => 9,
-        Refusal::Change(_) => 10,
-        Refusal::Profiles => 11,
-        Refusal::Buffer(_) => 12,
-        Refusal::Shape => 13,
-        Refusal::Mark(_) => 14,
+impl Refusal {
+    // The refusal's number.
+    pub fn number(self) -> u32
+        ensures { result ≡ number_of self }
+    {
+        match self {
+            Refusal::Length => 1,
+            Refusal::Header => 2,
+            Refusal::Range(_) => 3,
+            Refusal::Entry(_) => 4,
+            Refusal::TextLength => 5,
+            Refusal::IllFormed { .. } => 6,
+            Refusal::Characters(_) => 7,
+            Refusal::Room(_) => 8,
+            Refusal::NotScalar(_) => 9,
+            Refusal::Change(_) => 10,
+            Refusal::Profiles => 11,
+            Refusal::Buffer(_) => 12,
+            Refusal::Shape => 13,
+            Refusal::Mark(_) => 14,
+        }
+    }
+
+    // The numbers that the refusal carries, in the table's order.
+    pub fn carried(self) -> [Option<usize>; 2]
+        ensures { result ≡ carried_array self }
+    {
+        match self {
+            Refusal::Length
+            | Refusal::Header
+            | Refusal::TextLength
+            | Refusal::Profiles
+            | Refusal::Shape => [None, None],
+            Refusal::Range(n)
+            | Refusal::Entry(n)
+            | Refusal::Characters(n)
+            | Refusal::Room(n)
+            | Refusal::NotScalar(n)
+            | Refusal::Change(n)
+            | Refusal::Buffer(n)
+            | Refusal::Mark(n) => [Some(n), None],
+            Refusal::IllFormed { place, len } => [Some(place), Some(len)],
+        }
     }
 }
 
-// What a refusal carries: how many numbers, the first and the second, 0 where there is none.
-#[derive(Drop)]
-pub struct Carried {
-    pub count: usize,
-    pub first: usize,
-    pub second: usize,
-}
+// The refusal's number, then what it carries, with a space before each.
+impl fmt::Display for Refusal {
+    ghost output = { λ r. Some (text_of r) };
 
-fn none() -> Carried
-    ensures { Carries [] result }
-{
-    Carried {
-        count: 0,
-        first: 0,
-        second: 0,
-    }
-}
-
-fn one(first: usize) -> Carried
-    ensures { Carries (first ∷ []) result }
-{
-    Carried {
-        count: 1,
-        first,
-        second: 0,
-    }
-}
-
-fn two(first: usize, second: usize) -> Carried
-    ensures { Carries (first ∷ second ∷ []) result }
-{
-    Carried {
-        count: 2,
-        first,
-        second,
-    }
-}
-
-// What this refusal carries.
-pub fn carry(r: Refusal) -> Carried
-    ensures { Carries (carried_by r) result }
-{
-    match r {
-        Refusal::Length => none(),
-        Refusal::Header => none(),
-        Refusal::Range(n) => one(n),
-        Refusal::Entry(n) => one(n),
-        Refusal::TextLength => none(),
-        Refusal::IllFormed { place, len } => two(place, len),
-        Refusal::Characters(n) => one(n),
-        Refusal::Room(n) => one(n),
-        Refusal::NotScalar(n) => one(n),
-        Refusal::Change(n) => one(n),
-        Refusal::Profiles => none(),
-        Refusal::Buffer(n) => one(n),
-        Refusal::Shape => none(),
-        Refusal::Mark(n) => one(n),
+    fn fmt<W: fmt::Write>(&self, f: &mut fmt::Formatter<W>) -> fmt::Result {
+        let number = self.number();
+        match self.carried() {
+            [Some(first), Some(second)] => write!(f, "{number} {first} {second}"),
+            [Some(first), None] => write!(f, "{number} {first}"),
+            _ => write!(f, "{number}"),
+        }
     }
 }

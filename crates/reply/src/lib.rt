@@ -43,9 +43,9 @@ pub fn give(a: u64, b: u64, c: u64, answer: &mut [u64; 4]) -> u32
 pub fn refuse(r: Refusal, which: u64, answer: &mut [u64; 4]) -> u32
     ensures { Tells (refuses_of which r) result answer.new }
 {
-    let c = refusal::carry(r);
-    put(answer, c.first as u64, c.second as u64, which, 0);
-    refusal::number(r)
+    let [first, second] = r.carried().map(|n| n.unwrap_or(0) as u64);
+    put(answer, first, second, which, 0);
+    r.number()
 }
 
 // Tells the version, the number of ranges and the profile of an accepted image.
@@ -137,11 +137,8 @@ pub fn tell_part(text: &[u8], start: usize, end: usize, answer: &mut [u64; 4]) -
     ensures tells { Tells (part_reply (part_of text.now start end) start) result answer.new }
     ensures answer_after { told_part text.now answer.new ≡ part_bytes text.now start end }
 {
-    let refused = part::check(text, start, end);
-    if refused != 0 {
-        put(answer, 0, 0, 0, 0);
-        return refused;
+    match part::part_of(text, start, end) {
+        Ok(part) => give(start as u64, part.len() as u64, 0, answer),
+        Err(r) => refuse(r, 0, answer),
     }
-    put(answer, start as u64, (end - start) as u64, 0, 0);
-    0
 }
