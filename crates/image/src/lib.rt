@@ -146,71 +146,39 @@ pub fn range_at(s: &[u8], i: usize) -> Range
 fn has_surrogate(first: u32, last: u32) -> bool
     ensures { result ≡ not (ltb last_surrogate first || ltb last first_surrogate) }
 {
-    if LAST_SURROGATE < first {
-        return false;
-    }
-    if last < FIRST_SURROGATE {
-        return false;
-    }
-    true
+    first <= LAST_SURROGATE && FIRST_SURROGATE <= last
 }
 
 // Whether a range is good by itself.
 pub fn is_good_alone(r: Range) -> bool
     ensures { result ≡ good_alone r }
 {
-    if r.last < r.first {
-        return false;
-    }
-    if LAST_CODE_POINT < r.last {
-        return false;
-    }
-    if has_surrogate(r.first, r.last) {
-        return false;
-    }
-    if r.class < START {
-        return false;
-    }
-    r.class <= OTHER
+    r.first <= r.last
+        && r.last <= LAST_CODE_POINT
+        && !has_surrogate(r.first, r.last)
+        && (START..=OTHER).contains(&r.class)
 }
 
 // Whether a range is good after the range before it.
 pub fn may_follow(p: Range, r: Range) -> bool
     ensures { result ≡ follows p r }
 {
-    if r.first <= p.last {
-        return false;
-    }
-    if r.class != p.class {
-        return true;
-    }
-    p.last + 1 != r.first
+    p.last < r.first && (r.class != p.class || p.last + 1 != r.first)
 }
 
 // Whether a profile entry is good apart from its place in the order.
 pub fn is_good_entry_alone(point: u32, role: u32) -> bool
     ensures { result ≡ good_entry_alone point role }
 {
-    if utf8::is_scalar(point) {
-        if role < FIRST_ROLE {
-            return false;
-        }
-        return role <= LAST_ROLE;
-    }
-    false
+    utf8::is_scalar(point) && (FIRST_ROLE..=LAST_ROLE).contains(&role)
 }
 
 // Whether the length is within its limits and that of the header: not refusal 1.
 fn is_length_right(image: &[u8]) -> bool
     ensures { result ≡ length_right image.now }
 {
-    if image.len() < HEADER_BYTES {
-        return false;
-    }
-    if MAX_IMAGE < image.len() {
-        return false;
-    }
-    word(image, TOTAL_AT) as usize == image.len()
+    (HEADER_BYTES..=MAX_IMAGE).contains(&image.len())
+        && word(image, TOTAL_AT) as usize == image.len()
 }
 
 // Whether the offsets and the total length are those of n ranges and m entries.
@@ -218,14 +186,10 @@ fn are_offsets_right(image: &[u8], n: usize, m: usize) -> bool
     requires { (header_bytes ≤ length image.now) × (n ≤ max_ranges) × (m ≤ max_entries) }
     ensures { result ≡ (eqb (range_offset image.now) header_bytes && (eqb (entry_offset image.now) (entries_at n) && eqb (total_of image.now) (image_end n m))) }
 {
-    if word(image, RANGE_OFFSET_AT) as usize != HEADER_BYTES {
-        return false;
-    }
     let entries = HEADER_BYTES + RANGE_BYTES * n;
-    if word(image, ENTRY_OFFSET_AT) as usize != entries {
-        return false;
-    }
-    word(image, TOTAL_AT) as usize == entries + ENTRY_BYTES * m
+    word(image, RANGE_OFFSET_AT) as usize == HEADER_BYTES
+        && word(image, ENTRY_OFFSET_AT) as usize == entries
+        && word(image, TOTAL_AT) as usize == entries + ENTRY_BYTES * m
 }
 
 // Whether the header is right: not refusal 2. The counts are compared with their limits before they are multiplied.
@@ -233,21 +197,13 @@ fn is_header_right(image: &[u8]) -> bool
     requires { header_bytes ≤ length image.now }
     ensures { result ≡ header_right image.now }
 {
-    if word(image, FORMAT_AT) != FORMAT {
-        return false;
-    }
-    if word(image, ZERO_AT) != 0 {
-        return false;
-    }
     let n = word(image, RANGE_COUNT_AT) as usize;
-    if MAX_RANGES < n {
-        return false;
-    }
     let m = word(image, ENTRY_COUNT_AT) as usize;
-    if MAX_ENTRIES < m {
-        return false;
-    }
-    are_offsets_right(image, n, m)
+    word(image, FORMAT_AT) == FORMAT
+        && word(image, ZERO_AT) == 0
+        && n <= MAX_RANGES
+        && m <= MAX_ENTRIES
+        && are_offsets_right(image, n, m)
 }
 
 // Whether range i of an image is good.
