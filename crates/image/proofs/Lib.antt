@@ -9,3 +9,4 @@ pub mod AnswerLaws
 pub mod RisingLaws
 pub mod ClassLaws
 pub mod SectionLaws
+pub mod OrderLaws

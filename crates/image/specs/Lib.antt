@@ -13,3 +13,4 @@ pub mod Image
 pub mod Check
 pub mod Accepted
 pub mod Means
+pub mod Order
