@@ -5,12 +5,17 @@ use Rattle.image.specs.Profile.{profile_by}
 use Rattle.writer.proofs.WriteLaws.{write_kept, written_means}
 use Rattle.writer.proofs.write_arrays.Goals as goal
 
+pub invariant_of-put_image : goal.invariant_of-put_image
+invariant_of-put_image c =
+    let p = profile_by c.args.points.now c.args.roles.now c.args.used in
+    let k = written_means c.args.version c.args.words.now p c.args.out.now _ (sym c.judge_parts-answer.ensures ∙ c.in-Image.is) in
+    record { few = k.0.counted.few_entries }
+
 pub put_image-requires : goal.put_image-requires
 put_image-requires c =
     let p = profile_by c.args.points.now c.args.roles.now c.args.used in
     let k = written_means c.args.version c.args.words.now p c.args.out.now _ (sym c.judge_parts-answer.ensures ∙ c.in-Image.is) in
-    let n = k.0.counted in
-    (n.shaped, n.few_ranges, n.few_entries, omega arith)
+    (k.0.counted.shaped, k.0.counted.few_ranges, omega arith)
 
 pub returns-in-Refused : goal.returns-in-Refused
 returns-in-Refused c =
