@@ -10,3 +10,4 @@ pub mod AnswerLaws
 pub mod RisingLaws
 pub mod ClassLaws
 pub mod SectionLaws
+pub mod OrderLaws

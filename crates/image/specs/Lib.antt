@@ -14,3 +14,4 @@ pub mod Check
 pub mod Opened
 pub mod Accepted
 pub mod Means
+pub mod Order

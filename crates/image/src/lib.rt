@@ -8,14 +8,16 @@ ghost use Rattle.lists.specs.Each.{each};
 ghost use Rattle.image.specs.Word.{join_of, word_at};
 ghost use Rattle.image.specs.Limits.{max_ranges, max_entries, word_bytes, header_bytes, range_bytes, entry_bytes, words_per_range, first_surrogate, last_surrogate};
 ghost use Rattle.image.specs.Header.{version_of, total_of, range_count, range_offset, entry_offset, entries_at, image_end, length_right, header_right};
-ghost use Rattle.image.specs.Ranges.{range_at, range_words, good_alone, follows, good_range, first_bad_range};
-ghost use Rattle.image.specs.Profile.{point_at, role_at, good_entry_alone, good_entry, first_bad_entry, profile_of};
+ghost use Rattle.image.specs.Ranges.{range_at, range_words};
+ghost use Rattle.image.specs.Profile.{profile_of};
 ghost use Rattle.image.specs.Check.{refusal_of, accepted_of, refused_by, check_of, read_of, words_after};
 ghost use Rattle.image.specs.Opened.{opened_by, summary_of};
 
+use order::{ImageEntries, ImageRanges, first_bad};
 use refusal::Refusal;
 use std::marker::Model;
 
+pub mod order;
 pub mod records;
 
 // The most ranges and profile entries that an image may have.
@@ -218,75 +220,12 @@ pub fn range_at(s: &[u8], i: usize) -> Range
     }
 }
 
-// Whether one of D800 to DFFF stands from `first` to `last`.
-fn has_surrogate(first: u32, last: u32) -> bool
-    ensures { result ≡ not (ltb last_surrogate first || ltb last first_surrogate) }
-{
-    if LAST_SURROGATE < first {
-        return false;
-    }
-    if last < FIRST_SURROGATE {
-        return false;
-    }
-    true
-}
-
-// Whether a range is good by itself.
-pub fn is_good_alone(r: Range) -> bool
-    ensures { result ≡ good_alone r }
-{
-    if r.last < r.first {
-        return false;
-    }
-    if LAST_CODE_POINT < r.last {
-        return false;
-    }
-    if has_surrogate(r.first, r.last) {
-        return false;
-    }
-    if r.class < START {
-        return false;
-    }
-    r.class <= OTHER
-}
-
-// Whether a range is good after the range before it.
-pub fn may_follow(p: Range, r: Range) -> bool
-    ensures { result ≡ follows p r }
-{
-    if r.first <= p.last {
-        return false;
-    }
-    if r.class != p.class {
-        return true;
-    }
-    p.last + 1 != r.first
-}
-
-// Whether a profile entry is good apart from its place in the order.
-pub fn is_good_entry_alone(point: u32, role: u32) -> bool
-    ensures { result ≡ good_entry_alone point role }
-{
-    if utf8::is_scalar(point) {
-        if role < FIRST_ROLE {
-            return false;
-        }
-        return role <= LAST_ROLE;
-    }
-    false
-}
-
 // Whether the length is within its limits and that of the header: not refusal 1.
 fn is_length_right(image: &[u8]) -> bool
     ensures { result ≡ length_right image.now }
 {
-    if image.len() < HEADER_BYTES {
-        return false;
-    }
-    if MAX_IMAGE < image.len() {
-        return false;
-    }
-    word(image, TOTAL_AT) as usize == image.len()
+    (HEADER_BYTES..=MAX_IMAGE).contains(&image.len())
+        && word(image, TOTAL_AT) as usize == image.len()
 }
 
 // Whether the offsets and the total length are those of n ranges and m entries.
@@ -294,14 +233,10 @@ fn are_offsets_right(image: &[u8], n: usize, m: usize) -> bool
     requires { (header_bytes ≤ length image.now) × (n ≤ max_ranges) × (m ≤ max_entries) }
     ensures { result ≡ (eqb (range_offset image.now) header_bytes && (eqb (entry_offset image.now) (entries_at n) && eqb (total_of image.now) (image_end n m))) }
 {
-    if word(image, RANGE_OFFSET_AT) as usize != HEADER_BYTES {
-        return false;
-    }
     let entries = HEADER_BYTES + RANGE_BYTES * n;
-    if word(image, ENTRY_OFFSET_AT) as usize != entries {
-        return false;
-    }
-    word(image, TOTAL_AT) as usize == entries + ENTRY_BYTES * m
+    word(image, RANGE_OFFSET_AT) as usize == HEADER_BYTES
+        && word(image, ENTRY_OFFSET_AT) as usize == entries
+        && word(image, TOTAL_AT) as usize == entries + ENTRY_BYTES * m
 }
 
 // Whether the header is right: not refusal 2. The counts are compared with their limits before they are multiplied.
@@ -309,84 +244,13 @@ fn is_header_right(image: &[u8]) -> bool
     requires { header_bytes ≤ length image.now }
     ensures { result ≡ header_right image.now }
 {
-    if word(image, FORMAT_AT) != FORMAT {
-        return false;
-    }
-    if word(image, ZERO_AT) != 0 {
-        return false;
-    }
     let n = word(image, RANGE_COUNT_AT) as usize;
-    if MAX_RANGES < n {
-        return false;
-    }
     let m = word(image, ENTRY_COUNT_AT) as usize;
-    if MAX_ENTRIES < m {
-        return false;
-    }
-    are_offsets_right(image, n, m)
-}
-
-// Whether range i of an image is good.
-fn is_good_range(image: &[u8], i: usize) -> bool
-    requires { header_bytes + range_bytes * i + range_bytes ≤ length image.now }
-    ensures { result ≡ good_range (range_at image.now) i }
-{
-    let r = range_at(image, i);
-    if is_good_alone(r) {
-        if i == 0 {
-            return true;
-        }
-        return may_follow(range_at(image, i - 1), r);
-    }
-    false
-}
-
-// The index of the first bad range of n, or n.
-fn first_bad_range(image: &[u8], n: usize) -> usize
-    requires { entries_at n ≤ length image.now }
-    ensures { result ≡ first_bad_range (range_at image.now) n }
-{
-    let mut i = 0;
-    while i < n {
-        if is_good_range(image, i) {
-            i += 1;
-        } else {
-            return i;
-        }
-    }
-    i
-}
-
-// Whether profile entry i of an image is good; the entries begin at byte `base`.
-fn is_good_entry(image: &[u8], base: usize, i: usize) -> bool
-    requires { (base ≡ entries_at (range_count image.now)) × (base + entry_bytes * i + entry_bytes ≤ length image.now) }
-    ensures { result ≡ good_entry (point_at image.now) (role_at image.now) i }
-{
-    let at = base + ENTRY_BYTES * i;
-    let point = word(image, at);
-    if is_good_entry_alone(point, word(image, at + ROLE_AT)) {
-        if i == 0 {
-            return true;
-        }
-        return word(image, at - ENTRY_BYTES) < point;
-    }
-    false
-}
-
-// The index of the first bad entry of m, or m.
-fn first_bad_entry(image: &[u8], base: usize, m: usize) -> usize
-    requires { (base ≡ entries_at (range_count image.now)) × (base + entry_bytes * m ≤ length image.now) }
-    ensures { result ≡ first_bad_entry (point_at image.now) (role_at image.now) m }
-{
-    let mut i = 0;
-    while i < m {
-        if is_good_entry(image, base, i) {
-            i += 1;
-        } else {
-            return i;
-        }
-    }
-    i
+    word(image, FORMAT_AT) == FORMAT
+        && word(image, ZERO_AT) == 0
+        && n <= MAX_RANGES
+        && m <= MAX_ENTRIES
+        && are_offsets_right(image, n, m)
 }
 
 // Writes the profile of an accepted image into two arrays, with zeros past its entries, and gives their number.
@@ -452,13 +316,12 @@ fn judge_records(image: &[u8]) -> Result<Summary, Refusal>
     ensures { result ≡ (check_of image.now).answer }
 {
     let n = word(image, RANGE_COUNT_AT) as usize;
-    let i = first_bad_range(image, n);
-    if i < n {
+    if let Some(i) = first_bad(&ImageRanges { image, count: n }) {
         return Err(Refusal::Range(i));
     }
-    let m = word(image, ENTRY_COUNT_AT) as usize;
-    let j = first_bad_entry(image, HEADER_BYTES + RANGE_BYTES * n, m);
-    if j < m {
+    let base = HEADER_BYTES + RANGE_BYTES * n;
+    let count = word(image, ENTRY_COUNT_AT) as usize;
+    if let Some(j) = first_bad(&ImageEntries { image, base, count }) {
         return Err(Refusal::Entry(j));
     }
     Ok(Summary {

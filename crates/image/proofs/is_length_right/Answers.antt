@@ -1,16 +1,12 @@
 -- `image::is_length_right` meets its contract. Assumes nothing.
-use borrow.Author.Tests.{le-leb, lt-leb}
+use Rattle.std.proofs.Common.{rules}
 use Rattle.image.specs.Header.{length_within}
 use Rattle.image.proofs.is_length_right.Goals as goal
 
-pub returns-then-image-lt-HEADER_BYTES : goal.returns-then-image-lt-HEADER_BYTES
+pub returns-then-contains : goal.returns-then-contains
 unfolding length_within
-returns-then-image-lt-HEADER_BYTES c = simp (lt-leb _ _ c.if-image-lt-HEADER_BYTES.true)
+returns-then-contains c = search rules
 
-pub returns-then-image-gt-MAX_IMAGE : goal.returns-then-image-gt-MAX_IMAGE
+pub returns-else-contains : goal.returns-else-contains
 unfolding length_within
-returns-then-image-gt-MAX_IMAGE c = simp (le-leb _ _ c.if-image-lt-HEADER_BYTES.false, lt-leb _ _ c.if-image-gt-MAX_IMAGE.true)
-
-pub returns : goal.returns
-unfolding length_within
-returns c = simp (le-leb _ _ c.if-image-lt-HEADER_BYTES.false, le-leb _ _ c.if-image-gt-MAX_IMAGE.false, ← c.word.ensures)
+returns-else-contains c = search rules

@@ -1,72 +1,62 @@
 -- `image::judge_records` meets its contract. Assumes nothing.
-use Prim.Native.Nat.{ℕ, ◌≤◌, ◌<◌}
-use mathlib.Core.Path.{◌≡◌, ap, ◌∙◌}
-use mathlib.Core.Bool.{true}
-use mathlib.Core.List.{List}
+use Rattle.std.proofs.Common.{◌≡◌, sym, ap, ◌∙◌, ℕ, true, List, Some, None, arith}
 use mathlib.Core.Option.{none, some}
-use native.Mathlib.Omega.{arith}
 use Rattle.refusal.specs.declared.Refusal.TheVariants as refusal
 use Rattle.image.specs.Header.{range_count, entry_count, entries_at, length_right, header_right}
-use Rattle.image.specs.Ranges.{range_at, first_bad_range}
-use Rattle.image.specs.Profile.{point_at, role_at, first_bad_entry}
+use Rattle.image.specs.Ranges.{range_at, good_alone, follows}
+use Rattle.image.specs.Profile.{point_at, role_at}
 use Rattle.image.specs.Check.{refusal_of}
 use Rattle.image.specs.Accepted.{Headed}
-use Rattle.image.proofs.RecordsLaws.{range_found, entry_found, none_found}
+use Rattle.image.specs.Order.{entry_by, rises, first_bad}
 use Rattle.image.proofs.ImageLaws.{sized, headed, past_header, refuses, accepts}
+use Rattle.image.proofs.OrderLaws.{good_one, range_bad, entry_bad, no_bad}
 use Rattle.image.proofs.judge_records.Goals as goal
 
 right : (s : List ℕ) → (length_right s ≡ true) × (header_right s ≡ true) → Headed s
 right s p = headed s (sized s p.0) p.1
 
--- n is the number of ranges, i the index of the first bad one
-module _ (s : List ℕ) (h : Headed s) (n i : ℕ) (en : n ≡ range_count s) (ei : i ≡ first_bad_range (range_at s) n) where
-  first : i ≡ first_bad_range (range_at s) (range_count s)
-  first = ei ∙ ap (first_bad_range (range_at s)) en
+-- n is the number of ranges, and m that of entries
+module _ (s : List ℕ) (h : Headed s) (n : ℕ) (en : n ≡ range_count s) where
+  range_refused : (i : ℕ) → Some i ≡ first_bad good_alone follows (range_at s) n → refusal_of s ≡ some (refusal.Range i)
+  range_refused i e = past_header s h ∙ range_bad _ _ _ _ _ none i (e ∙ ap (first_bad good_alone follows (range_at s)) en)
 
-  range_bad : i < n → refusal_of s ≡ some (refusal.Range i)
-  range_bad l = past_header s h ∙ range_found _ _ _ _ _ none i first (omega arith)
+  module _ (e : None ≡ first_bad good_alone follows (range_at s) n) (m : ℕ) (em : m ≡ entry_count s) where
+    good : None ≡ first_bad good_alone follows (range_at s) (range_count s)
+    good = e ∙ ap (first_bad good_alone follows (range_at s)) en
 
-  module _ (none_before : n ≤ i) (m j : ℕ) (em : m ≡ entry_count s) (ej : j ≡ first_bad_entry (point_at s) (role_at s) m) where
-    first_entry : j ≡ first_bad_entry (point_at s) (role_at s) (entry_count s)
-    first_entry = ej ∙ ap (first_bad_entry (point_at s) (role_at s)) em
+    entry_refused : (j : ℕ) → Some j ≡ first_bad good_one rises (entry_by (point_at s) (role_at s)) m → refusal_of s ≡ some (refusal.Entry j)
+    entry_refused j f = past_header s h ∙ entry_bad _ _ _ _ _ none good j (f ∙ ap (first_bad good_one rises (entry_by (point_at s) (role_at s))) em)
 
-    entry_bad : j < m → refusal_of s ≡ some (refusal.Entry j)
-    entry_bad l = past_header s h ∙ entry_found _ _ _ _ _ none i first (omega arith) j first_entry (omega arith)
-
-    none_bad : m ≤ j → refusal_of s ≡ none
-    none_bad l = past_header s h ∙ none_found _ _ _ _ _ none i first (omega arith) j first_entry (omega arith)
+    none_refused : None ≡ first_bad good_one rises (entry_by (point_at s) (role_at s)) m → refusal_of s ≡ none
+    none_refused f = past_header s h ∙ no_bad _ _ _ _ _ none good (f ∙ ap (first_bad good_one rises (entry_by (point_at s) (role_at s))) em)
 
 pub word-n-requires : goal.word-n-requires
 word-n-requires c = let h = right _ c.requires in omega arith
 
-pub first_bad_range-i-requires : goal.first_bad_range-i-requires
-first_bad_range-i-requires c = let h = right _ c.requires in omega (arith, c.word-n.ensures)
-
-pub returns-then-i-n : goal.returns-then-i-n
-returns-then-i-n c = refuses _ _ (range_bad _ (right _ c.requires) _ _ c.word-n.ensures c.first_bad_range-i.ensures c.if-i-n.true)
-
-pub word-m-requires : goal.word-m-requires
-word-m-requires c = let h = right _ c.requires in omega arith
-
-pub first_bad_entry-j-requires : goal.first_bad_entry-j-requires
-first_bad_entry-j-requires c =
-    let h = right _ c.requires in
-    (ap entries_at c.word-n.ensures, omega arith)
-
-pub returns-then-j-m : goal.returns-then-j-m
-returns-then-j-m c =
-    let h = right _ c.requires in
-    refuses _ _
-    (entry_bad _ h _ _ c.word-n.ensures c.first_bad_range-i.ensures c.if-i-n.false _ _ c.word-m.ensures
-    c.first_bad_entry-j.ensures c.if-j-m.true)
+pub word-count-requires : goal.word-count-requires
+word-count-requires c = let h = right _ c.requires in omega arith
 
 pub word-requires : goal.word-requires
 word-requires c = let h = right _ c.requires in omega arith
 
+pub invariant_of-first_bad : goal.invariant_of-first_bad
+invariant_of-first_bad c = let h = right _ c.requires in record { fits = omega arith }
+
+pub returns-in-Some : goal.returns-in-Some
+returns-in-Some c = refuses _ _ (range_refused _ (right _ c.requires) _ c.word-n.ensures _ (sym c.in-Some.is ∙ c.first_bad.ensures))
+
+pub invariant_of-first_bad-2 : goal.invariant_of-first_bad-2
+invariant_of-first_bad-2 c = let h = right _ c.requires in record { begins = ap entries_at c.word-n.ensures; fits = omega arith }
+
+pub returns-in-Some-first_bad : goal.returns-in-Some-first_bad
+returns-in-Some-first_bad c =
+    refuses _ _
+    (entry_refused _ (right _ c.requires) _ c.word-n.ensures (sym c.in_default.is ∙ c.first_bad.ensures) _ c.word-count.ensures _
+    (sym c.in-Some-first_bad.is ∙ c.first_bad-2.ensures))
+
 pub returns : goal.returns
 returns c =
-    let h = right _ c.requires in
     accepts _
-    (none_bad _ h _ _ c.word-n.ensures c.first_bad_range-i.ensures c.if-i-n.false _ _ c.word-m.ensures
-    c.first_bad_entry-j.ensures c.if-j-m.false)
+    (none_refused _ (right _ c.requires) _ c.word-n.ensures (sym c.in_default.is ∙ c.first_bad.ensures) _ c.word-count.ensures
+    (sym c.in_default-first_bad.is ∙ c.first_bad-2.ensures))
     _ _ c.word.ensures c.word-n.ensures

@@ -19,9 +19,9 @@ use Rattle.writer.proofs.put_image.Goals as goal
 pub returns : goal.returns
 returns c =
     let n = ranges_in c.args.words.now in
-    let p = profile_by c.args.points.now c.args.roles.now c.args.m in
-    let header = header_words c.args.version n c.args.m in
-    let entries = each (entry_words p) c.args.m in
+    let p = profile_by c.args.entries.now.points.now c.args.entries.now.roles.now c.args.entries.now.used in
+    let header = header_words c.args.version n c.args.entries.now.used in
+    let entries = each (entry_words p) c.args.entries.now.used in
     let w = whole c.args.words.now c.requires.0 in
     let k = length_entries c.args.version c.args.words.now p c.requires.0 in
     let h = length_all header in

@@ -1,7 +1,5 @@
 -- The loop of `writer::put_words`: the bytes of the first i numbers stand in the buffer.
-use Prim.Native.Nat.{ℕ, ◌-◌}
-use mathlib.Core.List.{List}
-use lib.ListN.{length, get_or}
+use Rattle.std.proofs.Common.{ℕ, List, length, get_or}
 use Rattle.lists.specs.Writing.{Writing}
 use Rattle.image.specs.Limits.{word_bytes}
 use Rattle.image.specs.Word.{bytes_of}
@@ -12,6 +10,3 @@ bytes_in words i = bytes_of (get_or words i 0)
 
 abbrev pub invariant-loop-i : goal.invariant-loop-i
 invariant-loop-i l = Writing (bytes_in l.words) word_bytes (length l.words) l.initial.out l.out l.i
-
-abbrev pub decreases-loop-i : goal.decreases-loop-i
-decreases-loop-i l = length l.words - l.i
