@@ -13,8 +13,8 @@ returns-in_err-len c =
     let e = sym c.judge_parts.ensures ∙ c.in_err-len.was in
     (rw (q.1, q.2) (sym e), sym (write_kept c.args.version c.args.words.now p c.args.out.now _ e))
 
-pub invariant_of-put_image : goal.invariant_of-put_image
-invariant_of-put_image c =
+pub invariant_of-entries : goal.invariant_of-entries
+invariant_of-entries c =
     let p = profile_by c.args.points.now c.args.roles.now c.args.used in
     let k = written_means c.args.version c.args.words.now p c.args.out.now _ (sym c.judge_parts.ensures ∙ c.in_ok-len.was) in
     record { few = k.0.counted.few_entries }
