@@ -2,12 +2,15 @@
 -- Assumes nothing.
 use Prim.Native.Nat.{ℕ, ◌+◌, ◌-◌, ◌%◌, ◌≤◌, ◌<◌}
 use mathlib.Core.Path.{◌≡◌, refl, sym, ap, ◌∙◌}
-use mathlib.Core.Bool.{Bool, true, false}
+use mathlib.Core.Bool.{Bool, true, false, ◌&&◌}
 use mathlib.Core.List.{List}
 use mathlib.Core.Option.{none}
 use native.Mathlib.Omega.{arith}
 use lib.ListN.{length, get_or, set, drop}
 use lib.Seq.{get_or-set_other}
+use lib.Dec.{leb}
+use borrow.Author.Tests.{leb-true}
+use Rattle.lists.proofs.BoolLaws.{and_left, and_right}
 use Rattle.lists.specs.Filled.{Filled}
 use Rattle.lists.proofs.FilledLaws.{filled_none, filled_more}
 use Rattle.image.specs.Profile.{after_role, is_medial, is_hashtag}
@@ -83,6 +86,12 @@ joined_small part role e = omega (arith, go (is_medial role) (is_hashtag role))
 -- the part of White in traits, in place of the class
 pub white_joined : (k w role : ℕ) {t : ℕ} → k ≡ 4 → t ≡ joined k role → t - 4 + w ≡ joined w role
 white_joined k w role e f = omega arith
+
+-- x is found to be in a memo
+pub memo_known : {s : List ℕ} {x : ℕ} {m : Memo} {t : Bool} → t ≡ (leb m.first x && leb x m.last) → t ≡ true → MemoOf s m → MemoAt s x m
+memo_known {s} {x} {m} e k a =
+    let f = sym e ∙ k in
+    record { from = leb-true _ _ (and_left (leb m.first x) (leb x m.last) f); to = leb-true _ _ (and_right (leb m.first x) (leb x m.last) f); all = a }
 
 -- what the two stretches of x share: one class k after the profile
 module _ (s : List ℕ) (x : ℕ) (c r b : Stretch) (k t : ℕ) (f : StretchOf s Ranges x c) (g : StretchOf s Entries x r) (h : Shared c r b)

@@ -28,8 +28,8 @@ returns-then-after-eq-WHITE c =
     c.share-all.ensures
     (white_joined _ _ _ c.if-after-eq-WHITE.true c.join_traits-traits.ensures)
 
-pub returns : goal.returns
-returns c =
+pub returns-else-after-eq-WHITE : goal.returns-else-after-eq-WHITE
+returns-else-after-eq-WHITE c =
     memo_other _ _ _ _ _ _ _
     c.requires.stretch_of
     c.requires.stretch_of_2
