@@ -159,25 +159,23 @@ fn stretch_at(image: &[u8], section: Section, i: usize, x: u32) -> Stretch
     requires placed { Placed (record_at image.now section) (record_count image.now section) i x }
     ensures { StretchOf image.now section x result }
 {
-    if image::records::count_records(image, section) <= i {
-        return Stretch {
-            first: gap_start(image, section, i, x),
-            last: 0xFFFFFFFF,
-            class: 0,
-        };
-    }
-    let r = image::records::record_at(image, section, i);
-    if x < r.first {
-        return Stretch {
-            first: gap_start(image, section, i, x),
-            last: r.first - 1,
-            class: 0,
-        };
-    }
+    let last = if image::records::count_records(image, section) <= i {
+        u32::MAX
+    } else {
+        let r = image::records::record_at(image, section, i);
+        if r.first <= x {
+            return Stretch {
+                first: r.first,
+                last: r.last,
+                class: r.class,
+            };
+        }
+        r.first - 1
+    };
     Stretch {
-        first: r.first,
-        last: r.last,
-        class: r.class,
+        first: gap_start(image, section, i, x),
+        last,
+        class: 0,
     }
 }
 
@@ -231,20 +229,18 @@ fn memo_of(image: &[u8], class: Stretch, role: Stretch, x: u32) -> Memo
 {
     let both = share(class, role);
     let after = image::records::after_role(role.class, class.class);
-    let traits = join_traits(role.class, after);
-    if after == WHITE {
-        let all = share(both, white_stretch(x));
-        Memo {
-            first: all.first,
-            last: all.last,
-            traits: traits - WHITE + all.class,
-        }
+    let part = if after == WHITE {
+        share(both, white_stretch(x))
     } else {
-        Memo {
-            first: both.first,
-            last: both.last,
-            traits,
+        Stretch {
+            class: after,
+            ..both
         }
+    };
+    Memo {
+        first: part.first,
+        last: part.last,
+        traits: join_traits(role.class, part.class),
     }
 }
 
