@@ -67,25 +67,16 @@ pub fn known<const LEN: usize>(index: &[u8], cells: &[u8], text: &[u8], at: usiz
 {
     match &text[at..at + LEN] {
         &[a @ 0xC0..=0xDF, b] if utf8::is_trail(b) => {
-            held(index, cells, a as usize - TWO_BYTES, b, 2)
+            let block = a as usize - TWO_BYTES;
+            held(index, cells, block, b, 2)
         }
         &[a @ 0xE0..=0xEF, b, c] if utf8::is_trail(b) && utf8::is_trail(c) => {
-            held(
-                index,
-                cells,
-                a as usize * BLOCK + b as usize - THREE_BYTES,
-                c,
-                3,
-            )
+            let block = a as usize * BLOCK + b as usize - THREE_BYTES;
+            held(index, cells, block, c, 3)
         }
         &[0xF0, b, c, d] if utf8::is_trail(b) && utf8::is_trail(c) && utf8::is_trail(d) => {
-            held(
-                index,
-                cells,
-                b as usize * BLOCK + c as usize - FOUR_BYTES,
-                d,
-                4,
-            )
+            let block = b as usize * BLOCK + c as usize - FOUR_BYTES;
+            held(index, cells, block, d, 4)
         }
         _ => 0,
     }
