@@ -1,13 +1,14 @@
 -- The bytes at a place and the blocks: which code point's bytes stand there, and so what is found of it. Assumes nothing.
 use Prim.Native.Nat.{ℕ, zero, suc, ◌+◌, ◌*◌, ◌/◌, ◌≤◌, ◌<◌}
 use mathlib.Core.Path.{◌≡◌, refl, sym, ap, ◌∙◌}
-use mathlib.Core.Bool.{Bool, true, false, not}
+use mathlib.Core.Bool.{Bool, true}
 use mathlib.Core.List.{List, [], ◌∷◌, ◌++◌}
 use native.Mathlib.Omega.{arith}
 use native.Mathlib.Decide.{dec_lt}
 use lib.ListN.{length, take, drop, get_or, take-append-drop}
 use lib.Seq.{drop-cons}
-use borrow.Author.Tests.{ltb-false, le-leb, not-false}
+use Rattle.std.specs.List.{between}
+use Rattle.std.proofs.lemmas.List.Edits.{get_or-between}
 use Rattle.utf8.specs.declared.Step.TheVariants.{Scalar}
 use Rattle.utf8.specs.Scalar.{is_scalar, ScalarMeans, below_surrogates, above_surrogates}
 use Rattle.utf8.specs.Encoding.{encoding, code_point}
@@ -52,12 +53,17 @@ stands s at n h e t =
     ∙ ap (λ (l : List ℕ). get_or s at 0 ∷ (l ++ r)) (take_after s at 1 n (omega arith)))
     ∙ step_of_sequence q r (encodes_sequence q (record { code = code_point q; scalar = t; bytes = e }))
 
--- bytes that follow others, and one that does not, where it is not ASCII
-pub trails : (b : ℕ) {t : Bool} → t ≡ is_trail b → not t ≡ false → (0x80 ≤ b) × (b < 0xC0)
-trails b e h = trail_range b (sym e ∙ not-false _ h)
+-- the first byte of a part, and one that follows others
+pub first_at : (s : List ℕ) (at e : ℕ) → at < e → get_or (between at e s) 0 0 ≡ get_or s at 0
+first_at s at e l = let z : at + 0 ≡ at = omega arith in get_or-between s at e 0 0 (omega arith) ∙ ap (λ (k : ℕ). get_or s k 0) z
 
-pub leads : (b : ℕ) {t : Bool} → t ≡ is_trail b → t ≡ false → 0x80 ≤ b → 0xC0 ≤ b
-leads b e h l = ltb-false b 0xC0 (rw (le-leb 0x80 b l) at (sym e ∙ h))
+pub trail_at :
+    (s : List ℕ) (at e k : ℕ) → at + k < e → true ≡ is_trail (get_or (between at e s) k 0)
+    → (get_or (between at e s) k 0 ≡ get_or s (at + k) 0) × (0x80 ≤ get_or s (at + k) 0) × (get_or s (at + k) 0 < 0xC0)
+trail_at s at e k l h =
+    let q = get_or-between s at e k 0 l in
+    let r = trail_range _ (ap is_trail (sym q) ∙ sym h) in
+    (q, r.0, r.1)
 
 -- the first code point whose sequence has so many bytes, of 2, 3 and 4
 abbrev least : ℕ → ℕ
@@ -110,12 +116,13 @@ module _ {index cells text : List ℕ} {at : ℕ} where
 
   -- what is held of a code point whose bytes stand at a place
   pub found :
-      {block j t : ℕ} (n : ℕ) → HeldAt index cells block j (suc n) t → 1 ≤ n → j < block_size → at + suc n ≤ length text → length (bytes text at n) ≡ suc n
+      {block j t len : ℕ} (n : ℕ) → len ≡ suc n → HeldAt index cells block j (suc n) t → 1 ≤ n → j < block_size → at + suc n ≤ length text → length (bytes text at n) ≡ suc n
       → block * block_size + j ≡ code_point (bytes text at n) → (least (suc n) ≤ code_point (bytes text at n) → bytes text at n ≡ encoding (code_point (bytes text at n)))
-      → FoundAt index cells text at (suc n) t
-  found {block} {j} n h k l w z e f =
+      → FoundAt index cells text at len t
+  found {block} {j} n o h k l w z e f =
       let x = code_point (bytes text at n) in
-      record {
+      rw o
+      (record {
         small = h.small;
         shown = λ s c p.
             let m = h.long p in
@@ -126,4 +133,4 @@ module _ {index cells text : List ℕ} {at : ℕ} where
               stands = stands text at n w (f v) (ap is_scalar (sym e) ∙ u.scalar) ∙ ap (Scalar x) z;
               known = h.same p ∙ u.known ∙ ap (token_traits s) e;
             };
-      }
+      })

@@ -13,6 +13,7 @@ ghost use Rattle.blocks.specs.Blocks.{block_size, block_count, Fits, Learning, B
 
 use character::Memo;
 use image::ClassImage;
+use image::{ClassImage, START};
 
 // The code points of a block.
 const BLOCK: usize = 64;
@@ -29,9 +30,6 @@ const ROWS: usize = 256;
 // The rows of ASCII, and of blocks that are all Start, whose row is the length of their sequences, come first; this one is free.
 const FIRST_ROW: usize = 5;
 
-// Start, in what the token rules know.
-const START: usize = 1;
-
 // What a cell has more for each byte of a sequence.
 const LENGTH: usize = 16;
 
@@ -47,83 +45,42 @@ const THREE_BYTES: usize = 0xE0 * 64 + TRAIL;
 // the second and third of four, where the first is 0xF0.
 const FOUR_BYTES: usize = TRAIL * 64 + TRAIL;
 
-// A byte as a number, which is below 256.
-fn widen(x: u8) -> usize
-    ensures { (result ≡ x) × (result < 256) }
-{
-    x as usize
-}
-
 // What is held of a sequence of this length by its block and its last byte; 0: nothing.
-fn held<'a>(index: &'a [u8], cells: &'a [u8], block: usize, last: u8, len: usize) -> usize
+fn held(index: &[u8], cells: &[u8], block: usize, last: u8, len: usize) -> usize
     requires fits { Fits index.now cells.now × (block_count ≤ length index.now) }
     requires block_lt_block_count { (block < block_count) × (0x80 ≤ last) × (last < 0xC0) }
     ensures { HeldAt index.now cells.now block (last % block_size) len result }
 {
-    let row = widen(index[block]);
-    let cell = widen(cells[row * BLOCK + widen(last) - TRAIL]);
-    if cell / LENGTH != len {
-        return 0;
+    let row = index[block] as usize;
+    let cell = cells[row * BLOCK + last as usize - TRAIL] as usize;
+    if cell / LENGTH == len {
+        cell % LENGTH
+    } else {
+        0
     }
-    cell % LENGTH
 }
 
-// What is held of the sequence of two bytes at a place, 0: nothing. The same of three and four.
-pub fn known_two<'a>(index: &'a [u8], cells: &'a [u8], text: &'a [u8], at: usize) -> usize
+// What is held of the sequence of LEN bytes at a place, 2, 3 or 4; 0: nothing. Of four, no block is held but of those that begin with F0.
+pub fn known<const LEN: usize>(index: &[u8], cells: &[u8], text: &[u8], at: usize) -> usize
     requires fits { Fits index.now cells.now × (block_count ≤ length index.now) }
-    requires at_in_bounds { (at + 2 ≤ length text.now) × (0x80 ≤ get_or text.now at 0) × (get_or text.now at 0 < 0xE0) }
-    ensures { FoundAt index.now cells.now text.now at 2 result }
+    requires at_in_bounds { at + LEN ≤ length text.now }
+    ensures { FoundAt index.now cells.now text.now at LEN result }
 {
-    let a = text[at];
-    let b = text[at + 1];
-    if utf8::is_trail(a) {
-        return 0;
+    match &text[at..at + LEN] {
+        &[a @ 0xC0..=0xDF, b] if utf8::is_trail(b) => {
+            let block = a as usize - TWO_BYTES;
+            held(index, cells, block, b, 2)
+        }
+        &[a @ 0xE0..=0xEF, b, c] if utf8::is_trail(b) && utf8::is_trail(c) => {
+            let block = a as usize * BLOCK + b as usize - THREE_BYTES;
+            held(index, cells, block, c, 3)
+        }
+        &[0xF0, b, c, d] if utf8::is_trail(b) && utf8::is_trail(c) && utf8::is_trail(d) => {
+            let block = b as usize * BLOCK + c as usize - FOUR_BYTES;
+            held(index, cells, block, d, 4)
+        }
+        _ => 0,
     }
-    if !utf8::is_trail(b) {
-        return 0;
-    }
-    held(index, cells, widen(a) - TWO_BYTES, b, 2)
-}
-
-pub fn known_three<'a>(index: &'a [u8], cells: &'a [u8], text: &'a [u8], at: usize) -> usize
-    requires fits { Fits index.now cells.now × (block_count ≤ length index.now) }
-    requires at_in_bounds { (at + 3 ≤ length text.now) × (0xE0 ≤ get_or text.now at 0) × (get_or text.now at 0 < 0xF0) }
-    ensures { FoundAt index.now cells.now text.now at 3 result }
-{
-    let b = text[at + 1];
-    let c = text[at + 2];
-    if !utf8::is_trail(b) {
-        return 0;
-    }
-    if !utf8::is_trail(c) {
-        return 0;
-    }
-    let block = widen(text[at]) * BLOCK + widen(b) - THREE_BYTES;
-    held(index, cells, block, c, 3)
-}
-
-pub fn known_four<'a>(index: &'a [u8], cells: &'a [u8], text: &'a [u8], at: usize) -> usize
-    requires fits { Fits index.now cells.now × (block_count ≤ length index.now) }
-    requires at_in_bounds { (at + 4 ≤ length text.now) × (0xF0 ≤ get_or text.now at 0) }
-    ensures { FoundAt index.now cells.now text.now at 4 result }
-{
-    let b = text[at + 1];
-    let c = text[at + 2];
-    let d = text[at + 3];
-    if text[at] != 0xF0 {
-        return 0; // no block is held of these
-    }
-    if !utf8::is_trail(b) {
-        return 0;
-    }
-    if !utf8::is_trail(c) {
-        return 0;
-    }
-    if !utf8::is_trail(d) {
-        return 0;
-    }
-    let block = widen(b) * BLOCK + widen(c) - FOUR_BYTES;
-    held(index, cells, block, d, 4)
 }
 
 // Fills the rows of ASCII and, if they have room, those of Start. The first row that is free.
@@ -131,14 +88,11 @@ pub fn begin(image: &ClassImage, cells: &mut [u8]) -> usize
     requires in_bounds { (128 ≤ length cells.old) × Blank cells.old }
     ensures { ((index : List ℕ) → Blank index → Learning image.now index cells.new result) × (length cells.new ≡ length cells.old) }
 {
-    character::fill_cells(image, 0, 0, &mut cells[0..ASCII]);
-    if cells.len() < FIRST_ROW * BLOCK {
-        return FIRST_ROW;
-    }
-    let mut i = ASCII;
-    while i < FIRST_ROW * BLOCK {
-        cells[i] = (i / BLOCK * LENGTH + START) as u8;
-        i += 1;
+    character::fill_cells(image, 0, 0, &mut cells[..ASCII]);
+    if FIRST_ROW * BLOCK <= cells.len() {
+        for i in ASCII..FIRST_ROW * BLOCK {
+            cells[i] = cell_of(i / BLOCK, START);
+        }
     }
     FIRST_ROW
 }
@@ -148,22 +102,14 @@ fn put_cells(cells: &mut [u8], from: usize, to: usize, cell: u8)
     requires { (from ≤ to) × (to ≤ length cells.old) }
     ensures { Put from to cell cells.old cells.new }
 {
-    let mut i = from;
-    while i < to {
-        cells[i] = cell;
-        i += 1;
-    }
+    cells[from..to].fill(cell);
 }
 
 // Where the code points from `first` on begin in the block at `base`.
 fn part_begin(first: u32, base: usize) -> usize
     ensures { result ≡ first - base }
 {
-    let x = first as usize;
-    if x < base {
-        return 0;
-    }
-    x - base
+    (first as usize).saturating_sub(base)
 }
 
 // Where the code points to `last` end in it.
@@ -171,11 +117,7 @@ fn part_end(last: u32, base: usize) -> usize
     requires { base ≤ last }
     ensures { (result ≤ block_size) × (base + result ≤ last + 1) × ((j : ℕ) → j < block_size → base + j ≤ last → j < result) }
 {
-    let count = last as usize - base;
-    if BLOCK <= count {
-        return BLOCK;
-    }
-    count + 1
+    BLOCK.min(last as usize - base + 1)
 }
 
 // Puts a cell for each code point of the memo in a block into a row.
@@ -197,13 +139,9 @@ fn all_start(memo: Memo, block: usize) -> bool
     ensures { result ≡ true → (memo.first ≤ block * block_size) × (block * block_size + 63 ≤ memo.last) × (memo.traits % 16 ≡ 1) }
 {
     let base = block * BLOCK;
-    if base < memo.first as usize {
-        return false;
-    }
-    if (memo.last as usize) < base + 63 {
-        return false;
-    }
-    memo.traits % 16 == START as u32
+    memo.first as usize <= base
+        && base + BLOCK <= memo.last as usize + 1
+        && character::token_traits(memo.traits) == START
 }
 
 // The cell of a sequence of this length, with these traits.
@@ -211,7 +149,7 @@ fn cell_of(len: usize, traits: u32) -> u8
     requires { len ≤ 4 }
     ensures { result ≡ len * 16 + traits % 16 }
 {
-    (len * LENGTH + (traits % 16) as usize) as u8
+    (len * LENGTH + character::token_traits(traits) as usize) as u8
 }
 
 // Keeps what the memo tells of a block, whose sequences have this length: in its row, in that of Start, or in the free row. The first row
@@ -229,28 +167,20 @@ fn learn(
     ensures { Learns memo index.old cells.old rows index.new cells.new result }
 {
     let cell = cell_of(len, memo.traits);
-    let row = widen(index[block]);
+    let row = index[block] as usize;
     if FIRST_ROW <= row {
         put_row(cells, row, memo, block, cell);
         return rows;
     }
-    if row != 0 {
-        return rows; // a row of Start is whole
-    }
-    if rows < FIRST_ROW {
-        return rows;
-    }
-    if cells.len() < FIRST_ROW * BLOCK {
+    // A row of Start is whole.
+    if row != 0 || rows < FIRST_ROW || cells.len() < FIRST_ROW * BLOCK {
         return rows;
     }
     if all_start(memo, block) {
         index[block] = len as u8;
         return rows;
     }
-    if ROWS <= rows {
-        return rows;
-    }
-    if cells.len() < rows * BLOCK + BLOCK {
+    if ROWS <= rows || cells.len() < rows * BLOCK + BLOCK {
         return rows;
     }
     index[block] = rows as u8;
@@ -259,11 +189,11 @@ fn learn(
 }
 
 // Keeps what the memo tells of the character at a place and its block. The first row that is free then.
-pub fn learn_at<'a>(
+pub fn learn_at(
     index: &mut [u8],
     cells: &mut [u8],
     rows: usize,
-    text: &'a [u8],
+    text: &[u8],
     at: usize,
     memo: Memo,
 ) -> usize
@@ -272,26 +202,18 @@ pub fn learn_at<'a>(
     ensures by_index { (s : List ℕ) → refusal_of s ≡ none → MemoOf s memo → Learning s index.old cells.old rows → Learning s index.new cells.new result }
     ensures index_len_unchanged { (length index.new ≡ length index.old) × (length cells.new ≡ length cells.old) × Fits index.new cells.new }
 {
-    if index.len() < BLOCKS {
-        return rows;
-    }
-    if text[at] < 0x80 {
+    if index.len() < BLOCKS || text[at] < 0x80 {
         return rows;
     }
     let packed = utf8::decode_packed(text, at);
     let len = packed % 8;
     let code = packed / 8;
     let block = code / BLOCK;
-    if len < 2 {
-        return rows; // ill-formed
-    }
-    if BLOCKS <= block {
+    // Below 2 the text is ill-formed.
+    if len < 2 || BLOCKS <= block {
         return rows;
     }
-    if code < memo.first as usize {
-        return rows;
-    }
-    if (memo.last as usize) < code {
+    if code < memo.first as usize || (memo.last as usize) < code {
         return rows;
     }
     learn(index, cells, rows, block, len, memo)

@@ -2,12 +2,15 @@
 -- Assumes nothing.
 use Prim.Native.Nat.{ℕ, ◌+◌, ◌-◌, ◌%◌, ◌≤◌, ◌<◌}
 use mathlib.Core.Path.{◌≡◌, refl, sym, ap, ◌∙◌}
-use mathlib.Core.Bool.{Bool, true, false}
+use mathlib.Core.Bool.{Bool, true, false, ◌&&◌}
 use mathlib.Core.List.{List}
 use mathlib.Core.Option.{none}
 use native.Mathlib.Omega.{arith}
 use lib.ListN.{length, get_or, set, drop}
 use lib.Seq.{get_or-set_other}
+use lib.Dec.{leb}
+use borrow.Author.Tests.{leb-true}
+use Rattle.lists.proofs.BoolLaws.{and_left, and_right}
 use Rattle.lists.specs.Filled.{Filled}
 use Rattle.lists.proofs.FilledLaws.{filled_none, filled_more}
 use Rattle.image.specs.Profile.{after_role, is_medial, is_hashtag}
@@ -30,7 +33,7 @@ use Rattle.character.specs.declared.Stretch.{Stretch}
 use Rattle.character.proofs.TraitLaws.{part_other, part_white_lem, token_small, token_traits_lem}
 
 -- traits by the class part and the role
-abbrev joined : ℕ → ℕ → ℕ
+abbrev pub joined : ℕ → ℕ → ℕ
 joined part role = part + medial_part (is_medial role) + hashtag_part (is_hashtag role)
 
 traits_by : (s : List ℕ) (x : ℕ) →
@@ -71,18 +74,11 @@ module _ (s : List ℕ) (x : ℕ) (a : refusal_of s ≡ none) where
         → StretchOf s section x (record { first = r.first; last = r.last; class = r.class })
     stretch_record r e n l u = rw e (record { from = rw e at l; to = u; same = λ y b c. class_held _ _ (records_rise s a section) i y n b c })
 
-pub joined_small : (part role : ℕ) {t : ℕ} → t ≡ joined part role → t ≤ part + 24
-joined_small part role e = omega (arith, go (is_medial role) (is_hashtag role))
-  where
-    go : (m h : Bool) → part + medial_part m + hashtag_part h ≤ part + 24
-    go true true = omega arith
-    go true false = omega arith
-    go false true = omega arith
-    go false false = omega arith
-
--- the part of White in traits, in place of the class
-pub white_joined : (k w role : ℕ) {t : ℕ} → k ≡ 4 → t ≡ joined k role → t - 4 + w ≡ joined w role
-white_joined k w role e f = omega arith
+-- x is found to be in a memo
+pub memo_known : {s : List ℕ} {x : ℕ} {m : Memo} {t : Bool} → t ≡ (leb m.first x && leb x m.last) → t ≡ true → MemoOf s m → MemoAt s x m
+memo_known {s} {x} {m} e k a =
+    let f = sym e ∙ k in
+    record { from = leb-true _ _ (and_left (leb m.first x) (leb x m.last) f); to = leb-true _ _ (and_right (leb m.first x) (leb x m.last) f); all = a }
 
 -- what the two stretches of x share: one class k after the profile
 module _ (s : List ℕ) (x : ℕ) (c r b : Stretch) (k t : ℕ) (f : StretchOf s Ranges x c) (g : StretchOf s Entries x r) (h : Shared c r b)

@@ -2,6 +2,9 @@
 use Prim.Native.Nat.{ℕ, ◌+◌, ◌-◌, ◌/◌, ◌≤◌, ◌<◌}
 use mathlib.Core.Path.{◌≡◌}
 use native.Mathlib.Omega.{arith}
+use native.Mathlib.Decide.{ℕ_discrete}
+use Rattle.std.specs.Option.{MatchOption, unwrap_or}
+use Rattle.std.specs.Prelude.{Option, Some, None}
 use Rattle.image.specs.declared.Range.{Range}
 use mathlib.Core.List.{List}
 use Rattle.image.specs.declared.records.Section.TheVariants.{Ranges, Entries}
@@ -16,6 +19,13 @@ module _ (at : ℕ → Range) (n x : ℕ) where
       let z : i ≡ i + 1 - 1 = omega arith in
       let k : (at i).last < x = rw e at h in
       record { within = omega arith; before = λ _. rw z at k }
+
+  passed_from : {from i : ℕ} → Passed at n from x → from ≤ i → i ≤ n → ((k : ℕ) → from ≤ k → k < i → (at k).last < x) → Passed at n i x
+  passed_from {from} {i} p l u f = record { within = u; before = λ h. go h (ℕ_discrete from i) }
+    where
+      go : 0 < i → Dec (from ≡ i) → (at (i - 1)).last < x
+      go h (yes e) = rw e at (p.before (omega arith))
+      go h (no d) = f (i - 1) (omega arith) (omega arith)
 
   -- the place of x is from lo to hi
   pub record Between (lo hi : ℕ) : Type 0 where
@@ -53,9 +63,16 @@ module _ (at : ℕ → Range) (n x : ℕ) where
         let k : lo < n → x ≤ (at lo).last = rw z at b.reached in
         record { passed = b.passed; reached = k }
 
-  -- a place that x has passed, and where it is reached
-  pub placed_here : (i : ℕ) → Passed at n i x → (i < n → x ≤ (at i).last) → Placed at n i x
-  placed_here i p r = record { passed = p; reached = r }
+  -- the first place at which x is reached, from one on that it has passed
+  pub placed_first :
+      {from m i : ℕ} (r : Option ℕ) → Passed at n from x → m ≡ n → i ≡ unwrap_or r m
+      → MatchOption r ((k : ℕ) → from ≤ k → k < m → (at k).last < x) (λ i. (from ≤ i) × (i < m) × (x ≤ (at i).last) × ((k : ℕ) → from ≤ k → k < i → (at k).last < x))
+      → Placed at n i x
+  placed_first None p e q f =
+      let w = p.within in
+      rw (q, e) (record { passed = passed_from p w (omega arith) (λ k l u. f k l (omega arith)); reached = λ l. absurd (omega arith) })
+  placed_first (Some i) p e q f =
+      rw q (record { passed = passed_from p f.0 (omega (arith, f.1)) f.3; reached = λ _. f.2 })
 
 pub passed_begins : (at : ℕ → Range) (n x : ℕ) → Passed at n 0 x
 passed_begins at n x = record { within = omega arith; before = λ l. absurd (omega arith) }

@@ -1,35 +1,24 @@
 -- Stretches of code points that have one kind of White: the line ends of ASCII, and any code point alone. Assumes nothing.
 use Prim.Native.Nat.{ℕ, ◌≤◌, ◌<◌}
 use mathlib.Core.Path.{◌≡◌, ap, ◌∙◌}
-use mathlib.Core.Bool.{true, false}
+use mathlib.Core.Bool.{true}
 use native.Mathlib.Omega.{arith}
 use native.Mathlib.Decide.{dec_lt}
 use Rattle.lists.proofs.BoolLaws.{impossible}
 use Rattle.line.specs.Line.{is_line_end}
 use Rattle.line.proofs.LineLaws.{LineEnd, low, next, separator, no_line_end, is_line_end_lem}
-use Rattle.grammar.specs.White.{is_mark, white_of}
+use Rattle.grammar.specs.White.{white_of}
 use Rattle.character.specs.Traits.{white_part}
 use Rattle.character.specs.Stretch.{WhiteStretchOf}
 
 -- x alone
-alone : (x k : ℕ) → white_part (white_of x) ≡ k → WhiteStretchOf x (record { first = x; last = x; class = k })
+pub alone : (x k : ℕ) → white_part (white_of x) ≡ k → WhiteStretchOf x (record { first = x; last = x; class = k })
 alone x k e =
     record { from = omega arith; to = omega arith; same = λ y l u. let z : y ≡ x = omega arith in ap (λ (n : ℕ). white_part (white_of n)) z ∙ e }
 
 line_end_part : (x : ℕ) → is_line_end x ≡ true → white_part (white_of x) ≡ 6
 unfolding white_of
 line_end_part x e = rw e
-
-pub line_end_alone : (x : ℕ) → is_line_end x ≡ true → WhiteStretchOf x (record { first = x; last = x; class = 6 })
-line_end_alone x e = alone x 6 (line_end_part x e)
-
-pub mark_alone : (x : ℕ) → is_line_end x ≡ false → is_mark x ≡ true → WhiteStretchOf x (record { first = x; last = x; class = 7 })
-unfolding white_of
-mark_alone x e f = alone x 7 (rw (e, f))
-
-pub blank_alone : (x : ℕ) → is_line_end x ≡ false → is_mark x ≡ false → WhiteStretchOf x (record { first = x; last = x; class = 4 })
-unfolding white_of
-blank_alone x e f = alone x 4 (rw (e, f))
 
 -- the line ends of ASCII
 pub line_ends : (x : ℕ) → is_line_end x ≡ true → x ≤ 0x0D → WhiteStretchOf x (record { first = 0x0A; last = 0x0D; class = 6 })

@@ -6,26 +6,20 @@ ghost use Rattle.image.specs.Profile.{is_medial, is_hashtag};
 ghost use Rattle.image.specs.Records.{record_at, record_count};
 ghost use Rattle.image.specs.declared.records.Section.TheVariants.{Ranges, Entries};
 ghost use Rattle.image.specs.Placed.{Passed, Placed};
-ghost use Rattle.grammar.specs.White.{is_mark};
+ghost use Rattle.grammar.specs.White.{is_mark, white_of};
 ghost use Rattle.lists.specs.Filled.{Filled};
-ghost use Rattle.character.specs.Traits.{medial_part, hashtag_part, token_traits, traits_of};
+ghost use Rattle.character.specs.Traits.{white_part, medial_part, hashtag_part, token_traits, traits_of};
 ghost use Rattle.character.specs.Stretch.{StretchOf, WhiteStretchOf, Shared};
 ghost use Rattle.character.specs.Read.{MemoOf, MemoAt, TableOf, TokenTableOf, Settled, ascii_character, ReadAs, ReadTokenAs};
 
-use image::ClassImage;
 use image::records::Section;
+use image::{ClassImage, WHITE};
+use line::{CARRIAGE_RETURN, LINE_FEED};
 
-// The class White; in traits its number is that of blanks, and line ends and marks have one each.
-const WHITE: u32 = 4;
-
+// In traits the number of White is that of blanks, and line ends and marks have one each.
 const LINE_ENDS: u32 = 6;
 
 const MARKS: u32 = 7;
-
-// The line ends of ASCII are the code points from LINE FEED to CARRIAGE RETURN.
-const LINE_FEED: u32 = 0x0A;
-
-const CARRIAGE_RETURN: u32 = 0x0D;
 
 const LEFT_TO_RIGHT_MARK: u32 = 0x200E;
 
@@ -37,7 +31,7 @@ const MEDIAL: u32 = 8;
 pub const HASHTAG: u32 = 16;
 
 // Code points from `first` to `last` that have one class in a section of an image.
-#[derive(Clone, Copy)]
+#[derive(Clone, Copy, Debug, PartialEq, Eq)]
 pub struct Stretch {
     pub first: u32,
     pub last: u32,
@@ -46,7 +40,7 @@ pub struct Stretch {
 
 // Code points from `first` to `last` that have the same traits: the class after the profile and kind of White, `MEDIAL` more for a
 // medial, and `HASHTAG` more for role 5.
-#[derive(Clone, Copy)]
+#[derive(Clone, Copy, Debug, PartialEq, Eq)]
 pub struct Memo {
     pub first: u32,
     pub last: u32,
@@ -54,7 +48,7 @@ pub struct Memo {
 }
 
 // The character at a place: its length in bytes, its code point and traits, and the memo for the next one. Length 0: ill-formed.
-#[derive(Drop)]
+#[derive(Clone, Copy, Debug, PartialEq, Eq)]
 pub struct Character {
     pub len: usize,
     pub code: u32,
@@ -77,41 +71,38 @@ pub fn no_memo() -> Memo
 fn is_mark(code: u32) -> bool
     ensures { result ≡ is_mark code }
 {
-    if code == LEFT_TO_RIGHT_MARK {
-        return true;
+    code == LEFT_TO_RIGHT_MARK || code == RIGHT_TO_LEFT_MARK
+}
+
+// What traits have for the kind of White of a code point.
+fn white_part(x: u32) -> u32
+    ensures { result ≡ white_part (white_of x) }
+{
+    if line::is_line_end(x) {
+        LINE_ENDS
+    } else if is_mark(x) {
+        MARKS
+    } else {
+        WHITE
     }
-    code == RIGHT_TO_LEFT_MARK
 }
 
 // The code points around `x` that have its kind of White, and what traits have for it: the line ends of ASCII together, any other alone.
 fn white_stretch(x: u32) -> Stretch
     ensures { WhiteStretchOf x result }
 {
-    if line::is_line_end(x) {
-        if x <= CARRIAGE_RETURN {
-            return Stretch {
-                first: LINE_FEED,
-                last: CARRIAGE_RETURN,
-                class: LINE_ENDS,
-            };
-        }
-        return Stretch {
-            first: x,
-            last: x,
+    if x <= CARRIAGE_RETURN && line::is_line_end(x) {
+        Stretch {
+            first: LINE_FEED,
+            last: CARRIAGE_RETURN,
             class: LINE_ENDS,
-        };
-    }
-    if is_mark(x) {
-        return Stretch {
+        }
+    } else {
+        Stretch {
             first: x,
             last: x,
-            class: MARKS,
-        };
-    }
-    Stretch {
-        first: x,
-        last: x,
-        class: WHITE,
+            class: white_part(x),
+        }
     }
 }
 
@@ -119,17 +110,9 @@ fn white_stretch(x: u32) -> Stretch
 fn share(a: Stretch, b: Stretch) -> Stretch
     ensures { Shared a b result }
 {
-    let mut first = a.first;
-    if first < b.first {
-        first = b.first;
-    }
-    let mut last = a.last;
-    if b.last < last {
-        last = b.last;
-    }
     Stretch {
-        first,
-        last,
+        first: a.first.max(b.first),
+        last: a.last.min(b.last),
         class: b.class,
     }
 }
@@ -140,12 +123,12 @@ fn join_traits(role: u32, part: u32) -> u32
     ensures { result ≡ part + medial_part (is_medial role) + hashtag_part (is_hashtag role) }
 {
     if image::records::is_medial(role) {
-        return part + MEDIAL;
+        part + MEDIAL
+    } else if image::records::is_hashtag(role) {
+        part + HASHTAG
+    } else {
+        part
     }
-    if image::records::is_hashtag(role) {
-        return part + HASHTAG;
-    }
-    part
 }
 
 // What the token rules know, of a code point's traits: the class, the kind of White, and whether it is a medial.
@@ -161,10 +144,10 @@ fn gap_start(image: &ClassImage, section: Section, i: usize, x: u32) -> u32
     ensures { (result ≤ x) × (0 < i → (record_at image.now section (i - 1)).last < result) }
 {
     if i == 0 {
-        return 0;
+        0
+    } else {
+        image.record_at(section, i - 1).last + 1
     }
-    let r = image.record_at(section, i - 1);
-    r.last + 1
 }
 
 // The stretch of x in a section, of which the place of x is i.
@@ -172,29 +155,27 @@ fn stretch_at(image: &ClassImage, section: Section, i: usize, x: u32) -> Stretch
     requires placed { Placed (record_at image.now section) (record_count image.now section) i x }
     ensures { StretchOf image.now section x result }
 {
-    if image.count_records(section) <= i {
-        return Stretch {
-            first: gap_start(image, section, i, x),
-            last: 0xFFFFFFFF,
-            class: 0,
-        };
-    }
-    let r = image.record_at(section, i);
-    if x < r.first {
-        return Stretch {
-            first: gap_start(image, section, i, x),
-            last: r.first - 1,
-            class: 0,
-        };
-    }
+    let last = if image.count_records(section) <= i {
+        u32::MAX
+    } else {
+        let r = image.record_at(section, i);
+        if r.first <= x {
+            return Stretch {
+                first: r.first,
+                last: r.last,
+                class: r.class,
+            };
+        }
+        r.first - 1
+    };
     Stretch {
-        first: r.first,
-        last: r.last,
-        class: r.class,
+        first: gap_start(image, section, i, x),
+        last,
+        class: 0,
     }
 }
 
-// The place of x in a section of an accepted image, by halving. A loop, for speed: only the place is wanted here, not the steps.
+// The place of x in a section of an accepted image, by halving. A loop: std halves slices, and the records are no slice.
 fn place_of(image: &ClassImage, section: Section, x: u32) -> usize
     ensures { Placed (record_at image.now section) (record_count image.now section) result x }
 {
@@ -205,9 +186,9 @@ fn place_of(image: &ClassImage, section: Section, x: u32) -> usize
         let r = image.record_at(section, mid);
         if r.last < x {
             lo = mid + 1;
-            continue;
+        } else {
+            hi = mid;
         }
-        hi = mid;
     }
     lo
 }
@@ -218,15 +199,9 @@ fn next_place(image: &ClassImage, section: Section, from: usize, x: u32) -> usiz
     ensures { Placed (record_at image.now section) (record_count image.now section) result x }
 {
     let count = image.count_records(section);
-    let mut i = from;
-    while i < count {
-        let r = image.record_at(section, i);
-        if x <= r.last {
-            break;
-        }
-        i += 1;
-    }
-    i
+    (from..count)
+        .find(|i| x <= image.record_at(section, *i).last)
+        .unwrap_or(count)
 }
 
 // The stretch of x in a section of an accepted image.
@@ -246,19 +221,18 @@ fn memo_of(image: &ClassImage, class: Stretch, role: Stretch, x: u32) -> Memo
 {
     let both = share(class, role);
     let after = image::records::after_role(role.class, class.class);
-    let traits = join_traits(role.class, after);
-    if after == WHITE {
-        let all = share(both, white_stretch(x));
-        return Memo {
-            first: all.first,
-            last: all.last,
-            traits: traits - WHITE + all.class,
-        };
-    }
+    let part = if after == WHITE {
+        share(both, white_stretch(x))
+    } else {
+        Stretch {
+            class: after,
+            ..both
+        }
+    };
     Memo {
-        first: both.first,
-        last: both.last,
-        traits,
+        first: part.first,
+        last: part.last,
+        traits: join_traits(role.class, part.class),
     }
 }
 
@@ -275,10 +249,7 @@ fn search(image: &ClassImage, x: u32) -> Memo
 fn is_known(memo: Memo, x: u32) -> bool
     ensures { result ≡ (leb memo.first x && leb x memo.last) }
 {
-    if x < memo.first {
-        return false;
-    }
-    x <= memo.last
+    (memo.first..=memo.last).contains(&x)
 }
 
 // A place that `x` has passed in a section: the first one for 0, without a search.
@@ -286,9 +257,10 @@ fn passed_place(image: &ClassImage, section: Section, x: u32) -> usize
     ensures { Passed (record_at image.now section) (record_count image.now section) result x }
 {
     if x == 0 {
-        return 0;
+        0
+    } else {
+        place_of(image, section, x)
     }
-    place_of(image, section, x)
 }
 
 // The traits of the code points from `base` on, as many as `out` has room for: a search in each section, then a walk from stretch to stretch.
@@ -299,8 +271,7 @@ pub fn fill_part(image: &ClassImage, base: u32, out: &mut [u8])
     let mut range = passed_place(image, Section::Ranges, base);
     let mut entry = passed_place(image, Section::Entries, base);
     let mut memo = no_memo();
-    let mut i = 0;
-    while i < out.len() {
+    for (i, cell) in out.iter_mut().enumerate() {
         let x = base + i as u32;
         if !is_known(memo, x) {
             range = next_place(image, Section::Ranges, range, x);
@@ -309,8 +280,7 @@ pub fn fill_part(image: &ClassImage, base: u32, out: &mut [u8])
             let role = stretch_at(image, Section::Entries, entry, x);
             memo = memo_of(image, class, role, x);
         }
-        out[i] = memo.traits as u8;
-        i += 1;
+        *cell = memo.traits as u8;
     }
 }
 
@@ -330,10 +300,8 @@ pub fn fill_cells(image: &ClassImage, base: u32, tag: u8, out: &mut [u8])
     ensures { Filled (length out.old) (λ (j : ℕ). tag + token_traits image.now (base + j)) out.new (length out.old) }
 {
     fill_part(image, base, out);
-    let mut i = 0;
-    while i < out.len() {
-        out[i] = tag + out[i] % 16;
-        i += 1;
+    for cell in out.iter_mut() {
+        *cell = tag + *cell % 16;
     }
 }
 
@@ -344,25 +312,21 @@ fn settle(image: &ClassImage, memo: Memo, packed: usize) -> Character
     ensures { Settled image.now packed result }
 {
     let code = (packed / 8) as u32;
-    if is_known(memo, code) {
-        return Character {
-            len: packed % 8,
-            code,
-            traits: memo.traits,
-            memo,
-        };
-    }
-    let m = search(image, code);
+    let memo = if is_known(memo, code) {
+        memo
+    } else {
+        search(image, code)
+    };
     Character {
         len: packed % 8,
         code,
-        traits: m.traits,
-        memo: m,
+        traits: memo.traits,
+        memo,
     }
 }
 
 // The character of `text` at a place before its end, by decoding it.
-pub fn read_decoded<'a>(image: &ClassImage, memo: Memo, text: &'a [u8], at: usize) -> Character
+pub fn read_decoded(image: &ClassImage, memo: Memo, text: &[u8], at: usize) -> Character
     requires memo_of { MemoOf image.now memo }
     requires at_in_bounds { at < length text.now }
     ensures { ReadAs image.now text.now at result }
@@ -384,13 +348,7 @@ fn ascii(b: u8, traits: u8, memo: Memo) -> Character
 }
 
 // The character of `text` at a place before its end: ASCII by the table.
-pub fn read<'a>(
-    image: &ClassImage,
-    table: &'a [u8; 128],
-    memo: Memo,
-    text: &'a [u8],
-    at: usize,
-) -> Character
+pub fn read(image: &ClassImage, table: &[u8; 128], memo: Memo, text: &[u8], at: usize) -> Character
     requires table_of { TableOf image.now table.now }
     requires memo_of { MemoOf image.now memo }
     requires at_in_bounds { at < length text.now }
@@ -398,17 +356,18 @@ pub fn read<'a>(
 {
     let b = text[at];
     if b < 0x80 {
-        return ascii(b, table[b as usize], memo);
+        ascii(b, table[b as usize], memo)
+    } else {
+        read_decoded(image, memo, text, at)
     }
-    read_decoded(image, memo, text, at)
 }
 
 // The same with what the token rules know in place of all traits. The table holds just that: no mask costs time where a text is ASCII.
-pub fn read_for_tokens<'a>(
+pub fn read_for_tokens(
     image: &ClassImage,
-    table: &'a [u8],
+    table: &[u8],
     memo: Memo,
-    text: &'a [u8],
+    text: &[u8],
     at: usize,
 ) -> Character
     requires token_table_of { TokenTableOf image.now table.now }
@@ -421,11 +380,8 @@ pub fn read_for_tokens<'a>(
         return ascii(b, table[b as usize], memo);
     }
     let c = read_decoded(image, memo, text, at);
-    let next = c.memo;
     Character {
-        len: c.len,
-        code: c.code,
         traits: token_traits(c.traits),
-        memo: next,
+        ..c
     }
 }

@@ -6,9 +6,9 @@ ghost use Rattle.utf8.specs.Text.{characters_at};
 ghost use Rattle.line.specs.Line.{is_line_end, feed_first, ends_line, one};
 ghost use Rattle.line.specs.Ends.{end_of, end_at};
 
-const LINE_FEED: u32 = 0x0A;
+pub const LINE_FEED: u32 = 0x0A;
 
-const CARRIAGE_RETURN: u32 = 0x0D;
+pub const CARRIAGE_RETURN: u32 = 0x0D;
 
 const NEXT_LINE: u32 = 0x85;
 

@@ -17,27 +17,21 @@ kept_long : (cells : List ℕ) {ys : List ℕ} {f : ℕ → ℕ} {n : ℕ} → F
 kept_long cells {ys = ys} f = same_len_mid 0 128 cells ys f.long
 
 pub fill_cells-requires : goal.fill_cells-requires
-fill_cells-requires c = record { image_value = c.requires.image_value; out_bound = omega (arith, length-take 128 c.args.cells.now); tag_bound = omega arith }
+fill_cells-requires c = record { out_bound = omega (arith, length-take 128 c.args.cells.now); tag_bound = omega arith }
 
-pub shape_of-cells-then-cells : goal.shape_of-cells-then-cells
-shape_of-cells-then-cells c = kept_long c.args.cells.now c.fill_cells.ensures
-
-pub returns-then-cells : goal.returns-then-cells
-returns-then-cells c = (begins c.requires.image_value (beginning _ c.requires.in_bounds.1 (room c.args.cells.now c.requires.in_bounds.0) c.fill_cells.ensures) (omega arith) (λ h. absurd (omega (arith, c.if-cells.true))), kept_long c.args.cells.now c.fill_cells.ensures)
+pub returns-else-cells : goal.returns-else-cells
+returns-else-cells c = (begins c.requires.image_value (beginning _ c.requires.in_bounds.1 (room c.args.cells.now c.requires.in_bounds.0) c.fill_cells.ensures) (omega arith) (λ h. absurd (omega (arith, c.if-cells.false))), kept_long c.args.cells.now c.fill_cells.ensures)
 
 pub loop-i-init : goal.loop-i-init
 loop-i-init c = (beginning _ c.requires.in_bounds.1 (room c.args.cells.now c.requires.in_bounds.0) c.fill_cells.ensures, omega arith, refl)
 
 pub bounds-cells-i : goal.bounds-cells-i
-bounds-cells-i c = omega (arith, c.loop-i.invariant.2, c.if-cells.false, c.loop-i-test.true)
+bounds-cells-i c = omega (arith, c.loop-i.invariant.2, c.if-cells.true, c.loop-i-test.true)
 
 pub loop-i-preserved : goal.loop-i-preserved
 loop-i-preserved c =
-    let t : c.loop-i.i < length c.loop-i.cells = omega (arith, c.loop-i.invariant.2, c.if-cells.false, c.loop-i-test.true) in
-    (beginning_more _ t refl c.loop-i.invariant.0, omega (arith, c.loop-i-test.true), length-set c.loop-i.cells c.loop-i.i _ ∙ c.loop-i.invariant.2)
+    let t : c.loop-i.i < length c.loop-i.cells = omega (arith, c.loop-i.invariant.2, c.if-cells.true, c.loop-i-test.true) in
+    (beginning_more _ t (omega (arith, c.cell_of.ensures)) c.loop-i.invariant.0, omega (arith, c.loop-i-test.true), length-set c.loop-i.cells c.loop-i.i _ ∙ c.loop-i.invariant.2)
 
-pub shape_of-cells : goal.shape_of-cells
-shape_of-cells c = c.loop-i.invariant.2 ∙ kept_long c.args.cells.now c.fill_cells.ensures
-
-pub returns : goal.returns
-returns c = (begins c.requires.image_value c.loop-i.invariant.0 c.loop-i.invariant.1 (λ h. c.loop-i-test.false), c.loop-i.invariant.2 ∙ kept_long c.args.cells.now c.fill_cells.ensures)
+pub returns-after-loop-i : goal.returns-after-loop-i
+returns-after-loop-i c = (begins c.requires.image_value c.loop-i.invariant.0 c.loop-i.invariant.1 (λ h. c.loop-i-test.false), c.loop-i.invariant.2 ∙ kept_long c.args.cells.now c.fill_cells.ensures)

@@ -1,12 +1,9 @@
 -- `character::fill_part` meets its contract: the places passed hold their traits, and the walk has come to the next. Assumes nothing.
 use Prim.Native.Nat.{◌+◌}
-use mathlib.Core.Path.{refl, sym, ◌∙◌}
+use mathlib.Core.Path.{refl, sym}
 use native.Mathlib.Omega.{arith}
-use borrow.Author.Tests.{leb-true}
-use lib.Dec.{leb}
-use Rattle.lists.proofs.BoolLaws.{and_left, and_right}
 use Rattle.lists.proofs.FilledLaws.{filled_none, filled_more, filled_all}
-use Rattle.character.proofs.CharacterLaws.{traits_small}
+use Rattle.character.proofs.CharacterLaws.{traits_small, memo_known}
 use Rattle.character.proofs.PlaceLaws.{WalkAt, walk_begins, walk_on, walk_same}
 use Rattle.character.proofs.fill_part.Goals as goal
 use Rattle.character.proofs.fill_part.Goals.{Joined-not-is_known, then-not-is_known, else-not-is_known}
@@ -16,7 +13,6 @@ walked : (c : goal.Joined-not-is_known)
     → let a = c.args in
     WalkAt a.image.now (a.base + c.loop-i.i) c.if-not-is_known.range c.if-not-is_known.entry c.if-not-is_known.memo
 walked c =
-    let x = c.args.base + c.loop-i.i in
     elim c.if-not-is_known.branch [
       | then-not-is_known w ↦
           let m = w.memo_of-memo.ensures in
@@ -26,17 +22,8 @@ walked c =
           w.entry-is
           w.memo-is
       | else-not-is_known w ↦
-          let e = sym c.is_known.ensures ∙ w.if-not-is_known.false in
           walk_same
-          (record {
-            walk = c.loop-i.invariant.2;
-            here =
-                record {
-                  from = leb-true _ _ (and_left (leb c.loop-i.memo.first x) (leb x c.loop-i.memo.last) e);
-                  to = leb-true _ _ (and_right (leb c.loop-i.memo.first x) (leb x c.loop-i.memo.last) e);
-                  all = c.loop-i.invariant.2.memo;
-                };
-          })
+          (record { walk = c.loop-i.invariant.2; here = memo_known c.is_known.ensures w.if-not-is_known.false c.loop-i.invariant.2.memo })
           w.range-is
           w.entry-is
           w.memo-is
@@ -52,33 +39,24 @@ pub overflow_add-x : goal.overflow_add-x
 overflow_add-x c = omega (arith, c.loop-i.invariant.0, c.requires.out_bound, c.loop-i-test.true, c.loop-i.invariant.1.long)
 
 pub next_place-range-requires : goal.next_place-range-requires
-next_place-range-requires c = record { image_value = c.requires.image_value; passed = c.loop-i.invariant.2.range }
+next_place-range-requires c = record { passed = c.loop-i.invariant.2.range }
 
 pub next_place-entry-requires : goal.next_place-entry-requires
-next_place-entry-requires c = record { image_value = c.requires.image_value; passed = c.loop-i.invariant.2.entry }
+next_place-entry-requires c = record { passed = c.loop-i.invariant.2.entry }
 
 pub stretch_at-class-requires : goal.stretch_at-class-requires
-stretch_at-class-requires c = record { image_value = c.requires.image_value; placed = c.next_place-range.ensures }
+stretch_at-class-requires c = record { placed = c.next_place-range.ensures }
 
 pub stretch_at-role-requires : goal.stretch_at-role-requires
-stretch_at-role-requires c = record { image_value = c.requires.image_value; placed = c.next_place-entry.ensures }
+stretch_at-role-requires c = record { placed = c.next_place-entry.ensures }
 
 pub memo_of-memo-requires : goal.memo_of-memo-requires
-memo_of-memo-requires c = record { image_value = c.requires.image_value; stretch_of = c.stretch_at-class.ensures; stretch_of_2 = c.stretch_at-role.ensures }
+memo_of-memo-requires c = record { stretch_of = c.stretch_at-class.ensures; stretch_of_2 = c.stretch_at-role.ensures }
 
-pub overflow_cast-out : goal.overflow_cast-out
-overflow_cast-out c =
-    let m = (walked (goal.at.overflow_cast-out c).Joined-not-is_known).here in
+pub overflow_cast-cell : goal.overflow_cast-cell
+overflow_cast-cell c =
+    let m = (walked (goal.at.overflow_cast-cell c).Joined-not-is_known).here in
     omega (arith, sym (m.all _ m.from m.to), traits_small _ (c.args.base + c.loop-i.i) c.requires.image_value)
-
-pub bounds-out-i : goal.bounds-out-i
-bounds-out-i c = c.loop-i-test.true
-
-pub overflow_add-i : goal.overflow_add-i
-overflow_add-i c = omega (arith, c.loop-i-test.true, c.loop-i.invariant.1.long, c.requires.out_bound)
-
-pub loop-i-smaller : goal.loop-i-smaller
-loop-i-smaller c = omega (arith, c.loop-i-test.true, c.loop-i.invariant.1.long)
 
 pub loop-i-preserved : goal.loop-i-preserved
 loop-i-preserved c =

@@ -1,5 +1,5 @@
 -- The loop of `character::fill_part`: the places passed hold their traits, and the walk has come to the next.
-use Prim.Native.Nat.{ℕ, ◌+◌, ◌-◌, ◌≤◌}
+use Prim.Native.Nat.{ℕ, ◌+◌, ◌≤◌}
 use lib.ListN.{length}
 use Rattle.lists.specs.Filled.{Filled}
 use Rattle.character.specs.Traits.{traits_of}
@@ -8,6 +8,3 @@ use Rattle.character.proofs.fill_part.Given as goal
 
 abbrev pub invariant-loop-i : goal.invariant-loop-i
 invariant-loop-i l = (l.i ≤ length l.initial.out) × Filled (length l.initial.out) (λ (j : ℕ). traits_of l.image (l.base + j)) l.out l.i × WalkOf l.image (l.base + l.i) l.range l.entry l.memo
-
-abbrev pub decreases-loop-i : goal.decreases-loop-i
-decreases-loop-i l = length l.initial.out - l.i

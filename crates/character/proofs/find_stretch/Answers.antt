@@ -2,4 +2,4 @@
 use Rattle.character.proofs.find_stretch.Goals as goal
 
 pub stretch_at-requires : goal.stretch_at-requires
-stretch_at-requires c = record { image_value = c.requires; placed = c.place_of-i.ensures }
+stretch_at-requires c = record { placed = c.place_of-i.ensures }

@@ -5,10 +5,10 @@ use Rattle.image.specs.declared.Range.{Range}
 use Rattle.character.proofs.gap_start.Goals as goal
 
 pub overflow_add-result : goal.overflow_add-result
-overflow_add-result c = let e = ap (λ (r : Range). r.last) c.record_at-r.ensures in omega (arith, c.requires.passed.before (omega arith))
+overflow_add-result c = let e = ap (λ (r : Range). r.last) c.record_at.ensures in omega (arith, c.requires.passed.before (omega arith))
 
-pub returns : goal.returns
-returns c =
-    let e = ap (λ (r : Range). r.last) c.record_at-r.ensures in
+pub returns-else-i-eq0 : goal.returns-else-i-eq0
+returns-else-i-eq0 c =
+    let e = ap (λ (r : Range). r.last) c.record_at.ensures in
     let h = c.requires.passed.before (omega arith) in
     (omega arith, λ _. omega arith)

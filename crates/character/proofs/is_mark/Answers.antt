@@ -7,6 +7,6 @@ pub returns-then-code-eq-LEFT_TO_RIGHT_MARK : goal.returns-then-code-eq-LEFT_TO_
 unfolding is_mark
 returns-then-code-eq-LEFT_TO_RIGHT_MARK c = rw c.if-code-eq-LEFT_TO_RIGHT_MARK.true
 
-pub returns : goal.returns
+pub returns-else-code-eq-LEFT_TO_RIGHT_MARK : goal.returns-else-code-eq-LEFT_TO_RIGHT_MARK
 unfolding is_mark
-returns c = rw (ne_eqb _ 0x200E c.if-code-eq-LEFT_TO_RIGHT_MARK.false)
+returns-else-code-eq-LEFT_TO_RIGHT_MARK c = rw (ne_eqb _ 0x200E c.if-code-eq-LEFT_TO_RIGHT_MARK.false)

@@ -8,13 +8,3 @@ pub returns-then-is_medial : goal.returns-then-is_medial
 returns-then-is_medial c =
     let m = sym c.is_medial.ensures ∙ c.if-is_medial.true in
     rw (m, medial_alone _ m) (omega arith)
-
-pub returns-then-is_hashtag : goal.returns-then-is_hashtag
-returns-then-is_hashtag c =
-    rw (sym c.is_medial.ensures ∙ c.if-is_medial.false, sym c.is_hashtag.ensures ∙ c.if-is_hashtag.true)
-    (omega arith)
-
-pub returns : goal.returns
-returns c =
-    rw (sym c.is_medial.ensures ∙ c.if-is_medial.false, sym c.is_hashtag.ensures ∙ c.if-is_hashtag.false)
-    (omega arith)

@@ -5,13 +5,13 @@ use Rattle.character.proofs.PlaceLaws.{between_begins, between_above, between_be
 use Rattle.character.proofs.place_of.Goals as goal
 
 pub loop-lo-init : goal.loop-lo-init
-loop-lo-init c = (c.requires, rw c.count_records-hi.ensures (between_begins _ _ _))
+loop-lo-init c = (c.requires, rw c.count_records-hi.ensures.count (between_begins _ _ _))
 
 pub overflow_add-mid : goal.overflow_add-mid
 overflow_add-mid c = omega (arith, few_records _ c.loop-lo.invariant.0 c.args.section, c.loop-lo.invariant.1.within)
 
 pub record_at-r-requires : goal.record_at-r-requires
-record_at-r-requires c = record { image_value = c.loop-lo.invariant.0; i_bound = omega (arith, c.loop-lo.invariant.1.within) }
+record_at-r-requires c = omega (arith, c.loop-lo.invariant.1.within)
 
 pub overflow_add-lo : goal.overflow_add-lo
 overflow_add-lo c = omega (arith, few_records _ c.loop-lo.invariant.0 c.args.section, c.loop-lo.invariant.1.within)

@@ -12,7 +12,7 @@ told c =
     unpacked (drop c.args.at c.args.text.now) _ c.decode_packed-packed.ensures (let l = length-drop c.args.at c.args.text.now in omega (arith, c.requires.at_in_bounds))
 
 pub settle-requires : goal.settle-requires
-settle-requires c = record { image_value = c.requires.image_value; memo_of = c.requires.memo_of; packed_bound = omega (arith, (told c).small) }
+settle-requires c = record { memo_of = c.requires.memo_of; packed_bound = omega (arith, (told c).small) }
 
 pub returns : goal.returns
 returns c = read_settled _ _ _ _ _ (told (goal.at.returns c).After-decode_packed-packed) c.settle.ensures
