@@ -219,6 +219,7 @@ fn memo_of(image: &ClassImage, class: Stretch, role: Stretch, x: u32) -> Memo
     requires stretch_of_2 { StretchOf image.now Entries x role }
     ensures { MemoAt image.now x result }
 {
+    image.recall();
     let both = share(class, role);
     let after = image::records::after_role(role.class, class.class);
     let part = if after == WHITE {
@@ -268,6 +269,7 @@ pub fn fill_part(image: &ClassImage, base: u32, out: &mut [u8])
     requires out_bound { base + length out.old ≤ 0x110000 }
     ensures { Filled (length out.old) (λ (j : ℕ). traits_of image.now (base + j)) out.new (length out.old) }
 {
+    image.recall();
     let mut range = passed_place(image, Section::Ranges, base);
     let mut entry = passed_place(image, Section::Entries, base);
     let mut memo = no_memo();
@@ -299,6 +301,7 @@ pub fn fill_cells(image: &ClassImage, base: u32, tag: u8, out: &mut [u8])
     requires tag_bound { tag ≤ 64 }
     ensures { Filled (length out.old) (λ (j : ℕ). tag + token_traits image.now (base + j)) out.new (length out.old) }
 {
+    image.recall();
     fill_part(image, base, out);
     for cell in out.iter_mut() {
         *cell = tag + *cell % 16;
@@ -375,6 +378,7 @@ pub fn read_for_tokens(
     requires at_in_bounds { at < length text.now }
     ensures { ReadTokenAs image.now text.now at result }
 {
+    image.recall();
     let b = text[at];
     if b < 0x80 {
         return ascii(b, table[b as usize], memo);

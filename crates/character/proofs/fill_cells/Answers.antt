@@ -8,7 +8,7 @@ pub loop-cell-init : goal.loop-cell-init
 loop-cell-init c = cut_begins c.fill_part.ensures
 
 pub loop-cell-preserved : goal.loop-cell-preserved
-loop-cell-preserved c = cut_more c.requires.image_value (omega (arith, c.loop-cell-test.true, c.loop-cell.invariant.cut.long)) c.loop-cell.invariant
+loop-cell-preserved c = cut_more c.recall.ensures (omega (arith, c.loop-cell-test.true, c.loop-cell.invariant.cut.long)) c.loop-cell.invariant
 
 pub shape_of-out : goal.shape_of-out
 shape_of-out c = c.loop-cell.invariant.cut.long ∙ c.fill_part.ensures.long

@@ -30,7 +30,7 @@ walked c =
     ]
 
 pub loop-i-init : goal.loop-i-init
-loop-i-init c = (omega arith, filled_none refl, walk_begins _ _ _ _ _ c.passed_place-range.ensures c.passed_place-entry.ensures (c.no_memo-memo.ensures _))
+loop-i-init c = (omega arith, filled_none refl, walk_begins _ _ _ _ _ c.passed_place-range.ensures c.passed_place-entry.ensures (c.no_memo-memo.ensures _), c.recall.ensures)
 
 pub overflow_cast-x : goal.overflow_cast-x
 overflow_cast-x c = omega (arith, c.loop-i.invariant.0, c.requires.out_bound, c.loop-i-test.true, c.loop-i.invariant.1.long)
@@ -56,13 +56,13 @@ memo_of-memo-requires c = record { stretch_of = c.stretch_at-class.ensures; stre
 pub overflow_cast-cell : goal.overflow_cast-cell
 overflow_cast-cell c =
     let m = (walked (goal.at.overflow_cast-cell c).Joined-not-is_known).here in
-    omega (arith, sym (m.all _ m.from m.to), traits_small _ (c.args.base + c.loop-i.i) c.requires.image_value)
+    omega (arith, sym (m.all _ m.from m.to), traits_small _ (c.args.base + c.loop-i.i) c.loop-i.invariant.3)
 
 pub loop-i-preserved : goal.loop-i-preserved
 loop-i-preserved c =
     let w = walked (goal.at.loop-i-preserved c).Joined-not-is_known in
     let m = w.here in
-    (omega arith, filled_more _ (omega arith) c.loop-i.invariant.1 (sym (m.all _ m.from m.to)), walk_on _ _ _ (omega arith) w.walk)
+    (omega arith, filled_more _ (omega arith) c.loop-i.invariant.1 (sym (m.all _ m.from m.to)), walk_on _ _ _ (omega arith) w.walk, c.loop-i.invariant.3)
 
 pub shape_of-out : goal.shape_of-out
 shape_of-out c = c.loop-i.invariant.1.long

@@ -25,7 +25,7 @@ part c =
           )
       | else-after-eq-WHITE w ↦
           rw w.part-is (
-            after_small _ _ r.image_value _ _ _ r.stretch_of c.after_role-after.ensures,
+            after_small _ _ c.recall.ensures _ _ _ r.stretch_of c.after_role-after.ensures,
             λ t q. memo_other _ _ _ _ _ _ _ r.stretch_of r.stretch_of_2 c.share-both.ensures c.after_role-after.ensures w.if-after-eq-WHITE.false q,
           )
     ]

@@ -5,7 +5,7 @@ use Rattle.character.proofs.PlaceLaws.{between_begins, between_above, between_be
 use Rattle.character.proofs.place_of.Goals as goal
 
 pub loop-lo-init : goal.loop-lo-init
-loop-lo-init c = (c.requires, rw c.count_records-hi.ensures.count (between_begins _ _ _))
+loop-lo-init c = (c.count_records-hi.ensures.accepted, rw c.count_records-hi.ensures.count (between_begins _ _ _))
 
 pub overflow_add-mid : goal.overflow_add-mid
 overflow_add-mid c = omega (arith, few_records _ c.loop-lo.invariant.0 c.args.section, c.loop-lo.invariant.1.within)

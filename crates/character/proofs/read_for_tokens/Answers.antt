@@ -13,5 +13,5 @@ returns c =
     record {
       memo = c.read_decoded-c.ensures.memo;
       none = c.read_decoded-c.ensures.none;
-      some = λ z. ((c.read_decoded-c.ensures.some z).0, c.token_traits.ensures ∙ ap (λ (t : ℕ). t % 16) (c.read_decoded-c.ensures.some z).1 ∙ token_traits_lem _ _ c.requires.image_value);
+      some = λ z. ((c.read_decoded-c.ensures.some z).0, c.token_traits.ensures ∙ ap (λ (t : ℕ). t % 16) (c.read_decoded-c.ensures.some z).1 ∙ token_traits_lem _ _ c.recall.ensures);
     }

@@ -24,9 +24,9 @@ gap c =
 pub returns-then-r-x : goal.returns-then-r-x
 returns-then-r-x c =
     let l : c.args.i < record_count c.args.image.now c.args.section = omega (arith, c.count_records.ensures.count, c.if-count_records-i.false) in
-    stretch_record _ _ c.requires.image_value _ _ _ c.record_at-r.ensures l c.if-r-x.true (c.requires.placed.reached l)
+    stretch_record _ _ c.count_records.ensures.accepted _ _ _ c.record_at-r.ensures l c.if-r-x.true (c.requires.placed.reached l)
 
 pub returns : goal.returns
 returns c =
     let g = gap (goal.at.returns c).Joined-count_records-i in
-    stretch_gap _ _ c.requires.image_value _ _ _ _ c.requires.placed.passed.within c.gap_start.ensures.0 g.0 c.gap_start.ensures.1 g.1
+    stretch_gap _ _ c.count_records.ensures.accepted _ _ _ _ c.requires.placed.passed.within c.gap_start.ensures.0 g.0 c.gap_start.ensures.1 g.1
