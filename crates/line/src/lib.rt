@@ -49,11 +49,14 @@ fn is_feed_at(text: &[u8], at: usize) -> bool
 pub fn count_end(text: &[u8], code: u32, next: usize) -> u32
     ensures { result ≡ one (ends_line code (characters_at text.now next)) }
 {
-    // With CARRIAGE RETURN and LINE FEED the line ends with the LINE FEED.
-    (is_line_end(code) && !(code == CARRIAGE_RETURN && is_feed_at(text, next))) as u32
+    if code == CARRIAGE_RETURN && is_feed_at(text, next) {
+        return 0; // the line ends with the LINE FEED
+    }
+    is_line_end(code) as u32
 }
 
 // What the first byte of a character tells: no line ends with it, 0; one does, 1; else LOOK.
+#[tactic(auto, unfolding(crate::specs::Ends::end_of))]
 pub fn tell_end(b: usize) -> u8
     ensures { result ≡ end_of b }
 {
