@@ -5,14 +5,14 @@ ghost use Rattle.std.specs.Prelude.{◌≡◌, true, not, ◌&&◌, ◌||◌, �
 ghost use Rattle.std.proofs.Math.Option.{none};
 ghost use Rattle.lists.specs.Laid.{laid};
 ghost use Rattle.lists.specs.Each.{each};
-ghost use Rattle.image.specs.Word.{join_of, word_at};
+ghost use Rattle.image.specs.Word.{word_at};
 ghost use Rattle.image.specs.Limits.{max_ranges, max_entries, word_bytes, header_bytes, range_bytes, entry_bytes, words_per_range, first_surrogate, last_surrogate};
 ghost use Rattle.image.specs.Header.{version_of, total_of, range_count, range_offset, entry_offset, entries_at, image_end, length_right, header_right};
 ghost use Rattle.image.specs.Ranges.{range_at, range_words};
 ghost use Rattle.image.specs.Profile.{profile_of};
 ghost use Rattle.image.specs.Check.{refusal_of, accepted_of, refused_by, check_of, read_of, words_after};
 
-use order::{ImageEntries, ImageRanges, first_bad};
+use order::{ImageEntries, ImageRanges, Records, first_bad};
 use refusal::Refusal;
 
 pub mod order;
@@ -117,18 +117,13 @@ pub struct Checked {
     pub profile: Profile,
 }
 
-fn join(a: u8, b: u8, c: u8, d: u8) -> u32
-    ensures { result ≡ join_of a b c d }
-{
-    a as u32 + (b as u32) * 0x100 + (c as u32) * 0x10000 + (d as u32) * 0x1000000
-}
-
 // The number at byte i.
+#[tactic(auto, unfolding(crate::specs::Word::word_at))]
 pub fn word(s: &[u8], i: usize) -> u32
     requires { i + word_bytes ≤ length s.now }
     ensures { result ≡ word_at s.now i }
 {
-    join(s[i], s[i + 1], s[i + 2], s[i + 3])
+    u32::from_le_bytes([s[i], s[i + 1], s[i + 2], s[i + 3]])
 }
 
 // Range i of an image.
@@ -188,19 +183,15 @@ pub fn put_profile(
     ensures points_after { points.new ≡ (profile_of image.now).points }
     ensures roles_after { roles.new ≡ (profile_of image.now).roles }
 {
-    let n = word(image, RANGE_COUNT_AT) as usize;
-    let base = HEADER_BYTES + RANGE_BYTES * n;
-    let m = word(image, ENTRY_COUNT_AT) as usize;
+    let entries = ImageEntries::of(image);
     *points = [0u32; MAX_ENTRIES];
     *roles = [0u32; MAX_ENTRIES];
-    let mut i = 0;
-    while i < m {
-        let at = base + ENTRY_BYTES * i;
-        points[i] = word(image, at);
-        roles[i] = word(image, at + ROLE_AT);
-        i += 1;
+    for i in 0..entries.count {
+        let entry = entries.get(i);
+        points[i] = entry.point;
+        roles[i] = entry.role;
     }
-    m
+    entries.count
 }
 
 // The answer of a refusal, with an empty profile.
@@ -244,9 +235,7 @@ fn judge_records(image: &[u8]) -> Answer
     if let Some(i) = first_bad(&ImageRanges { image, count: n }) {
         return Answer::Refused(Refusal::Range(i));
     }
-    let base = HEADER_BYTES + RANGE_BYTES * n;
-    let count = word(image, ENTRY_COUNT_AT) as usize;
-    if let Some(j) = first_bad(&ImageEntries { image, base, count }) {
+    if let Some(j) = first_bad(&ImageEntries::of(image)) {
         return Answer::Refused(Refusal::Entry(j));
     }
     Answer::Accepted {
@@ -284,9 +273,7 @@ fn put_range(out: &mut [u32], r: Range)
     requires { words_per_range ≤ length out.old }
     ensures { out.new ≡ laid out.old 0 (range_words r) }
 {
-    out[0] = r.first;
-    out[1] = r.last;
-    out[2] = r.class;
+    out[..RANGE_WORDS].copy_from_slice(&[r.first, r.last, r.class]);
 }
 
 // Writes the n ranges of an image at the front of a buffer.
@@ -294,12 +281,8 @@ fn write_ranges(image: &[u8], n: usize, out: &mut [u32])
     requires { (entries_at n ≤ length image.now) × (words_per_range * n ≤ length out.old) }
     ensures { out.new ≡ laid out.old 0 (each (λ (i : ℕ). range_words (range_at image.now i)) n) }
 {
-    let mut i = 0;
-    while i < n {
-        let r = range_at(image, i);
-        let at = RANGE_WORDS * i;
-        put_range(&mut out[at..], r);
-        i += 1;
+    for i in 0..n {
+        put_range(&mut out[RANGE_WORDS * i..], range_at(image, i));
     }
 }
 

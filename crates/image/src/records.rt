@@ -7,10 +7,8 @@ ghost use Rattle.image.specs.Profile.{point_at, role_at, after_role, is_medial, 
 ghost use Rattle.image.specs.Check.{refusal_of};
 ghost use Rattle.image.specs.Records.{entry_range, record_at, record_count};
 
-use crate::{
-    ENTRY_BYTES, ENTRY_COUNT_AT, HEADER_BYTES, NONSTART, OTHER, RANGE_BYTES, RANGE_COUNT_AT,
-    ROLE_AT, Range, START,
-};
+use crate::order::{ImageEntries, Records};
+use crate::{ENTRY_COUNT_AT, NONSTART, OTHER, RANGE_COUNT_AT, Range, START};
 
 // The roles of profile entries. A code point of no entry has role 0.
 pub const START_ROLE: u32 = 1;
@@ -47,13 +45,11 @@ fn entry_at(image: &[u8], i: usize) -> Range
     requires i_bound { i < entry_count image.now }
     ensures { result ≡ entry_range (point_at image.now) (role_at image.now) i }
 {
-    let n = crate::word(image, RANGE_COUNT_AT) as usize;
-    let at = HEADER_BYTES + RANGE_BYTES * n + ENTRY_BYTES * i;
-    let point = crate::word(image, at);
+    let entry = ImageEntries::of(image).get(i);
     Range {
-        first: point,
-        last: point,
-        class: crate::word(image, at + ROLE_AT),
+        first: entry.point,
+        last: entry.point,
+        class: entry.role,
     }
 }
 
