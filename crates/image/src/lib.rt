@@ -127,6 +127,7 @@ pub fn word(s: &[u8], i: usize) -> u32
 }
 
 // Range i of an image.
+#[tactic(auto, unfolding(crate::specs::Ranges::range_at))]
 pub fn range_at(s: &[u8], i: usize) -> Range
     requires { header_bytes + range_bytes * i + range_bytes ≤ length s.now }
     ensures { result ≡ range_at s.now i }
@@ -140,6 +141,7 @@ pub fn range_at(s: &[u8], i: usize) -> Range
 }
 
 // Whether the length is within its limits and that of the header: not refusal 1.
+#[tactic(auto, unfolding(crate::specs::Header::length_within))]
 fn is_length_right(image: &[u8]) -> bool
     ensures { result ≡ length_right image.now }
 {
@@ -159,6 +161,7 @@ fn are_offsets_right(image: &[u8], n: usize, m: usize) -> bool
 }
 
 // Whether the header is right: not refusal 2. The counts are compared with their limits before they are multiplied.
+#[tactic(auto, unfolding(crate::specs::Header::header_within))]
 fn is_header_right(image: &[u8]) -> bool
     requires { header_bytes ≤ length image.now }
     ensures { result ≡ header_right image.now }

@@ -54,6 +54,7 @@ fn entry_at(image: &[u8], i: usize) -> Range
 }
 
 // Record i of a section of an accepted image.
+#[tactic(auto, using(crate::proofs::SectionLaws::within_limits))]
 pub fn record_at(image: &[u8], section: Section, i: usize) -> Range
     requires image_value { refusal_of image.now ≡ none }
     requires i_bound { i < record_count image.now section }
@@ -66,6 +67,7 @@ pub fn record_at(image: &[u8], section: Section, i: usize) -> Range
 }
 
 // The class after the profile of a code point with a role and a class in the ranges.
+#[tactic(auto, unfolding(crate::specs::Profile::after_role))]
 pub fn after_role(role: u32, class: u32) -> u32
     ensures { result ≡ after_role role class }
 {
@@ -78,6 +80,7 @@ pub fn after_role(role: u32, class: u32) -> u32
 }
 
 // Whether a role marks a medial.
+#[tactic(auto, unfolding(crate::specs::Profile::is_medial))]
 pub fn is_medial(role: u32) -> bool
     ensures { result ≡ is_medial role }
 {
@@ -85,6 +88,7 @@ pub fn is_medial(role: u32) -> bool
 }
 
 // Whether a role adds its code point to the hashtag Continue characters.
+#[tactic(auto, unfolding(crate::specs::Profile::is_hashtag))]
 pub fn is_hashtag(role: u32) -> bool
     ensures { result ≡ is_hashtag role }
 {

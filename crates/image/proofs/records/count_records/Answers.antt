@@ -8,9 +8,3 @@ word-requires c = let f = within_limits _ c.requires in omega arith
 
 pub word-requires-in-Entries : goal.word-requires-in-Entries
 word-requires-in-Entries c = let f = within_limits _ c.requires in omega arith
-
-pub returns-in-Ranges : goal.returns-in-Ranges
-returns-in-Ranges c = rw c.in-Ranges.is c.word.ensures
-
-pub returns-in-Entries : goal.returns-in-Entries
-returns-in-Entries c = rw c.in-Entries.is c.word-in-Entries.ensures
