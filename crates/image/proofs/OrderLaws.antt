@@ -1,5 +1,5 @@
 -- The first bad record of a list, as an option: what a loop finds, and what an answer says of the ranges and the entries. Assumes nothing.
-use Rattle.std.proofs.Common.{◌≡◌, refl, sym, ap, ◌∙◌, ℕ, ◌≤◌, ◌<◌, Bool, false, Some, None, arith}
+use Rattle.std.proofs.Common.{◌≡◌, refl, sym, ap, ◌∙◌, ℕ, ◌≤◌, ◌<◌, Bool, false, Some, None, List, arith}
 use Rattle.std.proofs.lemmas.Bool.Decides.{nat_tests}
 use borrow.Author.Tests.{lt-ltb, le-ltb}
 use mathlib.Core.Option as old
@@ -10,7 +10,7 @@ use Rattle.refusal.specs.declared.Refusal.TheVariants as refusal
 use Rattle.image.specs.declared.Range.{Range}
 use Rattle.image.specs.declared.order.Entry.{Entry}
 use Rattle.image.specs.Ranges.{good_alone, follows, good_range, first_bad_range}
-use Rattle.image.specs.Profile.{good_entry_alone, good_entry, first_bad_entry}
+use Rattle.image.specs.Profile.{point_at, role_at, good_entry_alone, good_entry, first_bad_entry}
 use Rattle.image.specs.Check.{records_refusal}
 use Rattle.image.specs.Order.{entry_by, rises, below, first_bad}
 use Rattle.image.proofs.RecordsLaws.{range_found, entry_found, none_found}
@@ -35,6 +35,11 @@ index_is n j i e = grind (arith, nat_tests)
 
 index_past : (n j : ℕ) → None ≡ below n j → n ≤ j
 index_past n j e = grind (arith, nat_tests)
+
+-- an entry that was read from the same bytes
+pub entry_same :
+    (i : ℕ) {s t : List ℕ} {e : Entry} → s ≡ t → e ≡ entry_by (point_at s) (role_at s) i → e ≡ entry_by (point_at t) (role_at t) i
+entry_same i h k = k ∙ ap (λ (b : List ℕ). entry_by (point_at b) (role_at b) i) h
 
 abbrev pub good_one : Entry → Bool
 good_one e = good_entry_alone e.point e.role

@@ -5,7 +5,7 @@ ghost use Rattle.std.specs.Prelude.{◌≡◌, true, not, ◌&&◌, ◌||◌, �
 ghost use Rattle.std.proofs.Math.Option.{none};
 ghost use Rattle.lists.specs.Laid.{laid};
 ghost use Rattle.lists.specs.Each.{each};
-ghost use Rattle.image.specs.Word.{join_of, word_at};
+ghost use Rattle.image.specs.Word.{word_at};
 ghost use Rattle.image.specs.Limits.{max_ranges, max_entries, word_bytes, header_bytes, range_bytes, entry_bytes, words_per_range, first_surrogate, last_surrogate};
 ghost use Rattle.image.specs.Header.{version_of, total_of, range_count, range_offset, entry_offset, entries_at, image_end, length_right, header_right};
 ghost use Rattle.image.specs.Ranges.{range_at, range_words};
@@ -13,7 +13,7 @@ ghost use Rattle.image.specs.Profile.{profile_of};
 ghost use Rattle.image.specs.Check.{refusal_of, accepted_of, refused_by, check_of, read_of, words_after};
 ghost use Rattle.image.specs.Opened.{opened_by, summary_of};
 
-use order::{ImageEntries, ImageRanges, first_bad};
+use order::{ImageEntries, ImageRanges, Records, first_bad};
 use refusal::Refusal;
 use std::marker::Model;
 
@@ -193,21 +193,17 @@ impl<'a> ClassImage<'a> {
     }
 }
 
-fn join(a: u8, b: u8, c: u8, d: u8) -> u32
-    ensures { result ≡ join_of a b c d }
-{
-    a as u32 + (b as u32) * 0x100 + (c as u32) * 0x10000 + (d as u32) * 0x1000000
-}
-
 // The number at byte i.
+#[tactic(auto, unfolding(crate::specs::Word::word_at))]
 pub fn word(s: &[u8], i: usize) -> u32
     requires { i + word_bytes ≤ length s.now }
     ensures { result ≡ word_at s.now i }
 {
-    join(s[i], s[i + 1], s[i + 2], s[i + 3])
+    u32::from_le_bytes([s[i], s[i + 1], s[i + 2], s[i + 3]])
 }
 
 // Range i of an image.
+#[tactic(auto, unfolding(crate::specs::Ranges::range_at))]
 pub fn range_at(s: &[u8], i: usize) -> Range
     requires { header_bytes + range_bytes * i + range_bytes ≤ length s.now }
     ensures { result ≡ range_at s.now i }
@@ -221,6 +217,7 @@ pub fn range_at(s: &[u8], i: usize) -> Range
 }
 
 // Whether the length is within its limits and that of the header: not refusal 1.
+#[tactic(auto, unfolding(crate::specs::Header::length_within))]
 fn is_length_right(image: &[u8]) -> bool
     ensures { result ≡ length_right image.now }
 {
@@ -240,6 +237,7 @@ fn are_offsets_right(image: &[u8], n: usize, m: usize) -> bool
 }
 
 // Whether the header is right: not refusal 2. The counts are compared with their limits before they are multiplied.
+#[tactic(auto, unfolding(crate::specs::Header::header_within))]
 fn is_header_right(image: &[u8]) -> bool
     requires { header_bytes ≤ length image.now }
     ensures { result ≡ header_right image.now }
@@ -264,19 +262,15 @@ fn put_profile(
     ensures points_after { points.new ≡ (profile_of image.now).points }
     ensures roles_after { roles.new ≡ (profile_of image.now).roles }
 {
-    let n = word(image, RANGE_COUNT_AT) as usize;
-    let base = HEADER_BYTES + RANGE_BYTES * n;
-    let m = word(image, ENTRY_COUNT_AT) as usize;
+    let entries = ImageEntries::of(image);
     *points = [0u32; MAX_ENTRIES];
     *roles = [0u32; MAX_ENTRIES];
-    let mut i = 0;
-    while i < m {
-        let at = base + ENTRY_BYTES * i;
-        points[i] = word(image, at);
-        roles[i] = word(image, at + ROLE_AT);
-        i += 1;
+    for i in 0..entries.count {
+        let entry = entries.get(i);
+        points[i] = entry.point;
+        roles[i] = entry.role;
     }
-    m
+    entries.count
 }
 
 // The answer of a refusal, with an empty profile.
@@ -319,9 +313,7 @@ fn judge_records(image: &[u8]) -> Result<Summary, Refusal>
     if let Some(i) = first_bad(&ImageRanges { image, count: n }) {
         return Err(Refusal::Range(i));
     }
-    let base = HEADER_BYTES + RANGE_BYTES * n;
-    let count = word(image, ENTRY_COUNT_AT) as usize;
-    if let Some(j) = first_bad(&ImageEntries { image, base, count }) {
+    if let Some(j) = first_bad(&ImageEntries::of(image)) {
         return Err(Refusal::Entry(j));
     }
     Ok(Summary {
@@ -358,9 +350,7 @@ fn put_range(out: &mut [u32], r: Range)
     requires { words_per_range ≤ length out.old }
     ensures { out.new ≡ laid out.old 0 (range_words r) }
 {
-    out[0] = r.first;
-    out[1] = r.last;
-    out[2] = r.class;
+    out[..RANGE_WORDS].copy_from_slice(&[r.first, r.last, r.class]);
 }
 
 // Writes the n ranges of an image at the front of a buffer.
@@ -368,12 +358,8 @@ fn write_ranges(image: &[u8], n: usize, out: &mut [u32])
     requires { (entries_at n ≤ length image.now) × (words_per_range * n ≤ length out.old) }
     ensures { out.new ≡ laid out.old 0 (each (λ (i : ℕ). range_words (range_at image.now i)) n) }
 {
-    let mut i = 0;
-    while i < n {
-        let r = range_at(image, i);
-        let at = RANGE_WORDS * i;
-        put_range(&mut out[at..], r);
-        i += 1;
+    for i in 0..n {
+        put_range(&mut out[RANGE_WORDS * i..], range_at(image, i));
     }
 }
 

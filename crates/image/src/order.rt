@@ -2,14 +2,14 @@
 // is bad by itself or after the record before it.
 ghost use Rattle.std.specs.Prelude.{◌≡◌, ℕ, ◌+◌, ◌*◌, ◌≤◌, ◌<◌, Bool, not, ◌||◌, ltb, length};
 ghost use Rattle.image.specs.Limits.{entry_bytes, first_surrogate, last_surrogate};
-ghost use Rattle.image.specs.Header.{range_count, entries_at};
+ghost use Rattle.image.specs.Header.{range_count, entry_count, entries_at, image_end};
 ghost use Rattle.image.specs.Ranges.{range_at, good_alone, follows};
 ghost use Rattle.image.specs.Profile.{point_at, role_at, good_entry_alone};
 ghost use Rattle.image.specs.Order.{entry_by, rises, good_record, first_bad};
 
 use crate::{
-    ENTRY_BYTES, FIRST_ROLE, FIRST_SURROGATE, LAST_CODE_POINT, LAST_ROLE, LAST_SURROGATE, OTHER,
-    ROLE_AT, Range, START,
+    ENTRY_BYTES, ENTRY_COUNT_AT, FIRST_ROLE, FIRST_SURROGATE, HEADER_BYTES, LAST_CODE_POINT,
+    LAST_ROLE, LAST_SURROGATE, OTHER, RANGE_BYTES, RANGE_COUNT_AT, ROLE_AT, Range, START,
 };
 
 // A record that is good by itself or bad, and that may stand after another or not.
@@ -143,6 +143,21 @@ pub struct ImageEntries<'a> {
     pub count: usize,
     ghost begins: { base ≡ entries_at (range_count image.now) },
     ghost fits: { base + entry_bytes * count ≤ length image.now },
+}
+
+impl<'a> ImageEntries<'a> {
+    // All entries of an image that holds as many ranges and entries as its header says.
+    pub fn of(image: &'a [u8]) -> ImageEntries<'a>
+        requires { image_end (range_count image.now) (entry_count image.now) ≤ length image.now }
+        ensures { (result.image.now ≡ image.now) × (result.count ≡ entry_count image.now) }
+    {
+        let n = crate::word(image, RANGE_COUNT_AT) as usize;
+        ImageEntries {
+            image,
+            base: HEADER_BYTES + RANGE_BYTES * n,
+            count: crate::word(image, ENTRY_COUNT_AT) as usize,
+        }
+    }
 }
 
 impl<'a> Records for ImageEntries<'a> {

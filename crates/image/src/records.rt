@@ -7,10 +7,8 @@ ghost use Rattle.image.specs.Profile.{point_at, role_at, after_role, is_medial, 
 ghost use Rattle.image.specs.Check.{refusal_of};
 ghost use Rattle.image.specs.Records.{entry_range, record_at, record_count};
 
-use crate::{
-    ClassImage, ENTRY_BYTES, ENTRY_COUNT_AT, HEADER_BYTES, NONSTART, OTHER, RANGE_BYTES, RANGE_COUNT_AT,
-    ROLE_AT, Range, START,
-};
+use crate::order::{ImageEntries, Records};
+use crate::{ClassImage, ENTRY_COUNT_AT, NONSTART, OTHER, RANGE_COUNT_AT, Range, START};
 
 // The roles of profile entries. A code point of no entry has role 0.
 pub const START_ROLE: u32 = 1;
@@ -47,13 +45,11 @@ impl ClassImage<'_> {
         requires { i < entry_count self.now }
         ensures { result ≡ entry_range (point_at self.now) (role_at self.now) i }
     {
-        let n = crate::word(self.bytes, RANGE_COUNT_AT) as usize;
-        let at = HEADER_BYTES + RANGE_BYTES * n + ENTRY_BYTES * i;
-        let point = crate::word(self.bytes, at);
+        let entry = ImageEntries::of(self.bytes).get(i);
         Range {
-            first: point,
-            last: point,
-            class: crate::word(self.bytes, at + ROLE_AT),
+            first: entry.point,
+            last: entry.point,
+            class: entry.role,
         }
     }
 
@@ -70,6 +66,7 @@ impl ClassImage<'_> {
 }
 
 // The class after the profile of a code point with a role and a class in the ranges.
+#[tactic(auto, unfolding(crate::specs::Profile::after_role))]
 pub fn after_role(role: u32, class: u32) -> u32
     ensures { result ≡ after_role role class }
 {
@@ -82,6 +79,7 @@ pub fn after_role(role: u32, class: u32) -> u32
 }
 
 // Whether a role marks a medial.
+#[tactic(auto, unfolding(crate::specs::Profile::is_medial))]
 pub fn is_medial(role: u32) -> bool
     ensures { result ≡ is_medial role }
 {
@@ -89,6 +87,7 @@ pub fn is_medial(role: u32) -> bool
 }
 
 // Whether a role adds its code point to the hashtag Continue characters.
+#[tactic(auto, unfolding(crate::specs::Profile::is_hashtag))]
 pub fn is_hashtag(role: u32) -> bool
     ensures { result ≡ is_hashtag role }
 {

@@ -1,57 +1,51 @@
 -- `image::put_profile` meets its contract. Assumes nothing.
-use Prim.Native.Nat.{ℕ, ◌+◌, ◌<◌}
-use mathlib.Core.Path.{◌≡◌, sym, ap, ◌∙◌}
-use mathlib.Core.List.{List}
-use native.Mathlib.Omega.{arith}
-use lib.ListN.{set}
+use Rattle.std.proofs.Common.{ℕ, ◌+◌, ◌<◌, ◌≡◌, sym, ap, ◌∙◌, List, arith, set}
 use Rattle.lists.specs.Each.{column}
 use Rattle.lists.proofs.EachLaws.{column_none, column-set}
 use Rattle.image.specs.Limits.{max_entries}
-use Rattle.image.specs.Header.{entry_count, entries_at}
+use Rattle.image.specs.Header.{entry_count}
 use Rattle.image.specs.Profile.{point_at, role_at}
+use Rattle.image.specs.Order.{entry_by}
 use Rattle.image.specs.declared.Profile.{Profile}
-use Rattle.image.proofs.ImageLaws.{accepted, point_is, role_is}
+use Rattle.image.specs.declared.order.Entry.{Entry}
+use Rattle.image.proofs.ImageLaws.{accepted}
+use Rattle.image.proofs.OrderLaws.{entry_same}
 use Rattle.image.proofs.AnswerLaws.{profile_is}
 use Rattle.image.proofs.put_profile.Goals as goal
 
 filled : (f : ℕ → ℕ) (i v : ℕ) (p : List ℕ) → p ≡ column max_entries f i → v ≡ f i → i < max_entries → set p i v ≡ column max_entries f (i + 1)
 filled f i v p e d h = rw (e, d) (column-set max_entries f i h)
 
-pub word-n-requires : goal.word-n-requires
-word-n-requires c = let h = (accepted _ c.requires).header in omega arith
-
-pub overflow_mul-base : goal.overflow_mul-base
-overflow_mul-base c = let h = (accepted _ c.requires).header in omega arith
-
-pub overflow_add-base : goal.overflow_add-base
-overflow_add-base c = let h = (accepted _ c.requires).header in omega arith
-
-pub word-m-requires : goal.word-m-requires
-word-m-requires c = let h = (accepted _ c.requires).header in omega arith
+pub of-entries-requires : goal.of-entries-requires
+of-entries-requires c = let h = (accepted _ c.requires).header in omega arith
 
 pub loop-i-init : goal.loop-i-init
 loop-i-init c =
-    let h = (accepted c.args.image.now c.requires).header in (
-      omega arith,
-      column_none max_entries (point_at c.args.image.now),
-      column_none max_entries (role_at c.args.image.now),
-      record { begin = ap entries_at c.word-n.ensures; few = omega arith; within = omega arith },
-    )
+    let h = (accepted c.args.image.now c.requires).header in
+    record {
+      point_values = column_none max_entries (point_at c.args.image.now);
+      role_values = column_none max_entries (role_at c.args.image.now);
+      few = omega arith;
+    }
 
 pub loop-i-preserved : goal.loop-i-preserved
-loop-i-preserved c = (
-  omega arith,
-  filled (point_at c.args.image.now) _ _ _ c.loop-i.invariant.1 (c.word.ensures ∙ point_is c.args.image.now _ c.loop-i.i c.loop-i.invariant.3.begin) (omega (arith, c.loop-i.invariant.3.few)),
-  filled (role_at c.args.image.now) _ _ _ c.loop-i.invariant.2 (c.word-in-loop-i.ensures ∙ role_is c.args.image.now _ c.loop-i.i c.loop-i.invariant.3.begin) (omega (arith, c.loop-i.invariant.3.few)),
-  c.loop-i.invariant.3,
-)
+loop-i-preserved c =
+    let l = c.loop-i.invariant in
+    let s = c.args.image.now in
+    let e : c.get-entry.result ≡ entry_by (point_at s) (role_at s) c.loop-i.i = entry_same _ c.of-entries.ensures.0 c.get-entry.ensures in
+    record {
+      point_values = filled (point_at s) _ _ _ l.point_values (ap (λ (x : Entry). x.point) e) (omega (arith, l.few));
+      role_values = filled (role_at s) _ _ _ l.role_values (ap (λ (x : Entry). x.role) e) (omega (arith, l.few));
+      few = l.few;
+    }
 
 pub returns : goal.returns
 returns c =
     let e : c.loop-i.i ≡ entry_count c.args.image.now = omega arith in
     let p = profile_is c.args.image.now in
+    let l = c.loop-i.invariant in
     record {
-      value = c.word-m.ensures ∙ sym (ap (λ (x : Profile). x.used) p);
-      points_after = c.loop-i.invariant.1 ∙ ap (column max_entries (point_at c.args.image.now)) e ∙ sym (ap (λ (x : Profile). x.points) p);
-      roles_after = c.loop-i.invariant.2 ∙ ap (column max_entries (role_at c.args.image.now)) e ∙ sym (ap (λ (x : Profile). x.roles) p);
+      value = c.of-entries.ensures.1 ∙ sym (ap (λ (x : Profile). x.used) p);
+      points_after = l.point_values ∙ ap (column max_entries (point_at c.args.image.now)) e ∙ sym (ap (λ (x : Profile). x.points) p);
+      roles_after = l.role_values ∙ ap (column max_entries (role_at c.args.image.now)) e ∙ sym (ap (λ (x : Profile). x.roles) p);
     }
