@@ -428,7 +428,7 @@ fn run_count<'a>(
             break;
         }
         if a < 0xE0 {
-            let traits = blocks::known_two(index, cells, text, at);
+            let traits = blocks::known::<2>(index, cells, text, at);
             let step = rule(rules, row, traits);
             if ODD <= step {
                 break;
@@ -440,7 +440,7 @@ fn run_count<'a>(
             continue;
         }
         if a < 0xF0 {
-            let traits = blocks::known_three(index, cells, text, at);
+            let traits = blocks::known::<3>(index, cells, text, at);
             let step = rule(rules, row, traits);
             if ODD <= step {
                 break;
@@ -451,7 +451,7 @@ fn run_count<'a>(
             at += 3;
             continue;
         }
-        let traits = blocks::known_four(index, cells, text, at);
+        let traits = blocks::known::<4>(index, cells, text, at);
         let step = rule(rules, row, traits);
         if ODD <= step {
             break;

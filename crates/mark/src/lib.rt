@@ -125,7 +125,7 @@ fn run_mark<'a>(
             break;
         }
         if a < 0xE0 {
-            let traits = blocks::known_two(index, cells, text, at);
+            let traits = blocks::known::<2>(index, cells, text, at);
             let step = count::rule(rules, row, traits);
             if ODD <= step {
                 break;
@@ -138,7 +138,7 @@ fn run_mark<'a>(
             continue;
         }
         if a < 0xF0 {
-            let traits = blocks::known_three(index, cells, text, at);
+            let traits = blocks::known::<3>(index, cells, text, at);
             let step = count::rule(rules, row, traits);
             if ODD <= step {
                 break;
@@ -150,7 +150,7 @@ fn run_mark<'a>(
             at += 3;
             continue;
         }
-        let traits = blocks::known_four(index, cells, text, at);
+        let traits = blocks::known::<4>(index, cells, text, at);
         let step = count::rule(rules, row, traits);
         if ODD <= step {
             break;

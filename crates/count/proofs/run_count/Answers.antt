@@ -109,59 +109,59 @@ loop-at-smaller-then-a-lt128 c = let r = once c in omega arith
 pub loop-at-preserved-then-a-lt128 : goal.loop-at-preserved-then-a-lt128
 loop-at-preserved-then-a-lt128 c = (once c).next
 
-pub known_two-traits-requires : goal.known_two-traits-requires
-known_two-traits-requires c = record { fits = (c.requires.cached.fits, c.if-index-lt-BLOCKS.false); at_in_bounds = search rules }
+pub known-traits-requires : goal.known-traits-requires
+known-traits-requires c = record { fits = (c.requires.cached.fits, c.if-index-lt-BLOCKS.false); at_in_bounds = search rules }
 
 pub rule-step-requires-then-a-lt224 : goal.rule-step-requires-then-a-lt224
-rule-step-requires-then-a-lt224 c = record { rules_value = c.requires.rules_value; row_lt_rule_rows = (omega (arith, c.loop-at.invariant.small), c.known_two-traits.ensures.small) }
+rule-step-requires-then-a-lt224 c = record { rules_value = c.requires.rules_value; row_lt_rule_rows = (omega (arith, c.loop-at.invariant.small), c.known-traits.ensures.small) }
 
 pub overflow_add-count-then-a-lt224 : goal.overflow_add-count-then-a-lt224
-overflow_add-count-then-a-lt224 c = omega (arith, (known (goal.at.overflow_add-count-then-a-lt224 c).In-loop-at c.known_two-traits.ensures c.rule-step-then-a-lt224.ensures c.if-step-ge-ODD-2.false).few)
+overflow_add-count-then-a-lt224 c = omega (arith, (known (goal.at.overflow_add-count-then-a-lt224 c).In-loop-at c.known-traits.ensures c.rule-step-then-a-lt224.ensures c.if-step-ge-ODD-2.false).few)
 
 pub overflow_add-at-then-a-lt224 : goal.overflow_add-at-then-a-lt224
-overflow_add-at-then-a-lt224 c = omega (arith, (known (goal.at.overflow_add-at-then-a-lt224 c).In-loop-at c.known_two-traits.ensures c.rule-step-then-a-lt224.ensures c.if-step-ge-ODD-2.false).within)
+overflow_add-at-then-a-lt224 c = omega (arith, (known (goal.at.overflow_add-at-then-a-lt224 c).In-loop-at c.known-traits.ensures c.rule-step-then-a-lt224.ensures c.if-step-ge-ODD-2.false).within)
 
 pub loop-at-smaller-then-a-lt224 : goal.loop-at-smaller-then-a-lt224
-loop-at-smaller-then-a-lt224 c = let r = known (goal.at.loop-at-smaller-then-a-lt224 c).In-loop-at c.known_two-traits.ensures c.rule-step-then-a-lt224.ensures c.if-step-ge-ODD-2.false in omega arith
+loop-at-smaller-then-a-lt224 c = let r = known (goal.at.loop-at-smaller-then-a-lt224 c).In-loop-at c.known-traits.ensures c.rule-step-then-a-lt224.ensures c.if-step-ge-ODD-2.false in omega arith
 
 pub loop-at-preserved-then-a-lt224 : goal.loop-at-preserved-then-a-lt224
-loop-at-preserved-then-a-lt224 c = (known (goal.at.loop-at-preserved-then-a-lt224 c).In-loop-at c.known_two-traits.ensures c.rule-step-then-a-lt224.ensures c.if-step-ge-ODD-2.false).next
+loop-at-preserved-then-a-lt224 c = (known (goal.at.loop-at-preserved-then-a-lt224 c).In-loop-at c.known-traits.ensures c.rule-step-then-a-lt224.ensures c.if-step-ge-ODD-2.false).next
 
-pub known_three-traits-requires : goal.known_three-traits-requires
-known_three-traits-requires c = record { fits = (c.requires.cached.fits, c.if-index-lt-BLOCKS.false); at_in_bounds = search rules }
+pub known-traits-requires-then-a-lt240 : goal.known-traits-requires-then-a-lt240
+known-traits-requires-then-a-lt240 c = record { fits = (c.requires.cached.fits, c.if-index-lt-BLOCKS.false); at_in_bounds = search rules }
 
 pub rule-step-requires-then-a-lt240 : goal.rule-step-requires-then-a-lt240
-rule-step-requires-then-a-lt240 c = record { rules_value = c.requires.rules_value; row_lt_rule_rows = (omega (arith, c.loop-at.invariant.small), c.known_three-traits.ensures.small) }
+rule-step-requires-then-a-lt240 c = record { rules_value = c.requires.rules_value; row_lt_rule_rows = (omega (arith, c.loop-at.invariant.small), c.known-traits-then-a-lt240.ensures.small) }
 
 pub overflow_add-count-then-a-lt240 : goal.overflow_add-count-then-a-lt240
-overflow_add-count-then-a-lt240 c = omega (arith, (known (goal.at.overflow_add-count-then-a-lt240 c).In-loop-at c.known_three-traits.ensures c.rule-step-then-a-lt240.ensures c.if-step-ge-ODD-3.false).few)
+overflow_add-count-then-a-lt240 c = omega (arith, (known (goal.at.overflow_add-count-then-a-lt240 c).In-loop-at c.known-traits-then-a-lt240.ensures c.rule-step-then-a-lt240.ensures c.if-step-ge-ODD-3.false).few)
 
 pub overflow_add-at-then-a-lt240 : goal.overflow_add-at-then-a-lt240
-overflow_add-at-then-a-lt240 c = omega (arith, (known (goal.at.overflow_add-at-then-a-lt240 c).In-loop-at c.known_three-traits.ensures c.rule-step-then-a-lt240.ensures c.if-step-ge-ODD-3.false).within)
+overflow_add-at-then-a-lt240 c = omega (arith, (known (goal.at.overflow_add-at-then-a-lt240 c).In-loop-at c.known-traits-then-a-lt240.ensures c.rule-step-then-a-lt240.ensures c.if-step-ge-ODD-3.false).within)
 
 pub loop-at-smaller-then-a-lt240 : goal.loop-at-smaller-then-a-lt240
-loop-at-smaller-then-a-lt240 c = let r = known (goal.at.loop-at-smaller-then-a-lt240 c).In-loop-at c.known_three-traits.ensures c.rule-step-then-a-lt240.ensures c.if-step-ge-ODD-3.false in omega arith
+loop-at-smaller-then-a-lt240 c = let r = known (goal.at.loop-at-smaller-then-a-lt240 c).In-loop-at c.known-traits-then-a-lt240.ensures c.rule-step-then-a-lt240.ensures c.if-step-ge-ODD-3.false in omega arith
 
 pub loop-at-preserved-then-a-lt240 : goal.loop-at-preserved-then-a-lt240
-loop-at-preserved-then-a-lt240 c = (known (goal.at.loop-at-preserved-then-a-lt240 c).In-loop-at c.known_three-traits.ensures c.rule-step-then-a-lt240.ensures c.if-step-ge-ODD-3.false).next
+loop-at-preserved-then-a-lt240 c = (known (goal.at.loop-at-preserved-then-a-lt240 c).In-loop-at c.known-traits-then-a-lt240.ensures c.rule-step-then-a-lt240.ensures c.if-step-ge-ODD-3.false).next
 
-pub known_four-traits-requires : goal.known_four-traits-requires
-known_four-traits-requires c = record { fits = (c.requires.cached.fits, c.if-index-lt-BLOCKS.false); at_in_bounds = search rules }
+pub known-traits-requires-in-loop-at : goal.known-traits-requires-in-loop-at
+known-traits-requires-in-loop-at c = record { fits = (c.requires.cached.fits, c.if-index-lt-BLOCKS.false); at_in_bounds = search rules }
 
 pub rule-step-requires-in-loop-at : goal.rule-step-requires-in-loop-at
-rule-step-requires-in-loop-at c = record { rules_value = c.requires.rules_value; row_lt_rule_rows = (omega (arith, c.loop-at.invariant.small), c.known_four-traits.ensures.small) }
+rule-step-requires-in-loop-at c = record { rules_value = c.requires.rules_value; row_lt_rule_rows = (omega (arith, c.loop-at.invariant.small), c.known-traits-in-loop-at.ensures.small) }
 
 pub overflow_add-count-in-loop-at : goal.overflow_add-count-in-loop-at
-overflow_add-count-in-loop-at c = omega (arith, (known (goal.at.overflow_add-count-in-loop-at c).In-loop-at c.known_four-traits.ensures c.rule-step-in-loop-at.ensures c.if-step-ge-ODD-4.false).few)
+overflow_add-count-in-loop-at c = omega (arith, (known (goal.at.overflow_add-count-in-loop-at c).In-loop-at c.known-traits-in-loop-at.ensures c.rule-step-in-loop-at.ensures c.if-step-ge-ODD-4.false).few)
 
 pub overflow_add-at-in-loop-at : goal.overflow_add-at-in-loop-at
-overflow_add-at-in-loop-at c = omega (arith, (known (goal.at.overflow_add-at-in-loop-at c).In-loop-at c.known_four-traits.ensures c.rule-step-in-loop-at.ensures c.if-step-ge-ODD-4.false).within)
+overflow_add-at-in-loop-at c = omega (arith, (known (goal.at.overflow_add-at-in-loop-at c).In-loop-at c.known-traits-in-loop-at.ensures c.rule-step-in-loop-at.ensures c.if-step-ge-ODD-4.false).within)
 
 pub loop-at-smaller : goal.loop-at-smaller
-loop-at-smaller c = let r = known (goal.at.loop-at-smaller c).In-loop-at c.known_four-traits.ensures c.rule-step-in-loop-at.ensures c.if-step-ge-ODD-4.false in omega arith
+loop-at-smaller c = let r = known (goal.at.loop-at-smaller c).In-loop-at c.known-traits-in-loop-at.ensures c.rule-step-in-loop-at.ensures c.if-step-ge-ODD-4.false in omega arith
 
 pub loop-at-preserved : goal.loop-at-preserved
-loop-at-preserved c = (known (goal.at.loop-at-preserved c).In-loop-at c.known_four-traits.ensures c.rule-step-in-loop-at.ensures c.if-step-ge-ODD-4.false).next
+loop-at-preserved c = (known (goal.at.loop-at-preserved c).In-loop-at c.known-traits-in-loop-at.ensures c.rule-step-in-loop-at.ensures c.if-step-ge-ODD-4.false).next
 
 pub rule-requires : goal.rule-requires
 rule-requires c = record { rules_value = c.requires.rules_value; row_lt_rule_rows = (omega arith, c.loop-at.invariant.small) }

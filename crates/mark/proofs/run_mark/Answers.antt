@@ -47,20 +47,20 @@ ascii c = steps c.requires.image_value c.loop-at.invariant (omega (arith, c.if-s
 two : (c : goal.Else-step-ge-ODD-2)
     → let a = c.args in
     let l = c.loop-at in
-    Stepping a.image.now a.text.now a.done a.run.mark a.run.refused (length a.starts.now) a.run.at (a.done + (a.run.count - a.done)) l.starts c.known_two-traits.result c.rule-step-then-a-lt224.result l.k l.at 2
-two c = steps_known c.requires.image_value c.loop-at.invariant (omega (arith, c.if-starts-k.false)) (omega (arith, four_bytes c.loop-at-test.true c.known_end-end.ensures)) c.requires.cached c.known_two-traits.ensures c.rule-step-then-a-lt224.ensures c.if-step-ge-ODD-2.false
+    Stepping a.image.now a.text.now a.done a.run.mark a.run.refused (length a.starts.now) a.run.at (a.done + (a.run.count - a.done)) l.starts c.known-traits.result c.rule-step-then-a-lt224.result l.k l.at 2
+two c = steps_known c.requires.image_value c.loop-at.invariant (omega (arith, c.if-starts-k.false)) (omega (arith, four_bytes c.loop-at-test.true c.known_end-end.ensures)) c.requires.cached c.known-traits.ensures c.rule-step-then-a-lt224.ensures c.if-step-ge-ODD-2.false
 
 three : (c : goal.Else-step-ge-ODD-3)
     → let a = c.args in
     let l = c.loop-at in
-    Stepping a.image.now a.text.now a.done a.run.mark a.run.refused (length a.starts.now) a.run.at (a.done + (a.run.count - a.done)) l.starts c.known_three-traits.result c.rule-step-then-a-lt240.result l.k l.at 3
-three c = steps_known c.requires.image_value c.loop-at.invariant (omega (arith, c.if-starts-k.false)) (omega (arith, four_bytes c.loop-at-test.true c.known_end-end.ensures)) c.requires.cached c.known_three-traits.ensures c.rule-step-then-a-lt240.ensures c.if-step-ge-ODD-3.false
+    Stepping a.image.now a.text.now a.done a.run.mark a.run.refused (length a.starts.now) a.run.at (a.done + (a.run.count - a.done)) l.starts c.known-traits-then-a-lt240.result c.rule-step-then-a-lt240.result l.k l.at 3
+three c = steps_known c.requires.image_value c.loop-at.invariant (omega (arith, c.if-starts-k.false)) (omega (arith, four_bytes c.loop-at-test.true c.known_end-end.ensures)) c.requires.cached c.known-traits-then-a-lt240.ensures c.rule-step-then-a-lt240.ensures c.if-step-ge-ODD-3.false
 
 four : (c : goal.Else-step-ge-ODD-4)
     → let a = c.args in
     let l = c.loop-at in
-    Stepping a.image.now a.text.now a.done a.run.mark a.run.refused (length a.starts.now) a.run.at (a.done + (a.run.count - a.done)) l.starts c.known_four-traits.result c.rule-step-in-loop-at.result l.k l.at 4
-four c = steps_known c.requires.image_value c.loop-at.invariant (omega (arith, c.if-starts-k.false)) (omega (arith, four_bytes c.loop-at-test.true c.known_end-end.ensures)) c.requires.cached c.known_four-traits.ensures c.rule-step-in-loop-at.ensures c.if-step-ge-ODD-4.false
+    Stepping a.image.now a.text.now a.done a.run.mark a.run.refused (length a.starts.now) a.run.at (a.done + (a.run.count - a.done)) l.starts c.known-traits-in-loop-at.result c.rule-step-in-loop-at.result l.k l.at 4
+four c = steps_known c.requires.image_value c.loop-at.invariant (omega (arith, c.if-starts-k.false)) (omega (arith, four_bytes c.loop-at-test.true c.known_end-end.ensures)) c.requires.cached c.known-traits-in-loop-at.ensures c.rule-step-in-loop-at.ensures c.if-step-ge-ODD-4.false
 
 pub bounds-text-at : goal.bounds-text-at
 bounds-text-at c = omega (arith, four_bytes c.loop-at-test.true c.known_end-end.ensures)
@@ -121,11 +121,11 @@ loop-at-smaller-then-a-lt128 c = let r = ascii (goal.at.loop-at-smaller-then-a-l
 pub loop-at-preserved-then-a-lt128 : goal.loop-at-preserved-then-a-lt128
 loop-at-preserved-then-a-lt128 c = (ascii (goal.at.loop-at-preserved-then-a-lt128 c).Else-step-ge-ODD).next _ c.start_at.ensures
 
-pub known_two-traits-requires : goal.known_two-traits-requires
-known_two-traits-requires c = record { fits = (c.requires.cached.fits, c.if-index-lt-BLOCKS.false); at_in_bounds = search rules }
+pub known-traits-requires : goal.known-traits-requires
+known-traits-requires c = record { fits = (c.requires.cached.fits, c.if-index-lt-BLOCKS.false); at_in_bounds = search rules }
 
 pub rule-step-requires-then-a-lt224 : goal.rule-step-requires-then-a-lt224
-rule-step-requires-then-a-lt224 c = record { rules_value = c.requires.rules_value; row_lt_rule_rows = (omega (arith, c.loop-at.invariant.small), c.known_two-traits.ensures.small) }
+rule-step-requires-then-a-lt224 c = record { rules_value = c.requires.rules_value; row_lt_rule_rows = (omega (arith, c.loop-at.invariant.small), c.known-traits.ensures.small) }
 
 pub start_at-requires-then-a-lt224 : goal.start_at-requires-then-a-lt224
 start_at-requires-then-a-lt224 c = let r = two c in (omega arith, r.small)
@@ -151,11 +151,11 @@ loop-at-smaller-then-a-lt224 c = let r = two (goal.at.loop-at-smaller-then-a-lt2
 pub loop-at-preserved-then-a-lt224 : goal.loop-at-preserved-then-a-lt224
 loop-at-preserved-then-a-lt224 c = (two (goal.at.loop-at-preserved-then-a-lt224 c).Else-step-ge-ODD-2).next _ c.start_at-then-a-lt224.ensures
 
-pub known_three-traits-requires : goal.known_three-traits-requires
-known_three-traits-requires c = record { fits = (c.requires.cached.fits, c.if-index-lt-BLOCKS.false); at_in_bounds = search rules }
+pub known-traits-requires-then-a-lt240 : goal.known-traits-requires-then-a-lt240
+known-traits-requires-then-a-lt240 c = record { fits = (c.requires.cached.fits, c.if-index-lt-BLOCKS.false); at_in_bounds = search rules }
 
 pub rule-step-requires-then-a-lt240 : goal.rule-step-requires-then-a-lt240
-rule-step-requires-then-a-lt240 c = record { rules_value = c.requires.rules_value; row_lt_rule_rows = (omega (arith, c.loop-at.invariant.small), c.known_three-traits.ensures.small) }
+rule-step-requires-then-a-lt240 c = record { rules_value = c.requires.rules_value; row_lt_rule_rows = (omega (arith, c.loop-at.invariant.small), c.known-traits-then-a-lt240.ensures.small) }
 
 pub start_at-requires-then-a-lt240 : goal.start_at-requires-then-a-lt240
 start_at-requires-then-a-lt240 c = let r = three c in (omega arith, r.small)
@@ -181,11 +181,11 @@ loop-at-smaller-then-a-lt240 c = let r = three (goal.at.loop-at-smaller-then-a-l
 pub loop-at-preserved-then-a-lt240 : goal.loop-at-preserved-then-a-lt240
 loop-at-preserved-then-a-lt240 c = (three (goal.at.loop-at-preserved-then-a-lt240 c).Else-step-ge-ODD-3).next _ c.start_at-then-a-lt240.ensures
 
-pub known_four-traits-requires : goal.known_four-traits-requires
-known_four-traits-requires c = record { fits = (c.requires.cached.fits, c.if-index-lt-BLOCKS.false); at_in_bounds = search rules }
+pub known-traits-requires-in-loop-at : goal.known-traits-requires-in-loop-at
+known-traits-requires-in-loop-at c = record { fits = (c.requires.cached.fits, c.if-index-lt-BLOCKS.false); at_in_bounds = search rules }
 
 pub rule-step-requires-in-loop-at : goal.rule-step-requires-in-loop-at
-rule-step-requires-in-loop-at c = record { rules_value = c.requires.rules_value; row_lt_rule_rows = (omega (arith, c.loop-at.invariant.small), c.known_four-traits.ensures.small) }
+rule-step-requires-in-loop-at c = record { rules_value = c.requires.rules_value; row_lt_rule_rows = (omega (arith, c.loop-at.invariant.small), c.known-traits-in-loop-at.ensures.small) }
 
 pub start_at-requires-in-loop-at : goal.start_at-requires-in-loop-at
 start_at-requires-in-loop-at c = let r = four c in (omega arith, r.small)
