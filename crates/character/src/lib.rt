@@ -47,7 +47,7 @@ pub struct Stretch {
 
 // Code points from `first` to `last` that have the same traits: the class after the profile and kind of White, `MEDIAL` more for a
 // medial, and `HASHTAG` more for role 5.
-#[derive(Clone, Copy)]
+#[derive(Clone, Copy, Debug, PartialEq, Eq)]
 pub struct Memo {
     pub first: u32,
     pub last: u32,
