@@ -19,7 +19,7 @@ ghost use Rattle.token.specs.Taken.{taken_of};
 ghost use Rattle.token.specs.Ended.{Ended};
 
 use blocks::BLOCKS;
-use count::{Going, Run, WAITING};
+use count::{Run, WAITING};
 use given::Judgement;
 use grammar::{Counted, MAX_TEXT, RECORD_WORDS};
 use refusal::Refusal;
@@ -146,7 +146,10 @@ fn write_all<'a>(
 {
     let rules = count::RULES;
     let plain = write::are_plain(image, cells);
-    let mut run = count::with_rows(run, cells.len());
+    let mut run = Run {
+        rows: cells.len(),
+        ..run
+    };
     let mut done = 0;
     let mut from = Written { w: 0, line: 1 };
     while run.at < text.len() {
@@ -154,15 +157,10 @@ fn write_all<'a>(
         from = write::put_records(image, text, starts, plain, out, total, n, from);
         starts[0] = starts[n];
         done = run.count;
-        let going = mark::mark_on(image, index, cells, &rules, text, starts, done, run);
-        match going {
-            Going::Refused(_) => {
-                return; // the text is accepted
-            }
-            Going::On(r) => {
-                run = r;
-            }
-        }
+        run = match mark::mark_on(image, index, cells, &rules, text, starts, done, run) {
+            Ok(next) => next,
+            Err(_) => return, // the text is accepted
+        };
     }
     let n = end_starts(image, &rules, text, starts, done, run);
     let _last = write::put_records(image, text, starts, plain, out, total, n, from);
@@ -190,10 +188,9 @@ fn list_with<'a>(
     }
     let rules = count::RULES;
     let rows = blocks::begin(image, cells);
-    let going = mark::mark_first(image, index, cells, &rules, text, starts, rows);
-    match going {
-        Going::Refused(r) => Counted::Refused(r),
-        Going::On(run) => {
+    match mark::mark_first(image, index, cells, &rules, text, starts, rows) {
+        Err(r) => Counted::Refused(r),
+        Ok(run) => {
             let counted = count::count_on(image, index, cells, &rules, text, run);
             match counted {
                 Counted::Refused(r) => Counted::Refused(r),
