@@ -47,11 +47,6 @@ rule_same {row} {t} {r = r} h e f g = e ∙ rule_step row t h ∙ ap (λ (y : �
 pub rule_most : {row n : ℕ} (t : ℕ) → row < 16 → n ≡ rule_for row t → n ≤ 255
 rule_most {row} t h e = omega (arith, e ∙ rule_step row t h, step_most row t)
 
--- the row by another number
-pub running_same : {s text : List ℕ} {mark refused first count last at t r : ℕ} → Running s text mark refused first t count last at → r ≡ t →
-    Running s text mark refused first r count last at
-running_same {s} {text} {mark} {refused} {first} {count} {last} {at} i e = subst (λ (y : ℕ). Running s text mark refused first y count last at) (sym e) i
-
 -- what is counted from the place `first` on after four characters, the last with the traits t
 pub record RanFour (s text : List ℕ) (mark refused first t n count at : ℕ) : Type 0 where
   pub next : Running s text mark refused first t (count + n) (at + 3) (at + 4)

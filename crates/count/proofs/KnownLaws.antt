@@ -1,5 +1,5 @@
 -- Counting on over characters whose steps are known: each step keeps what is counted. Assumes nothing.
-use Prim.Native.Nat.{ℕ, zero, suc, ◌+◌, ◌≤◌, ◌<◌}
+use Prim.Native.Nat.{ℕ, zero, suc, ◌+◌, ◌-◌, ◌≤◌, ◌<◌}
 use mathlib.Core.Path.{◌≡◌, refl, sym, subst, ◌∙◌}
 use mathlib.Core.List.{List}
 use mathlib.Core.Option.{none}
@@ -22,6 +22,10 @@ use Rattle.count.specs.Steps.{row_state, step_for}
 use Rattle.count.specs.Rules.{rule_for}
 use Rattle.count.proofs.RuleLaws.{rule_step}
 use Rattle.count.proofs.StepLaws.{some_known, Stepped, moves, waits, stepped}
+
+-- at a place before `known_end` four bytes stand
+pub four_bytes : {at end n : ℕ} → at < end → end ≡ n - 3 → at + 4 ≤ n
+four_bytes h e = omega arith
 
 -- the character at a place: what was found, or an ASCII byte
 pub here_known : {s text : List ℕ} {at len t : ℕ} → at < length text → Shown s text at len t → Here s text at len t

@@ -8,7 +8,7 @@ use native.Mathlib.Decide.{dec_lt}
 use lib.ListN.{length}
 use lib.Dec.{leb, eqb}
 use borrow.Author.Tests.{eqb-true, eq-eqb, ne_eqb, le-leb, lt-leb}
-use Rattle.std.specs.Prelude.{Err}
+use Rattle.std.specs.Prelude.{Err, Result, Ok}
 use Rattle.refusal.specs.declared.Refusal.{Refusal}
 use Rattle.character.specs.Read.{MemoOf}
 use Rattle.character.specs.declared.Memo.{Memo}
@@ -18,8 +18,6 @@ use Rattle.turns.proofs.ReachLaws.{here_small}
 use Rattle.count.specs.Turns.{count_waiting, count_states, count_after_of, count_waiting_of, count_beside, state_beside, mark_beside, refused_beside}
 use Rattle.count.specs.Counting.{CountLook, CountingFrom, CountingAs, AdvancedOn, Advanced, settled_run, start_after, LookedOn, Looked, run_with}
 use Rattle.count.specs.declared.Run.{Run}
-use Rattle.count.specs.declared.Going.{Going}
-use Rattle.count.specs.declared.Going.TheVariants as going
 use Rattle.count.proofs.StepLaws.{turn_some, turn_waiting, turn_first}
 use Rattle.count.proofs.CountLaws.{counting_few, counting_same, counting_turn, counting_waits, counting_beside}
 
@@ -129,9 +127,9 @@ first_none : (n : ℕ) {c c' : ℕ} → c' ≡ c + n → (0 < n → ⊥) → c' 
 first_none zero e f = omega arith
 first_none (suc n) e f = absurd (f (omega arith))
 
-pub looked_plain : (s text : List ℕ) (run : Run) (g : Going) → Advanced s text run g → Looked s text run g
-looked_plain s text run (going.Refused x) e = e
-looked_plain s text run (going.On r) x =
+pub looked_plain : (s text : List ℕ) (run : Run) (g : Result Run Refusal) → Advanced s text run g → Looked s text run g
+looked_plain s text run (Err x) e = e
+looked_plain s text run (Ok r) x =
     record {
       on = x.on;
       some = x.some;
@@ -147,10 +145,10 @@ looked_plain s text run (going.On r) x =
           subst (CountingFrom s text r) (start_plain x.done start run.at run.state run.mid run.count r.count x.most (λ p. (x.free p).1) x.counted) (x.counting start i);
     }
 
-pub looked_settled : (s text : List ℕ) (run : Run) (g : Going) → count_waiting < run.state →
+pub looked_settled : (s text : List ℕ) (run : Run) (g : Result Run Refusal) → count_waiting < run.state →
     ((start : ℕ) → CountingFrom s text run start → CountingFrom s text (settled_run run) run.mid) → Advanced s text (settled_run run) g → Looked s text run g
-looked_settled s text run (going.Refused x) w f e = e
-looked_settled s text run (going.On r) w f x =
+looked_settled s text run (Err x) w f e = e
+looked_settled s text run (Ok r) w f x =
     record {
       on = x.on;
       some = x.some;
@@ -166,17 +164,6 @@ looked_settled s text run (going.On r) w f x =
           subst (CountingFrom s text r) (start_settled x.done start run.at run.state run.mid run.count r.count x.most (omega arith) x.counted) (x.counting run.mid (f start i));
     }
 
--- what reading a character gave, by the enum's case
-pub looked_refused : (s text : List ℕ) (run : Run) (g : Going) (r : Refusal) → g ≡ going.Refused r → Looked s text run g → Err r ≡ count_through s text
-looked_refused s text run g r e h = subst (Looked s text run) e h
-
-pub looked_on : (s text : List ℕ) (run : Run) (g : Going) (r next : Run) (rows : ℕ) → g ≡ going.On r → next ≡ run_with r rows → Looked s text run g → CountingAs s text run →
-    CountingAs s text next × (run.at < next.at) × (next.rows ≡ rows)
-looked_on s text run g r next rows e f h i =
-    let x : LookedOn s text run r = subst (Looked s text run) e h in
-    rw f (record { start = start_after i.start run r; counting = x.counting i.start i.counting; memo = x.memo }, x.on, refl)
-
-pub looked_memo : (s text : List ℕ) (run : Run) (g : Going) (r : Run) → g ≡ going.On r → Looked s text run g → MemoOf s r.memo
-looked_memo s text run g r e h =
-    let x : LookedOn s text run r = subst (Looked s text run) e h in
-    x.memo
+-- the run after a character was read, with what was learnt
+pub looked_on : (s text : List ℕ) (run next : Run) (rows : ℕ) → LookedOn s text run next → CountingAs s text run → CountingAs s text (run_with next rows)
+looked_on s text run next rows x i = record { start = start_after i.start run next; counting = x.counting i.start i.counting; memo = x.memo }

@@ -2,8 +2,9 @@
 -- How far a count has come, and what its parts give. No public contract of a call cites these definitions: those of the readers of
 -- texts do.
 use Rattle.refusal.specs.declared.Refusal.{Refusal}
-use Rattle.std.specs.Prelude.{ℕ, ◌+◌, ◌-◌, ◌≤◌, ◌<◌, ◌≡◌, cond, ◌&&◌, List, ◌++◌, length, drop, leb, ltb, eqb, Result, Ok, Err}
+use Rattle.std.specs.Prelude.{ℕ, ◌+◌, ◌-◌, ◌≤◌, ◌<◌, ◌≡◌, cond, ◌&&◌, List, ◌++◌, length, drop, leb, ltb, eqb, Result, Ok, Err, MatchResult}
 use Rattle.std.proofs.Math.Option.{Option, none, some}
+use Rattle.refusal.specs.declared.Refusal.{Refusal}
 use Rattle.refusal.specs.declared.Refusal.TheVariants.{Mark}
 use Rattle.utf8.specs.Text.{text_of}
 use Rattle.image.specs.Check.{refusal_of}
@@ -19,8 +20,6 @@ use Rattle.turns.proofs.TurnLaws.{Tokens, Under}
 use Rattle.turns.proofs.ReachLaws.{Here, Reached}
 use Rattle.count.specs.Turns.{plain_of, view_by, count_states, count_waiting, count_turn_of, count_pending_of}
 use Rattle.count.specs.declared.Run.{Run}
-use Rattle.count.specs.declared.Going.{Going}
-use Rattle.count.specs.declared.Going.TheVariants as going
 
 -- the first mark that is refused, as a number: n is none
 abbrev pub RefusedAt : ℕ → Option ℕ → ℕ → Type 0
@@ -71,9 +70,8 @@ pub record AdvancedOn (s text : List ℕ) (run r : Run) : Type 0 where
   pub counting : (start : ℕ) → CountingFrom s text run start → CountingFrom s text r (start_by done start run.at)
 
 -- .. or the text is refused
-abbrev pub Advanced : List ℕ → List ℕ → Run → Going → Type 0
-Advanced s text run (going.Refused x) = Err x ≡ count_through s text
-Advanced s text run (going.On r) = AdvancedOn s text run r
+abbrev pub Advanced : List ℕ → List ℕ → Run → Result Run Refusal → Type 0
+Advanced s text run r = MatchResult r (AdvancedOn s text run) (λ x. Err x ≡ count_through s text)
 
 -- the run after the medial that waits was settled
 abbrev pub settled_run : Run → Run
@@ -108,9 +106,8 @@ pub record LookedOn (s text : List ℕ) (run r : Run) : Type 0 where
   pub counting : (start : ℕ) → CountingFrom s text run start → CountingFrom s text r (start_after start run r)
 
 -- .. or the text is refused
-abbrev pub Looked : List ℕ → List ℕ → Run → Going → Type 0
-Looked s text run (going.Refused x) = Err x ≡ count_through s text
-Looked s text run (going.On r) = LookedOn s text run r
+abbrev pub Looked : List ℕ → List ℕ → Run → Result Run Refusal → Type 0
+Looked s text run r = MatchResult r (LookedOn s text run) (λ x. Err x ≡ count_through s text)
 
 abbrev pub run_with : Run → ℕ → Run
 run_with run n =

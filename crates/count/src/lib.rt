@@ -8,7 +8,7 @@ ghost use Rattle.std.proofs.Math.Option.{none};
 ghost use Rattle.character.specs.Read.{MemoOf, TokenTableOf};
 ghost use Rattle.blocks.specs.Blocks.{Cached, Learning, Learnt};
 ghost use Rattle.grammar.specs.Counted.{count_through};
-ghost use Rattle.count.specs.Counting.{CountingFrom, CountingAs, CountLook, Advanced, Looked, finished_by, run_with};
+ghost use Rattle.count.specs.Counting.{CountingFrom, CountingAs, CountLook, Advanced, Looked, finished_by};
 ghost use Rattle.count.specs.Turns.{count_states, count_pending_of, count_beside, state_beside, mark_beside, refused_beside};
 ghost use Rattle.count.specs.Steps.{row_state};
 ghost use Rattle.count.specs.Four.{SmallCells, FourSteps};
@@ -115,89 +115,67 @@ const STATE_ROWS: usize = 35;
 
 pub const STATE_TRAITS: usize = 36;
 
-fn widen(x: u8) -> usize
-    ensures { result ≡ x }
-{
-    x as usize
-}
-
 // Number t of a row of the rules.
 pub fn rule(rules: &[u8; 592], row: usize, t: usize) -> usize
     requires rules_value { rules.now ≡ rule_table }
     requires row_lt_rule_rows { (row < rule_rows) × (t < 16) }
     ensures { result ≡ rule_for row t }
 {
-    widen(rules[row * 16 + t])
+    rules[row * 16 + t] as usize
 }
 
 // How many tokens are complete with a turn beside a mark.
 fn count_beside(turn: usize) -> usize
     ensures { result ≡ count_beside turn }
 {
-    if turn == STAYS {
-        return 0;
-    }
-    1
+    if turn == STAYS { 0 } else { 1 }
 }
 
 // The state after it.
 fn state_beside(turn: usize, state: u32) -> u32
     ensures { result ≡ state_beside turn state }
 {
-    if turn == STAYS {
-        return state;
+    match turn {
+        STAYS => state,
+        LINKS => MARK_MEDIAL,
+        JOINS => IDENTIFIER,
+        _ if state == IDENTIFIER => IDENTIFIER_MARK,
+        _ => MEDIAL_MARK,
     }
-    if turn == LINKS {
-        return MARK_MEDIAL;
-    }
-    if turn == JOINS {
-        return IDENTIFIER;
-    }
-    if state == IDENTIFIER {
-        return IDENTIFIER_MARK;
-    }
-    MEDIAL_MARK
 }
 
 // Where the mark began that is beside it.
 fn mark_beside(turn: usize, mark: usize, at: usize) -> usize
     ensures { result ≡ mark_beside turn mark at }
 {
-    if turn == MARKS {
-        return at;
-    }
-    mark
+    if turn == MARKS { at } else { mark }
 }
 
 // The first mark that is refused after it; `none` stands for no mark.
 fn refused_beside(turn: usize, refused: usize, mark: usize, none: usize) -> usize
     ensures { result ≡ refused_beside turn refused mark none }
 {
-    if turn != JOINS {
-        return refused;
+    if turn == JOINS && refused == none {
+        mark
+    } else {
+        refused
     }
-    if refused != none {
-        return refused;
-    }
-    mark
 }
 
 // How many tokens are pending in a state, where nothing follows.
 fn count_pending(state: u32) -> usize
     ensures { result ≡ count_pending_of state }
 {
-    if state == NOTHING {
-        return 0;
+    match state {
+        NOTHING => 0,
+        IDENTIFIER..WAITING => 1,
+        _ => 2,
     }
-    if state < WAITING {
-        return 1;
-    }
-    2
 }
 
 // How far a count has come: the place, the state, the tokens that are complete, where the medial stands that waits, where the last mark
 // began that may be refused, the first that is, or the text's length, the first free row of the blocks, and the memo.
-#[derive(Clone, Copy)]
+#[derive(Clone, Copy, Debug, PartialEq, Eq)]
 pub struct Run {
     pub at: usize,
     pub state: u32,
@@ -207,13 +185,6 @@ pub struct Run {
     pub refused: usize,
     pub rows: usize,
     pub memo: Memo,
-}
-
-// The refusal, or how far the count has come.
-#[derive(Drop)]
-pub enum Going {
-    Refused(Refusal),
-    On(Run),
 }
 
 // Where a count begins.
@@ -240,7 +211,7 @@ fn advance<'a>(
     run: Run,
     c: Character,
     turn: usize,
-) -> Going
+) -> Result<Run, Refusal>
     requires rules_value { rules.now ≡ rule_table }
     requires counting_as { CountingAs image.now text.now run }
     requires count_look { CountLook image.now text.now run.state run.at c.len c.traits turn }
@@ -248,35 +219,29 @@ fn advance<'a>(
     ensures { Advanced image.now text.now run result }
 {
     let traits = c.traits as usize;
-    let memo = c.memo;
-    let mut r = Run {
+    let mut next = Run {
         at: run.at + c.len,
-        state: run.state,
-        count: run.count,
-        mid: run.mid,
-        mark: run.mark,
-        refused: run.refused,
-        rows: run.rows,
-        memo,
+        memo: c.memo,
+        ..run
     };
     if turn <= BEGINS {
-        r.count = run.count + turn;
-        r.state = rule(rules, AFTER, traits) as u32;
-        return Going::On(r);
+        next.count += turn;
+        next.state = rule(rules, AFTER, traits) as u32;
+        return Ok(next);
     }
     if turn == WAITS {
-        r.state = rule(rules, WAITING_AFTER, traits) as u32;
-        r.mid = run.at;
-        return Going::On(r);
+        next.state = rule(rules, WAITING_AFTER, traits) as u32;
+        next.mid = run.at;
+        return Ok(next);
     }
     if JOINS < turn {
-        return Going::Refused(grammar::refuse_at(text, run.at));
+        return Err(grammar::refuse_at(text, run.at));
     }
-    r.count = run.count + count_beside(turn);
-    r.state = state_beside(turn, run.state);
-    r.mark = mark_beside(turn, run.mark, run.at);
-    r.refused = refused_beside(turn, run.refused, r.mark, text.len());
-    Going::On(r)
+    next.count += count_beside(turn);
+    next.state = state_beside(turn, run.state);
+    next.mark = mark_beside(turn, run.mark, run.at);
+    next.refused = refused_beside(turn, run.refused, next.mark, text.len());
+    Ok(next)
 }
 
 // Reads one character, whatever it is and does.
@@ -286,7 +251,7 @@ pub fn look<'a>(
     rules: &'a [u8; 592],
     text: &'a [u8],
     run: Run,
-) -> Going
+) -> Result<Run, Refusal>
     requires token_table_of { TokenTableOf image.now cells.now }
     requires rules_value { rules.now ≡ rule_table }
     requires counting_as { CountingAs image.now text.now run }
@@ -295,19 +260,21 @@ pub fn look<'a>(
 {
     let c = character::read_for_tokens(image, cells, run.memo, text, run.at);
     if c.len == 0 {
-        return Going::Refused(grammar::refuse_at(text, run.at));
+        return Err(grammar::refuse_at(text, run.at));
     }
     let turn = rule(rules, TURNS + run.state as usize, c.traits as usize);
     if turn != SETTLES {
         return advance(image, rules, text, run, c, turn);
     }
     if run.state == WAITING {
-        return Going::Refused(grammar::refuse_at(text, run.mid));
+        return Err(grammar::refuse_at(text, run.mid));
     }
-    let mut next = run;
-    next.state = run.state - WAITING;
-    next.count = run.count + 1;
-    next.mark = run.mid;
+    let next = Run {
+        state: run.state - WAITING,
+        count: run.count + 1,
+        mark: run.mid,
+        ..run
+    };
     let turn = rule(rules, TURNS + next.state as usize, c.traits as usize);
     advance(image, rules, text, next, c, turn)
 }
@@ -316,10 +283,7 @@ pub fn look<'a>(
 pub fn known_end(n: usize) -> usize
     ensures { result ≡ n - 3 }
 {
-    if n < 4 {
-        return 0;
-    }
-    n - 3
+    n.saturating_sub(3)
 }
 
 // The row of the steps that leads on from a state; NO_ROW if there is none.
@@ -336,7 +300,7 @@ pub fn ascii_cell(cells: &[u8], a: u8) -> usize
     requires { SmallCells cells.now × (a < 0x80) }
     ensures { (result ≡ get_or cells.now a 0) × (result < 16) }
 {
-    widen(cells[a as usize])
+    cells[a as usize] as usize
 }
 
 // How many tokens are complete with four characters of ASCII at a place, after a row; ODD or more where they aren't ASCII, or it isn't known.
@@ -397,10 +361,6 @@ fn run_count<'a>(
     let mut row = row;
     let mut count = run.count;
     let mut last = run.mid;
-    let mark = run.mark;
-    let refused = run.refused;
-    let rows = run.rows;
-    let memo = run.memo;
     while at < end {
         let a = text[at];
         if a < 0x80 {
@@ -409,11 +369,11 @@ fn run_count<'a>(
                 count += four;
                 last = at + 3;
                 let d = text[last];
-                row = widen(cells[d as usize]);
+                row = cells[d as usize] as usize;
                 at += 4;
                 continue;
             }
-            let traits = widen(cells[a as usize]);
+            let traits = cells[a as usize] as usize;
             let step = rule(rules, row, traits);
             if ODD <= step {
                 break;
@@ -427,31 +387,13 @@ fn run_count<'a>(
         if index.len() < BLOCKS {
             break;
         }
-        if a < 0xE0 {
-            let traits = blocks::known::<2>(index, cells, text, at);
-            let step = rule(rules, row, traits);
-            if ODD <= step {
-                break;
-            }
-            count += step;
-            row = traits;
-            last = at;
-            at += 2;
-            continue;
-        }
-        if a < 0xF0 {
-            let traits = blocks::known::<3>(index, cells, text, at);
-            let step = rule(rules, row, traits);
-            if ODD <= step {
-                break;
-            }
-            count += step;
-            row = traits;
-            last = at;
-            at += 3;
-            continue;
-        }
-        let traits = blocks::known::<4>(index, cells, text, at);
+        let (traits, len) = if a < 0xE0 {
+            (blocks::known::<2>(index, cells, text, at), 2)
+        } else if a < 0xF0 {
+            (blocks::known::<3>(index, cells, text, at), 3)
+        } else {
+            (blocks::known::<4>(index, cells, text, at), 4)
+        };
         let step = rule(rules, row, traits);
         if ODD <= step {
             break;
@@ -459,17 +401,14 @@ fn run_count<'a>(
         count += step;
         row = traits;
         last = at;
-        at += 4;
+        at += len;
     }
     Run {
         at,
         state: rule(rules, ROW_STATES, row) as u32,
         count,
         mid: last,
-        mark,
-        refused,
-        rows,
-        memo,
+        ..run
     }
 }
 
@@ -484,8 +423,7 @@ fn finish(text: &[u8], run: Run) -> Result<usize, Refusal>
     if run.refused < text.len() {
         return Err(Refusal::Mark(run.refused));
     }
-    let all = run.count + count_pending(run.state);
-    Ok(all)
+    Ok(run.count + count_pending(run.state))
 }
 
 // Counts on to the text's end.
@@ -512,27 +450,12 @@ pub fn count_on<'a>(
                 break;
             }
         }
-        let at = run.at;
-        let going = look(image, cells, rules, text, run);
-        match going {
-            Going::Refused(r) => {
-                return Err(r);
-            }
-            Going::On(r) => {
-                let memo = r.memo;
-                let rows = blocks::learn_at(index, cells, run.rows, text, at, memo);
-                run = with_rows(r, rows);
-            }
-        }
+        let next = match look(image, cells, rules, text, run) {
+            Err(r) => return Err(r),
+            Ok(next) => next,
+        };
+        let rows = blocks::learn_at(index, cells, run.rows, text, run.at, next.memo);
+        run = Run { rows, ..next };
     }
     finish(text, run)
-}
-
-// A run with another first free row.
-pub fn with_rows(run: Run, rows: usize) -> Run
-    ensures { result ≡ run_with run rows }
-{
-    let mut r = run;
-    r.rows = rows;
-    r
 }

@@ -21,10 +21,8 @@ use Rattle.count.specs.Turns.{plain_of, count_states, count_waiting, count_after
 use Rattle.count.specs.Steps.{row_state, step_for}
 use Rattle.count.specs.Rules.{traits_for, rule_for}
 use Rattle.count.specs.Four.{cell_for, FourSteps}
-use Rattle.count.specs.Counting.{Counting, CountingFrom, LookedOn, Looked, start_after, run_with}
+use Rattle.count.specs.Counting.{Counting, CountingFrom, LookedOn, start_after, run_with}
 use Rattle.count.specs.declared.Run.{Run}
-use Rattle.count.specs.declared.Going.{Going}
-use Rattle.count.specs.declared.Going.TheVariants as going
 use Rattle.count.proofs.BesideTurnLaws.{stated}
 use Rattle.count.proofs.CountLaws.{counting_few}
 use Rattle.count.proofs.StepLaws.{same_at, traits_kind, Stepped, moves, waits, stepped, step_few, some_known, known_some}
@@ -282,33 +280,28 @@ module _ {s text starts : List ℕ} {done : ℕ} {run next : Run} (m : Marking s
       }
 
   -- the next run, with what was learnt
-  pub marks_on : {xs : List ℕ} (r : Run) (rows : ℕ) → r ≡ run_with next rows → run.count - done + margin < length starts → Started s text xs done (next.count - done + 1) →
-      length xs ≡ length starts → Marking s text xs done r
-  marks_on {xs} r rows e h a g =
-      rw e
-      (record {
+  pub marks_on : {xs : List ℕ} (rows : ℕ) → run.count - done + margin < length starts → Started s text xs done (next.count - done + 1) → length xs ≡ length starts →
+      Marking s text xs done (run_with next rows)
+  marks_on {xs} rows h a g =
+      record {
         counting = record { start = first_place; counting = i; memo = l.memo };
         some = l.some;
         from = omega (arith, m.from, l.least);
         room = omega (arith, l.most, m.from);
         started = a;
-      })
-
--- what reading a character gave, by the enum's case
-pub looked_as : {s text : List ℕ} {run : Run} {g : Going} {r : Run} → g ≡ going.On r → Looked s text run g → LookedOn s text run r
-looked_as {s} {text} {run} e h = subst (Looked s text run) e h
+      }
 
 -- the first character begins the first token
-pub marks_first : {s text xs : List ℕ} {first next : Run} (starts : List ℕ) (r : Run) (rows : ℕ) → CountingFrom s text first 0 → first.state ≡ 0 → first.count ≡ 0 → LookedOn s text first next →
-    margin < length starts → xs ≡ set starts 0 (16 * 0 + traits_for next.state) → r ≡ run_with next rows → Marking s text xs 0 r
-marks_first {s} {text} {first = first} {next = next} starts r rows f z n l h g e =
+pub marks_first : {s text xs : List ℕ} {first next : Run} (starts : List ℕ) (rows : ℕ) → CountingFrom s text first 0 → first.state ≡ 0 → first.count ≡ 0 → LookedOn s text first next →
+    margin < length starts → xs ≡ set starts 0 (16 * 0 + traits_for next.state) → Marking s text xs 0 (run_with next rows)
+marks_first {s} {text} {first = first} {next = next} starts rows f z n l h g =
     let c : next.count ≡ 0 = l.first z ∙ n in
     let o : start_after 0 first next ≡ 0 = rw (eq-eqb next.count first.count (l.first z)) in
     let i : CountingFrom s text next 0 = subst (CountingFrom s text next) o (l.counting 0 f) in
     let x = start_counted i l.some (traits_for next.state) (traits_small next.state i.less) (traits_kind next.state i.less) in
     let a = started_more {starts = starts} {done = 0} 0 (16 * 0 + traits_for next.state) (omega arith) (subst (λ (k : ℕ). StartOf s text k (16 * 0 + traits_for next.state)) c x) (record { each = λ (j : ℕ) (b : j < 0). absurd (omega arith) }) in
     let d : 0 + 1 ≡ next.count - 0 + 1 = omega arith in
-    rw (e, g)
+    rw g
     (record {
       counting = record { start = 0; counting = i; memo = l.memo };
       some = l.some;

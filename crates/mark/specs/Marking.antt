@@ -1,14 +1,14 @@
 -- Inner: no public statement cites this file.
 -- How far the starts of a text's tokens are marked.
-use Rattle.std.specs.Prelude.{ℕ, ◌+◌, ◌-◌, ◌*◌, ◌≤◌, ◌<◌, ◌≡◌, List, ◌⊎◌, length, set, Err}
+use Rattle.std.specs.Prelude.{ℕ, ◌+◌, ◌-◌, ◌*◌, ◌≤◌, ◌<◌, ◌≡◌, List, ◌⊎◌, length, set, Err, Result, MatchResult, IfOk}
+use Rattle.refusal.specs.declared.Refusal.{Refusal}
+use Rattle.grammar.specs.declared.Counted.TheVariants.{Refused}
 use Rattle.grammar.specs.Counted.{count_through}
 use Rattle.grammar.specs.Before.{max_text}
 use Rattle.blocks.specs.Blocks.{Learning}
 use Rattle.turns.specs.Starts.{Started}
 use Rattle.count.specs.Turns.{count_states}
 use Rattle.count.specs.declared.Run.{Run}
-use Rattle.count.specs.declared.Going.{Going}
-use Rattle.count.specs.declared.Going.TheVariants as going
 use Rattle.count.specs.Counting.{CountingAs}
 use Rattle.count.specs.Steps.{step_for}
 use Rattle.count.specs.Four.{cell_for, FourSteps}
@@ -30,14 +30,12 @@ pub record MarkedOn (s text starts : List ℕ) (done : ℕ) (run : Run) : Type 0
   pub marking : Marking s text starts done run
   pub far : (length text ≤ run.at) ⊎ (length starts ≤ run.count - done + margin)
 
-abbrev pub Marked : List ℕ → List ℕ → List ℕ → ℕ → Going → Type 0
-Marked s text starts done (going.Refused x) = Err x ≡ count_through s text
-Marked s text starts done (going.On r) = MarkedOn s text starts done r
+abbrev pub Marked : List ℕ → List ℕ → List ℕ → ℕ → Result Run Refusal → Type 0
+Marked s text starts done r = MatchResult r (MarkedOn s text starts done) (λ x. Err x ≡ count_through s text)
 
 -- what was learnt meanwhile
-abbrev pub LearningOn : List ℕ → List ℕ → List ℕ → Going → Type 0
-LearningOn s index cells (going.Refused x) = Unit {0}
-LearningOn s index cells (going.On r) = Learning s index cells r.rows
+abbrev pub LearningOn : List ℕ → List ℕ → List ℕ → Result Run Refusal → Type 0
+LearningOn s index cells r = IfOk r (λ run. Learning s index cells run.rows)
 
 -- the starts of what began between two runs are put: there is room, and the numbers are small
 pub record Putting (starts : List ℕ) (done : ℕ) (run next : Run) : Type 0 where

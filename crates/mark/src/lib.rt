@@ -16,6 +16,8 @@ ghost use Rattle.mark.specs.Marking.{Marking, Marked, LearningOn, Putting, FourA
 use blocks::BLOCKS;
 use count::{Going, NO_ROW, ODD, ROW_STATES, Run, STATE_TRAITS, WAITING};
 use image::ClassImage;
+use count::{NO_ROW, ODD, ROW_STATES, Run, STATE_TRAITS, WAITING};
+use refusal::Refusal;
 
 // So many starts are left free, for the tokens that one character may complete and for the end of the last.
 const MARGIN: usize = 4;
@@ -26,12 +28,6 @@ fn start_at(at: usize, traits: usize) -> u32
     ensures { result ≡ 16 * at + traits }
 {
     (16 * at + traits) as u32
-}
-
-fn widen(x: u8) -> usize
-    ensures { result ≡ x }
-{
-    x as usize
 }
 
 // Puts the starts of four characters of ASCII, each as if a token began with it. The number of tokens that are complete after them.
@@ -66,7 +62,7 @@ fn put_four<'a>(
 }
 
 // Marks on as far as what characters do is known from the one before, and starts are free. Each character is marked as if a token began
-// with it: where none begins, the next is marked over it. One arm for each length, in one function: the loop's numbers stay in registers.
+// with it: where none begins, the next is marked over it. All lengths stand in one function: the loop's numbers stay in registers.
 fn run_mark<'a>(
     image: &ClassImage,
     index: &'a [u8],
@@ -91,10 +87,6 @@ fn run_mark<'a>(
     let mut at = run.at;
     let mut k = run.count - done;
     let mut last = run.mid;
-    let mark = run.mark;
-    let refused = run.refused;
-    let rows = run.rows;
-    let memo = run.memo;
     while at < end {
         if starts.len() <= k + 2 * MARGIN {
             break;
@@ -109,7 +101,7 @@ fn run_mark<'a>(
                 at += 4;
                 continue;
             }
-            let traits = widen(cells[a as usize]);
+            let traits = cells[a as usize] as usize;
             let step = count::rule(rules, row, traits);
             if ODD <= step {
                 break;
@@ -124,33 +116,13 @@ fn run_mark<'a>(
         if index.len() < BLOCKS {
             break;
         }
-        if a < 0xE0 {
-            let traits = blocks::known::<2>(index, cells, text, at);
-            let step = count::rule(rules, row, traits);
-            if ODD <= step {
-                break;
-            }
-            starts[k + 1] = start_at(at, traits);
-            k += step;
-            row = traits;
-            last = at;
-            at += 2;
-            continue;
-        }
-        if a < 0xF0 {
-            let traits = blocks::known::<3>(index, cells, text, at);
-            let step = count::rule(rules, row, traits);
-            if ODD <= step {
-                break;
-            }
-            starts[k + 1] = start_at(at, traits);
-            k += step;
-            row = traits;
-            last = at;
-            at += 3;
-            continue;
-        }
-        let traits = blocks::known::<4>(index, cells, text, at);
+        let (traits, len) = if a < 0xE0 {
+            (blocks::known::<2>(index, cells, text, at), 2)
+        } else if a < 0xF0 {
+            (blocks::known::<3>(index, cells, text, at), 3)
+        } else {
+            (blocks::known::<4>(index, cells, text, at), 4)
+        };
         let step = count::rule(rules, row, traits);
         if ODD <= step {
             break;
@@ -159,17 +131,14 @@ fn run_mark<'a>(
         k += step;
         row = traits;
         last = at;
-        at += 4;
+        at += len;
     }
     Run {
         at,
         state: count::rule(rules, ROW_STATES, row) as u32,
         count: done + k,
         mid: last,
-        mark,
-        refused,
-        rows,
-        memo,
+        ..run
     }
 }
 
@@ -215,7 +184,7 @@ pub fn mark_on<'a>(
     starts: &mut [u32],
     done: usize,
     run: Run,
-) -> Going
+) -> Result<Run, Refusal>
     requires learning { Learning image.now index.old cells.old run.rows }
     requires rules_value { rules.now ≡ rule_table }
     requires text_len_bound { length text.now ≤ max_text }
@@ -232,21 +201,12 @@ pub fn mark_on<'a>(
         if starts.len() <= run.count - done + MARGIN {
             break;
         }
-        let at = run.at;
-        let going = count::look(image, cells, rules, text, run);
-        match going {
-            Going::Refused(r) => {
-                return Going::Refused(r);
-            }
-            Going::On(r) => {
-                put_starts(rules, starts, done, run, r);
-                let memo = r.memo;
-                let rows = blocks::learn_at(index, cells, run.rows, text, at, memo);
-                run = count::with_rows(r, rows);
-            }
-        }
+        let next = count::look(image, cells, rules, text, run)?;
+        put_starts(rules, starts, done, run, next);
+        let rows = blocks::learn_at(index, cells, run.rows, text, run.at, next.memo);
+        run = Run { rows, ..next };
     }
-    Going::On(run)
+    Ok(run)
 }
 
 // Marks a text, which isn't empty, from its front.
@@ -258,7 +218,7 @@ pub fn mark_first<'a>(
     text: &'a [u8],
     starts: &mut [u32],
     rows: usize,
-) -> Going
+) -> Result<Run, Refusal>
     requires learning { Learning image.now index.old cells.old rows }
     requires rules_value { rules.now ≡ rule_table }
     requires text_nonzero { (0 < length text.now) × (length text.now ≤ max_text) }
@@ -267,17 +227,9 @@ pub fn mark_first<'a>(
     ensures learning_on { LearningOn image.now index.new cells.new result }
 {
     let first = count::begin(text, rows);
-    let going = count::look(image, cells, rules, text, first);
-    match going {
-        Going::Refused(r) => {
-            return Going::Refused(r);
-        }
-        Going::On(r) => {
-            put_start(rules, starts, 0, 0, r.state);
-            let memo = r.memo;
-            let rows = blocks::learn_at(index, cells, rows, text, 0, memo);
-            let run = count::with_rows(r, rows);
-            return mark_on(image, index, cells, rules, text, starts, 0, run);
-        }
-    }
+    let next = count::look(image, cells, rules, text, first)?;
+    put_start(rules, starts, 0, 0, next.state);
+    let rows = blocks::learn_at(index, cells, rows, text, 0, next.memo);
+    let run = Run { rows, ..next };
+    mark_on(image, index, cells, rules, text, starts, 0, run)
 }

@@ -20,6 +20,8 @@ use blocks::BLOCKS;
 use count::{Run, WAITING};
 use grammar::{MAX_TEXT, RECORD_WORDS};
 use image::ClassImage;
+use given::Judgement;
+use grammar::{Counted, MAX_TEXT, RECORD_WORDS};
 use refusal::Refusal;
 use turns::First;
 use write::Written;
@@ -138,7 +140,10 @@ fn write_all<'a>(
 {
     let rules = count::RULES;
     let plain = write::are_plain(image, cells);
-    let mut run = count::with_rows(run, cells.len());
+    let mut run = Run {
+        rows: cells.len(),
+        ..run
+    };
     let mut done = 0;
     let mut from = Written { w: 0, line: 1 };
     while run.at < text.len() {

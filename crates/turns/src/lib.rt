@@ -47,7 +47,7 @@ pub const AFTER: [u32; 16] = [0, 1, 1, 2, 3, 0, 4, 5, 0, 1, 1, 2, 3, 0, 4, 5];
 pub const WAITING_AFTER: [u32; 16] = [6, 7, 6, 8, 9, 6, 10, 11, 6, 7, 6, 8, 9, 6, 10, 11];
 
 // What stands at the front of a text.
-#[derive(Drop)]
+#[derive(Clone, Copy, Debug, PartialEq, Eq)]
 pub enum First {
     // Nothing: the text is empty.
     Nothing,
@@ -59,19 +59,13 @@ pub enum First {
     Token { kind: u32, end: usize },
 }
 
-fn widen(x: u8) -> usize
-    ensures { result ≡ x }
-{
-    x as usize
-}
-
 // What a character of these traits does in a state.
 pub fn find_turn(turns: &[u8; 192], state: u32, traits: u32) -> usize
     requires turns_value { turns.now ≡ turn_table }
     requires state_lt_states { (state < states) × (traits < 16) }
     ensures { result ≡ turn_of state traits }
 {
-    widen(turns[(state * 16 + traits) as usize])
+    turns[(state * 16 + traits) as usize] as usize
 }
 
 // The state after a character, where a token goes on or begins.
@@ -96,18 +90,16 @@ pub fn waiting_after(waiting: &[u32; 16], traits: u32) -> u32
 fn end_first(state: u32, mid: usize, at: usize) -> First
     ensures { result ≡ pending_first state mid at }
 {
-    if state == NOTHING {
-        return First::NoToken;
-    }
-    if state < WAITING {
-        return First::Token {
+    match state {
+        NOTHING => First::NoToken,
+        IDENTIFIER..WAITING => First::Token {
             kind: state,
             end: at,
-        };
-    }
-    First::Token {
-        kind: IDENTIFIER,
-        end: mid,
+        },
+        _ => First::Token {
+            kind: IDENTIFIER,
+            end: mid,
+        },
     }
 }
 
@@ -123,33 +115,30 @@ pub fn first_token<'a>(image: &ClassImage, table: &'a [u8], text: &'a [u8]) -> F
     let mut state = NOTHING;
     let mut mid = 0;
     let mut at = 0;
+    // `while`: each round goes on by the length of a character.
     while at < text.len() {
         let c = character::read_for_tokens(image, table, memo, text, at);
-        let len = c.len;
-        if len == 0 {
-            if at == 0 {
-                return First::IllFormed;
+        if c.len == 0 {
+            return if at == 0 {
+                First::IllFormed
+            } else {
+                end_first(state, mid, at)
+            };
+        }
+        match find_turn(&turns, state, c.traits) {
+            GOES_ON => state = state_after(&after, c.traits),
+            WAITS => {
+                state = waiting_after(&waiting, c.traits);
+                mid = at;
             }
-            return end_first(state, mid, at);
+            _ => return end_first(state, mid, at),
         }
         memo = c.memo;
-        let next = at + len;
-        let turn = find_turn(&turns, state, c.traits);
-        if turn == GOES_ON {
-            state = state_after(&after, c.traits);
-            at = next;
-            continue;
-        }
-        if turn == WAITS {
-            state = waiting_after(&waiting, c.traits);
-            mid = at;
-            at = next;
-            continue;
-        }
-        return end_first(state, mid, at);
+        at += c.len;
     }
     if at == 0 {
-        return First::Nothing;
+        First::Nothing
+    } else {
+        end_first(state, mid, at)
     }
-    end_first(state, mid, at)
 }

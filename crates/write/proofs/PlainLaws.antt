@@ -1,5 +1,5 @@
 -- Where line ends are plain, no token but those of line ends holds one. Assumes nothing.
-use Prim.Native.Nat.{ℕ, ◌+◌, ◌/◌, ◌%◌, ◌≤◌, ◌<◌}
+use Prim.Native.Nat.{ℕ, ◌+◌, ◌-◌, ◌/◌, ◌%◌, ◌≤◌, ◌<◌}
 use mathlib.Core.Path.{◌≡◌, refl, sym, ap, subst, ◌∙◌}
 use mathlib.Core.Bool.{Bool, true, false, cond, true≢false}
 use mathlib.Core.List.{List, [], ◌∷◌, ◌++◌}
@@ -9,7 +9,8 @@ use native.Mathlib.Nat.{zero-add}
 use native.Mathlib.Decide.{dec_lt}
 use native.Mathlib.Omega.{arith}
 use lib.Dec.{leb, eqb}
-use lib.ListN.{get_or}
+use lib.ListN.{length, take, drop, get_or, length-take, length-drop}
+use Rattle.std.proofs.lemmas.List.{get_or-take, get_or-drop}
 use borrow.Author.Tests.{eqb-true, eqb-false}
 use Rattle.lists.specs.Filled.{Filled}
 use Rattle.utf8.specs.Text.{Character}
@@ -140,3 +141,12 @@ module _ (P : ℕ → Type 0) (early : (x : ℕ) → 0x0A ≤ x → x ≤ 0x0D �
 pub filled_apart : (s : List ℕ) (base : ℕ) {size k : ℕ} {t : List ℕ} → Filled size (λ (j : ℕ). 0 + token_traits s (base + j)) t k → (j : ℕ) → j < k →
     Apart (get_or t j 0) → Apart (token_traits s (base + j))
 filled_apart s base f j l a = subst Apart (f.each j l ∙ zero-add (token_traits s (base + j))) a
+
+-- the cells of the line ends of ASCII
+pub part_apart : (cells : List ℕ) → ((i : ℕ) → i < length (take 4 (drop 10 cells)) → Apart (get_or (take 4 (drop 10 cells)) i 0)) → 14 ≤ length cells →
+    (x : ℕ) → 0x0A ≤ x → x ≤ 0x0D → Apart (get_or cells x 0)
+part_apart cells h l x a b =
+    let z : 10 + (x - 10) ≡ x = omega arith in
+    let e : get_or (take 4 (drop 10 cells)) (x - 10) 0 ≡ get_or cells x 0 =
+    get_or-take 4 (drop 10 cells) (x - 10) 0 (omega arith) ∙ get_or-drop 10 cells (x - 10) 0 ∙ ap (λ (n : ℕ). get_or cells n 0) z in
+    subst Apart e (h (x - 10) (simp (length-take, length-drop) (omega arith)))

@@ -1,7 +1,7 @@
 // Writing the records of a text's tokens from where they start, token by token, once the text is known to be accepted.
 #![tactic(auto)]
 
-ghost use Rattle.std.specs.Prelude.{◌≡◌, true, not, ◌||◌, ◌+◌, ◌*◌, ◌/◌, ◌≤◌, ◌<◌, eqb, length};
+ghost use Rattle.std.specs.Prelude.{◌≡◌, true, not, ◌||◌, ◌+◌, ◌*◌, ◌/◌, ◌≤◌, ◌<◌, eqb, length, EachIndex, slice_index};
 ghost use Rattle.line.specs.Line.{LineAt};
 ghost use Rattle.character.specs.Read.{TokenTableOf};
 ghost use Rattle.grammar.specs.Before.{max_text};
@@ -17,7 +17,7 @@ const LINE_ENDS: u32 = 4;
 const LINE_FEED: u8 = 0x0A;
 
 // The first free word, and the line of the byte after the tokens that are written.
-#[derive(Drop)]
+#[derive(Clone, Copy, Debug, PartialEq, Eq)]
 pub struct Written {
     pub w: usize,
     pub line: u32,
@@ -27,13 +27,14 @@ pub struct Written {
 fn is_apart(traits: u8) -> bool
     ensures { result ≡ true → Apart traits }
 {
-    if traits == 0 {
-        return true;
-    }
-    if traits == 5 {
-        return true;
-    }
-    traits == 6
+    matches!(traits, 0 | 5 | 6)
+}
+
+// Whether characters of these traits are all so.
+fn are_apart(cells: &[u8]) -> bool
+    ensures { result ≡ true → EachIndex cells.now (λ k. Apart (slice_index cells.now k)) }
+{
+    cells.iter().all(|t| is_apart(*t))
 }
 
 // Whether line ends stand in no token but those of line ends: if so, no other token has to be looked through.
@@ -41,24 +42,11 @@ pub fn are_plain<'a>(image: &ClassImage, cells: &'a [u8]) -> bool
     requires token_table_of { TokenTableOf image.now cells.now }
     ensures { result ≡ true → Plain image.now }
 {
-    let mut at = 0x0A;
-    while at <= 0x0D {
-        if !is_apart(cells[at]) {
-            return false;
-        }
-        at += 1;
-    }
     let mut next = [0u8; 1];
     character::fill_cells(image, 0x85, 0, &mut next);
-    if !is_apart(next[0]) {
-        return false;
-    }
     let mut separators = [0u8; 2];
     character::fill_cells(image, 0x2028, 0, &mut separators);
-    if !is_apart(separators[0]) {
-        return false;
-    }
-    is_apart(separators[1])
+    are_apart(&cells[0x0A..=0x0D]) && are_apart(&next) && are_apart(&separators)
 }
 
 // The line after a token, by the line ends in it.
@@ -68,13 +56,12 @@ fn line_after(text: &[u8], start: usize, end: usize, line: u32) -> u32
     requires spans { Spans text.now start end }
     ensures { LineAt text.now end result }
 {
-    if end - start == 1 {
-        if text[start] == LINE_FEED {
-            return line + 1;
-        }
+    if end - start == 1 && text[start] == LINE_FEED {
+        return line + 1;
     }
     let mut at = start;
     let mut now = line;
+    // `while`: each round goes on by the length of a character.
     while at < end {
         now += line::count_at(text, at);
         at += utf8::measure_known(text[at]);
@@ -86,10 +73,7 @@ fn line_after(text: &[u8], start: usize, end: usize, line: u32) -> u32
 fn may_end_lines(kind: u32, plain: bool) -> bool
     ensures { result ≡ (eqb kind 4 || not plain) }
 {
-    if kind == LINE_ENDS {
-        return true;
-    }
-    !plain
+    kind == LINE_ENDS || !plain
 }
 
 // Writes n records, from the starts of their tokens and of what comes after them. The rest of the buffer, from the first free word on, is
@@ -115,15 +99,13 @@ pub fn put_records<'a>(
     let kinds = turns::AFTER;
     let mut w = from.w;
     let mut line = from.line;
-    let mut k = 0;
-    while k < n {
+    for k in 0..n {
         let code = starts[k] as usize;
         let start = code / 16;
         let end = starts[k + 1] as usize / 16;
         let kind = kinds[code % 16];
         grammar::put_record(&mut out[w..], kind, start, end, line);
         w += RECORD_WORDS;
-        k += 1;
         if may_end_lines(kind, plain) {
             line = line_after(text, start, end, line);
         }

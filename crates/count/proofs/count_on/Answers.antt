@@ -6,9 +6,9 @@ use lib.ListN.{length}
 use Rattle.blocks.specs.Blocks.{Learning}
 use Rattle.count.specs.Counting.{CountingAs}
 use Rattle.count.proofs.CountLaws.{counting_few, finishes}
-use Rattle.count.proofs.LookLaws.{looked_refused, looked_on, looked_memo}
+use Rattle.count.proofs.LookLaws.{looked_on}
 use Rattle.count.proofs.count_on.Goals as goal
-use Rattle.count.proofs.count_on.Goals.{After-with_rows-run, Joined-row-lt-NO_ROW, Left-loop-run, then-row-lt-NO_ROW+else-text-run, else-row-lt-NO_ROW, else-loop-run-test, then-loop-run-test+then-row-lt-NO_ROW+then-text-run}
+use Rattle.count.proofs.count_on.Goals.{Joined-row-lt-NO_ROW, Left-loop-run, then-row-lt-NO_ROW+else-text-run, else-row-lt-NO_ROW, else-loop-run-test, then-loop-run-test+then-row-lt-NO_ROW+then-text-run}
 
 -- the count where it goes on with the character at its place
 goes_on : (c : goal.Joined-row-lt-NO_ROW)
@@ -38,39 +38,31 @@ pub row_of-row-requires : goal.row_of-row-requires
 row_of-row-requires c = record { rules_value = c.requires.rules_value; state_lt_count_states = c.loop-run.invariant.0.counting.less }
 
 pub run_count-run-requires : goal.run_count-run-requires
-run_count-run-requires c = record { image_value = c.requires.image_value; cached = c.loop-run.invariant.1.cached; rules_value = c.requires.rules_value; row_bound = (c.if-row-lt-NO_ROW.true, c.row_of-row.ensures c.if-row-lt-NO_ROW.true); counting_as = c.loop-run.invariant.0 }
+run_count-run-requires c = record { cached = c.loop-run.invariant.1.cached; rules_value = c.requires.rules_value; row_bound = (c.if-row-lt-NO_ROW.true, c.row_of-row.ensures c.if-row-lt-NO_ROW.true); counting_as = c.loop-run.invariant.0 }
 
-pub look-going-requires : goal.look-going-requires
-look-going-requires c = let g = goes_on c in record { image_value = c.requires.image_value; token_table_of = c.loop-run.invariant.1.cached.ascii; rules_value = c.requires.rules_value; counting_as = g.0; at_in_bounds = g.2 }
+pub look-requires : goal.look-requires
+look-requires c = let g = goes_on c in record { token_table_of = c.loop-run.invariant.1.cached.ascii; rules_value = c.requires.rules_value; counting_as = g.0; at_in_bounds = g.2 }
 
-pub shape_of-index-in-Refused : goal.shape_of-index-in-Refused
-shape_of-index-in-Refused c = c.loop-run.invariant.2
+pub shape_of-index-in-Err : goal.shape_of-index-in-Err
+shape_of-index-in-Err c = c.loop-run.invariant.2
 
-pub shape_of-cells-in-Refused : goal.shape_of-cells-in-Refused
-shape_of-cells-in-Refused c = c.loop-run.invariant.3
+pub shape_of-cells-in-Err : goal.shape_of-cells-in-Err
+shape_of-cells-in-Err c = c.loop-run.invariant.3
 
-pub returns-in-Refused : goal.returns-in-Refused
-returns-in-Refused c = record { value = looked_refused _ _ _ _ _ c.in-Refused.is c.look-going.ensures; learnt = record { rows = _; learning = c.loop-run.invariant.1 } }
+pub returns-in-Err : goal.returns-in-Err
+returns-in-Err c = record { value = c.in-Err.ensures; learnt = record { rows = _; learning = c.loop-run.invariant.1 } }
 
 pub learn_at-rows-requires : goal.learn_at-rows-requires
 learn_at-rows-requires c = record { fits = c.loop-run.invariant.1.cached.fits; at_in_bounds = (goes_on (goal.at.learn_at-rows-requires c).Joined-row-lt-NO_ROW).2 }
 
-stepped : (c : goal.After-with_rows-run)
-    → let a = c.args in
-    CountingAs a.image.now a.text.now c.if-row-lt-NO_ROW.run →
-    CountingAs a.image.now a.text.now c.with_rows-run.result × (c.if-row-lt-NO_ROW.run.at < c.with_rows-run.result.at) × (c.with_rows-run.result.rows ≡ c.learn_at-rows.result)
-stepped c g = looked_on _ _ _ _ _ _ _ c.in-On.is c.with_rows-run.ensures c.look-going.ensures g
-
 pub loop-run-smaller : goal.loop-run-smaller
-loop-run-smaller c = let g = goes_on (goal.at.loop-run-smaller c).Joined-row-lt-NO_ROW in let s = stepped c g.0 in omega (arith, g.1, g.2, s.1)
+loop-run-smaller c = let g = goes_on (goal.at.loop-run-smaller c).Joined-row-lt-NO_ROW in omega (arith, g.1, g.2, c.in-Ok.ensures.on)
 
 pub loop-run-preserved : goal.loop-run-preserved
 loop-run-preserved c =
     let g = goes_on (goal.at.loop-run-preserved c).Joined-row-lt-NO_ROW in
-    let s = stepped c g.0 in
-    let m = looked_memo _ _ _ _ _ c.in-On.is c.look-going.ensures in
-    let l = c.learn_at-rows.ensures.by_index _ c.requires.image_value m (subst (Learning _ _ _) (sym g.3) c.loop-run.invariant.1) in
-    (s.0, subst (Learning _ _ _) (sym s.2) l, omega arith, omega arith)
+    let l = c.learn_at-rows.ensures.by_index _ c.requires.image_value c.in-Ok.ensures.memo (subst (Learning _ _ _) (sym g.3) c.loop-run.invariant.1) in
+    (looked_on _ _ _ _ _ c.in-Ok.ensures g.0, l, omega arith, omega arith)
 
 pub finish-requires : goal.finish-requires
 finish-requires c =

@@ -14,8 +14,8 @@ returns-then-run-eq-WAITING c = rw (eq-eqb _ count_waiting c.if-run-eq-WAITING.t
 pub returns-then-run-text : goal.returns-then-run-text
 returns-then-run-text c = rw (ne_eqb _ count_waiting c.if-run-eq-WAITING.false, lt-ltb _ _ c.if-run-text.true)
 
-pub overflow_add-all : goal.overflow_add-all
-overflow_add-all c = omega (arith, c.count_pending.ensures, pending_two c.args.run.state, c.requires)
+pub overflow_add-result : goal.overflow_add-result
+overflow_add-result c = omega (arith, c.count_pending.ensures, pending_two c.args.run.state, c.requires)
 
 pub returns : goal.returns
 returns c =

@@ -9,7 +9,7 @@ pub returns-then-text-at : goal.returns-then-text-at
 returns-then-text-at c = rw (characters_end c.args.text.now c.args.at c.if-text-at.true)
 
 pub read-c-requires : goal.read-c-requires
-read-c-requires c = record { image_value = c.requires.image_value; table_of = c.requires.table_of; memo_of = c.no_memo.ensures _; at_in_bounds = c.if-text-at.false }
+read-c-requires c = record { table_of = c.requires.table_of; memo_of = c.no_memo.ensures _; at_in_bounds = c.if-text-at.false }
 
 pub returns-then-c-eq0 : goal.returns-then-c-eq0
 returns-then-c-eq0 c = rw (characters_ill c.args.text.now c.args.at (c.read-c.ensures.none c.if-c-eq0.true))

@@ -12,7 +12,7 @@ pub loop-at-init : goal.loop-at-init
 loop-at-init c = (running_begins _ _ _ c.requires.from_in_bounds, c.no_memo-memo.ensures _)
 
 pub read-c-requires : goal.read-c-requires
-read-c-requires c = record { image_value = c.requires.image_value; table_of = c.requires.table_of; memo_of = c.loop-at.invariant.1; at_in_bounds = c.loop-at-test.true }
+read-c-requires c = record { table_of = c.requires.table_of; memo_of = c.loop-at.invariant.1; at_in_bounds = c.loop-at-test.true }
 
 pub returns-then-len-eq0 : goal.returns-then-len-eq0
 returns-then-len-eq0 c = run_ill _ _ c.loop-at.invariant.0 (c.read-c.ensures.none c.if-len-eq0.true)

@@ -8,7 +8,7 @@ pub fill_table-table-requires : goal.fill_table-table-requires
 fill_table-table-requires c = (nothing_refused _ _ _ c.requires).0
 
 pub count_hashtags-counted-requires : goal.count_hashtags-counted-requires
-count_hashtags-counted-requires c = record { image_value = (nothing_refused _ _ _ c.requires).0; table_of = c.fill_table-table.ensures }
+count_hashtags-counted-requires c = record { table_of = c.fill_table-table.ensures }
 
 pub returns-then-out-count : goal.returns-then-out-count
 returns-then-out-count c =
@@ -20,7 +20,7 @@ write_hashtags-requires c =
     let read = nothing_refused _ _ _ c.requires in
     let f = list_fits _ _ c.args.out.now c.requires
     (sym c.in-Records.is ∙ c.count_hashtags-counted.ensures) c.if-out-count.false in
-    record { image_value = read.0; table_of = c.fill_table-table.ensures; text_len_bound = read.1; text_value = f.0; text_in_bounds = f.1 }
+    record { table_of = c.fill_table-table.ensures; text_len_bound = read.1; text_value = f.0; text_in_bounds = f.1 }
 
 pub returns-in-Refused : goal.returns-in-Refused
 returns-in-Refused c = let t = list_ill _ _ _ c.requires (sym c.in-Refused.is ∙ c.count_hashtags-counted.ensures) in record { value = t.0; out_after = t.1 }

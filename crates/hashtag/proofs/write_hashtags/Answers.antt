@@ -7,7 +7,7 @@ pub loop-at-init : goal.loop-at-init
 loop-at-init c = writing_begins _ _ _
 
 pub seek_known-found-requires : goal.seek_known-found-requires
-seek_known-found-requires c = record { image_value = c.requires.image_value; table_of = c.requires.table_of; stops_of = c.fill_stops-stops.ensures; text_len_bound = c.requires.text_len_bound; from_in_bounds = (c.loop-at.invariant.reached.within, writing_known _ _ c.loop-at.invariant c.requires.text_value); line_at = c.loop-at.invariant.lined }
+seek_known-found-requires c = record { table_of = c.requires.table_of; stops_of = c.fill_stops-stops.ensures; text_len_bound = c.requires.text_len_bound; from_in_bounds = (c.loop-at.invariant.reached.within, writing_known _ _ c.loop-at.invariant c.requires.text_value); line_at = c.loop-at.invariant.lined }
 
 pub returns-then-sign : goal.returns-then-sign
 returns-then-sign c = writing_stops _ _ c.loop-at.invariant c.seek_known-found.ensures.sought c.if-sign.true

@@ -1,20 +1,18 @@
 -- `mark::mark_on` meets its contract. Assumes nothing.
-use mathlib.Core.Path.{refl, sym, ap, subst, ◌∙◌}
+use mathlib.Core.Path.{refl, sym, subst, ◌∙◌}
 use mathlib.Core.Logic.{inl, inr}
 use native.Mathlib.Omega.{arith}
+use Rattle.std.proofs.lemmas.Result.{err_from_is_err_and}
 use Rattle.blocks.specs.Blocks.{Learning}
-use Rattle.count.specs.Counting.{LookedOn}
 use Rattle.count.proofs.CountLaws.{counting_few}
-use Rattle.count.proofs.LookLaws.{looked_refused}
-use Rattle.mark.proofs.MarkLaws.{putting, marks_on, looked_as}
+use Rattle.mark.proofs.MarkLaws.{putting, marks_on}
 use Rattle.mark.proofs.mark_on.Goals as goal
-use Rattle.mark.proofs.mark_on.Goals.{In-On}
 
 pub loop-run-init : goal.loop-run-init
 loop-run-init c = (c.requires.marking, c.requires.learning, refl, refl, refl)
 
 pub run_mark-run-requires : goal.run_mark-run-requires
-run_mark-run-requires c = record { image_value = c.requires.image_value; cached = c.loop-run.invariant.1.cached; rules_value = c.requires.rules_value; text_len_bound = c.requires.text_len_bound; marking = c.loop-run.invariant.0 }
+run_mark-run-requires c = record { cached = c.loop-run.invariant.1.cached; rules_value = c.requires.rules_value; text_len_bound = c.requires.text_len_bound; marking = c.loop-run.invariant.0 }
 
 pub overflow_sub-run : goal.overflow_sub-run
 overflow_sub-run c = omega (arith, c.run_mark-run.ensures.0.from)
@@ -22,33 +20,28 @@ overflow_sub-run c = omega (arith, c.run_mark-run.ensures.0.from)
 pub overflow_add-run : goal.overflow_add-run
 overflow_add-run c = omega (arith, counting_few c.run_mark-run.ensures.0.counting.counting, c.requires.text_len_bound)
 
-pub look-going-requires : goal.look-going-requires
-look-going-requires c = record { image_value = c.requires.image_value; token_table_of = c.loop-run.invariant.1.cached.ascii; rules_value = c.requires.rules_value; counting_as = c.run_mark-run.ensures.0.counting; at_in_bounds = c.if-text-run.false }
+pub look-requires : goal.look-requires
+look-requires c = record { token_table_of = c.loop-run.invariant.1.cached.ascii; rules_value = c.requires.rules_value; counting_as = c.run_mark-run.ensures.0.counting; at_in_bounds = c.if-text-run.false }
 
-pub returns-in-Refused : goal.returns-in-Refused
-returns-in-Refused c = record { marked = (looked_refused _ _ _ _ _ c.in-Refused.is c.look-going.ensures, c.run_mark-run.ensures.4 ∙ c.loop-run.invariant.4); learning_on = tt }
-
--- a character was read
-looked : (c : goal.In-On)
-    → let a = c.args in
-    LookedOn a.image.now a.text.now c.run_mark-run.result c.in-On.r
-looked c = looked_as c.in-On.is c.look-going.ensures
+pub returns-in_err-next : goal.returns-in_err-next
+returns-in_err-next c =
+    let p = err_from_is_err_and c.from_residual.result c.from_residual.ensures.1 in
+    rw (p.1, p.2) (record { marked = (c.in_err-next.ensures, c.run_mark-run.ensures.4 ∙ c.loop-run.invariant.4); learning_on = tt })
 
 pub put_starts-requires : goal.put_starts-requires
-put_starts-requires c = record { rules_value = c.requires.rules_value; putting = putting c.run_mark-run.ensures.0 (looked (goal.at.put_starts-requires c).In-On) c.requires.text_len_bound }
+put_starts-requires c = record { rules_value = c.requires.rules_value; putting = putting c.run_mark-run.ensures.0 c.in_ok-next.ensures c.requires.text_len_bound }
 
 pub learn_at-rows-requires : goal.learn_at-rows-requires
 learn_at-rows-requires c = record { fits = c.loop-run.invariant.1.cached.fits; at_in_bounds = c.if-text-run.false }
 
 pub loop-run-smaller : goal.loop-run-smaller
-loop-run-smaller c = omega (arith, ap (λ r. r.at) c.with_rows-run.ensures, (looked (goal.at.loop-run-smaller c).In-On).on, c.run_mark-run.ensures.1, c.if-text-run.false)
+loop-run-smaller c = omega (arith, c.in_ok-next.ensures.on, c.run_mark-run.ensures.1, c.if-text-run.false)
 
 pub loop-run-preserved : goal.loop-run-preserved
 loop-run-preserved c =
-    let l = looked (goal.at.loop-run-preserved c).In-On in
-    let n = c.learn_at-rows.ensures.by_index _ c.requires.image_value l.memo (subst (Learning _ _ _) (sym c.run_mark-run.ensures.3) c.loop-run.invariant.1) in (
-      marks_on c.run_mark-run.ensures.0 l _ _ c.with_rows-run.ensures c.if-starts-run.false (c.put_starts.ensures.0 _ _ c.run_mark-run.ensures.0 l) c.put_starts.ensures.1,
-      subst (Learning _ _ _) (sym (ap (λ r. r.rows) c.with_rows-run.ensures)) n,
+    let n = c.learn_at-rows.ensures.by_index _ c.requires.image_value c.in_ok-next.ensures.memo (subst (Learning _ _ _) (sym c.run_mark-run.ensures.3) c.loop-run.invariant.1) in (
+      marks_on c.run_mark-run.ensures.0 c.in_ok-next.ensures _ c.if-starts-run.false (c.put_starts.ensures.0 _ _ c.run_mark-run.ensures.0 c.in_ok-next.ensures) c.put_starts.ensures.1,
+      n,
       omega arith,
       omega arith,
       c.put_starts.ensures.1 ∙ c.run_mark-run.ensures.4 ∙ c.loop-run.invariant.4,

@@ -1,18 +1,19 @@
 -- `mark::run_mark` meets its contract. Assumes nothing.
-use Prim.Native.Nat.{ℕ, ◌+◌, ◌-◌, ◌≤◌, ◌<◌}
-use mathlib.Core.Path.{◌≡◌, refl, ◌∙◌}
+use Prim.Native.Nat.{◌+◌, ◌-◌}
+use mathlib.Core.Path.{refl, ◌∙◌}
 use native.Mathlib.Omega.{arith}
 use borrow.Author.Rules.{rules}
 use lib.ListN.{length}
-use Rattle.turns.proofs.ReachLaws.{Here, here_small}
+use Rattle.turns.proofs.ReachLaws.{here_small}
+use Rattle.blocks.specs.Blocks.{FoundAt}
 use Rattle.count.proofs.CountLaws.{counting_few}
 use Rattle.count.proofs.RuleLaws.{rule_state}
-use Rattle.count.proofs.KnownLaws.{here_ascii}
-use Rattle.count.specs.Four.{FourSteps}
+use Rattle.count.proofs.KnownLaws.{four_bytes, here_ascii}
+use Rattle.count.specs.Four.{cell_for, FourSteps}
 use Rattle.count.proofs.FourLaws.{small_cells}
 use Rattle.mark.proofs.MarkLaws.{Stepping, walk_begins, walk_ends, steps, steps_known, four_walk}
 use Rattle.mark.proofs.run_mark.Goals as goal
-use Rattle.mark.proofs.run_mark.Goals.{After-widen-traits, Else-step-ge-ODD, Else-step-ge-ODD-2, Else-step-ge-ODD-3, Else-step-ge-ODD-4, Then-four-lt-ODD}
+use Rattle.mark.proofs.run_mark.Goals.{Else-step-ge-ODD, Else-step-ge-ODD-2, Joined-a-lt224, Then-four-lt-ODD, then-a-lt224, else-a-lt224+then-a-lt240, else-a-lt224+else-a-lt240}
 
 pub row_of-row-requires : goal.row_of-row-requires
 row_of-row-requires c = record { rules_value = c.requires.rules_value; state_lt_count_states = c.requires.marking.counting.counting.less }
@@ -29,38 +30,33 @@ loop-at-init c = walk_begins _ c.requires.marking c.requires.text_len_bound c.if
 pub overflow_add-k : goal.overflow_add-k
 overflow_add-k c = omega (arith, c.loop-at.invariant.fits, counting_few c.loop-at.invariant.counting)
 
--- at a place in the loop four bytes stand
-four_bytes : {at end n : ℕ} → at < end → end ≡ n - 3 → at + 4 ≤ n
-four_bytes h e = omega arith
-
 -- an ASCII byte
-stands : (c : goal.After-widen-traits)
-    → Here c.args.image.now c.args.text.now c.loop-at.at 1 c.widen-traits.result
-stands c = here_ascii _ _ _ _ _ c.requires.cached.ascii (omega (arith, four_bytes c.loop-at-test.true c.known_end-end.ensures)) c.if-a-lt128.true c.widen-traits.ensures
-
 ascii : (c : goal.Else-step-ge-ODD)
     → let a = c.args in
     let l = c.loop-at in
-    Stepping a.image.now a.text.now a.done a.run.mark a.run.refused (length a.starts.now) a.run.at (a.done + (a.run.count - a.done)) l.starts c.widen-traits.result c.rule-step.result l.k l.at 1
-ascii c = steps c.requires.image_value c.loop-at.invariant (omega (arith, c.if-starts-k.false)) c.rule-step.ensures c.if-step-ge-ODD.false (stands (record { before = c.before.before.before; type_inv = record { cells = c.type_inv.cells; text = c.type_inv.text; index = c.type_inv.index; image = c.type_inv.image } }))
+    Stepping a.image.now a.text.now a.done a.run.mark a.run.refused (length a.starts.now) a.run.at (a.done + (a.run.count - a.done)) l.starts (cell_for a.cells.now a.text.now l.at) c.rule-step.result l.k l.at 1
+ascii c =
+    let b = four_bytes c.loop-at-test.true c.known_end-end.ensures in
+    steps c.requires.image_value c.loop-at.invariant (omega (arith, c.if-starts-k.false)) c.rule-step.ensures c.if-step-ge-ODD.false (here_ascii _ _ _ _ _ c.requires.cached.ascii (omega arith) c.if-a-lt128.true refl)
 
-two : (c : goal.Else-step-ge-ODD-2)
+-- any other character
+found : (c : goal.Joined-a-lt224)
+    → let a = c.args in
+    FoundAt a.index.now a.cells.now a.text.now c.loop-at.at c.if-a-lt224.traits.1 c.if-a-lt224.traits.0
+found c =
+    elim c.if-a-lt224.branch [
+      | then-a-lt224 w ↦ rw w.traits-is w.known_two.ensures
+      | else-a-lt224+then-a-lt240 w ↦ rw w.traits-is w.known_three.ensures
+      | else-a-lt224+else-a-lt240 w ↦ rw w.traits-is w.known_four.ensures
+    ]
+
+more : (c : goal.Else-step-ge-ODD-2)
     → let a = c.args in
     let l = c.loop-at in
-    Stepping a.image.now a.text.now a.done a.run.mark a.run.refused (length a.starts.now) a.run.at (a.done + (a.run.count - a.done)) l.starts c.known-traits.result c.rule-step-then-a-lt224.result l.k l.at 2
-two c = steps_known c.requires.image_value c.loop-at.invariant (omega (arith, c.if-starts-k.false)) (omega (arith, four_bytes c.loop-at-test.true c.known_end-end.ensures)) c.requires.cached c.known-traits.ensures c.rule-step-then-a-lt224.ensures c.if-step-ge-ODD-2.false
-
-three : (c : goal.Else-step-ge-ODD-3)
-    → let a = c.args in
-    let l = c.loop-at in
-    Stepping a.image.now a.text.now a.done a.run.mark a.run.refused (length a.starts.now) a.run.at (a.done + (a.run.count - a.done)) l.starts c.known-traits-then-a-lt240.result c.rule-step-then-a-lt240.result l.k l.at 3
-three c = steps_known c.requires.image_value c.loop-at.invariant (omega (arith, c.if-starts-k.false)) (omega (arith, four_bytes c.loop-at-test.true c.known_end-end.ensures)) c.requires.cached c.known-traits-then-a-lt240.ensures c.rule-step-then-a-lt240.ensures c.if-step-ge-ODD-3.false
-
-four : (c : goal.Else-step-ge-ODD-4)
-    → let a = c.args in
-    let l = c.loop-at in
-    Stepping a.image.now a.text.now a.done a.run.mark a.run.refused (length a.starts.now) a.run.at (a.done + (a.run.count - a.done)) l.starts c.known-traits-in-loop-at.result c.rule-step-in-loop-at.result l.k l.at 4
-four c = steps_known c.requires.image_value c.loop-at.invariant (omega (arith, c.if-starts-k.false)) (omega (arith, four_bytes c.loop-at-test.true c.known_end-end.ensures)) c.requires.cached c.known-traits-in-loop-at.ensures c.rule-step-in-loop-at.ensures c.if-step-ge-ODD-4.false
+    let t = c.if-a-lt224.traits in
+    FoundAt a.index.now a.cells.now a.text.now l.at t.1 t.0 →
+    Stepping a.image.now a.text.now a.done a.run.mark a.run.refused (length a.starts.now) a.run.at (a.done + (a.run.count - a.done)) l.starts t.0 c.rule-step-in-loop-at.result l.k l.at t.1
+more c f = steps_known c.requires.image_value c.loop-at.invariant (omega (arith, c.if-starts-k.false)) (omega (arith, four_bytes c.loop-at-test.true c.known_end-end.ensures)) c.requires.cached f c.rule-step-in-loop-at.ensures c.if-step-ge-ODD-2.false
 
 pub bounds-text-at : goal.bounds-text-at
 bounds-text-at c = omega (arith, four_bytes c.loop-at-test.true c.known_end-end.ensures)
@@ -98,7 +94,10 @@ pub bounds-cells-a : goal.bounds-cells-a
 bounds-cells-a c = omega (arith, c.requires.cached.ascii.long, c.if-a-lt128.true)
 
 pub rule-step-requires : goal.rule-step-requires
-rule-step-requires c = record { rules_value = c.requires.rules_value; row_lt_rule_rows = (omega (arith, c.loop-at.invariant.small), here_small c.requires.image_value (stands c)) }
+rule-step-requires c =
+    let b = four_bytes c.loop-at-test.true c.known_end-end.ensures in
+    let h = here_ascii c.args.image.now c.args.text.now c.args.cells.now c.loop-at.at (cell_for c.args.cells.now c.args.text.now c.loop-at.at) c.requires.cached.ascii (omega arith) c.if-a-lt128.true refl in
+    record { rules_value = c.requires.rules_value; row_lt_rule_rows = (omega (arith, c.loop-at.invariant.small), here_small c.requires.image_value h) }
 
 pub start_at-requires : goal.start_at-requires
 start_at-requires c = let r = ascii c in (omega arith, r.small)
@@ -121,95 +120,42 @@ loop-at-smaller-then-a-lt128 c = let r = ascii (goal.at.loop-at-smaller-then-a-l
 pub loop-at-preserved-then-a-lt128 : goal.loop-at-preserved-then-a-lt128
 loop-at-preserved-then-a-lt128 c = (ascii (goal.at.loop-at-preserved-then-a-lt128 c).Else-step-ge-ODD).next _ c.start_at.ensures
 
-pub known-traits-requires : goal.known-traits-requires
-known-traits-requires c = record { fits = (c.requires.cached.fits, c.if-index-lt-BLOCKS.false); at_in_bounds = search rules }
+-- more
+pub known_two-requires : goal.known_two-requires
+known_two-requires c = record { fits = (c.requires.cached.fits, c.if-index-lt-BLOCKS.false); at_in_bounds = search rules }
 
-pub rule-step-requires-then-a-lt224 : goal.rule-step-requires-then-a-lt224
-rule-step-requires-then-a-lt224 c = record { rules_value = c.requires.rules_value; row_lt_rule_rows = (omega (arith, c.loop-at.invariant.small), c.known-traits.ensures.small) }
+pub known_three-requires : goal.known_three-requires
+known_three-requires c = record { fits = (c.requires.cached.fits, c.if-index-lt-BLOCKS.false); at_in_bounds = search rules }
 
-pub start_at-requires-then-a-lt224 : goal.start_at-requires-then-a-lt224
-start_at-requires-then-a-lt224 c = let r = two c in (omega arith, r.small)
-
-pub overflow_add-starts-then-a-lt224 : goal.overflow_add-starts-then-a-lt224
-overflow_add-starts-then-a-lt224 c = let r = two (goal.at.overflow_add-starts-then-a-lt224 c).Else-step-ge-ODD-2 in omega arith
-
-pub offset_bounds-starts-k-then-a-lt224 : goal.offset_bounds-starts-k-then-a-lt224
-offset_bounds-starts-k-then-a-lt224 c = let r = two (goal.at.offset_bounds-starts-k-then-a-lt224 c).Else-step-ge-ODD-2 in omega arith
-
-pub bounds-starts-k-then-a-lt224 : goal.bounds-starts-k-then-a-lt224
-bounds-starts-k-then-a-lt224 c = (two (goal.at.bounds-starts-k-then-a-lt224 c).Else-step-ge-ODD-2).place
-
-pub overflow_add-k-then-a-lt224 : goal.overflow_add-k-then-a-lt224
-overflow_add-k-then-a-lt224 c = let r = two (goal.at.overflow_add-k-then-a-lt224 c).Else-step-ge-ODD-2 in omega arith
-
-pub overflow_add-at-then-a-lt224 : goal.overflow_add-at-then-a-lt224
-overflow_add-at-then-a-lt224 c = let r = two (goal.at.overflow_add-at-then-a-lt224 c).Else-step-ge-ODD-2 in omega arith
-
-pub loop-at-smaller-then-a-lt224 : goal.loop-at-smaller-then-a-lt224
-loop-at-smaller-then-a-lt224 c = let r = two (goal.at.loop-at-smaller-then-a-lt224 c).Else-step-ge-ODD-2 in omega arith
-
-pub loop-at-preserved-then-a-lt224 : goal.loop-at-preserved-then-a-lt224
-loop-at-preserved-then-a-lt224 c = (two (goal.at.loop-at-preserved-then-a-lt224 c).Else-step-ge-ODD-2).next _ c.start_at-then-a-lt224.ensures
-
-pub known-traits-requires-then-a-lt240 : goal.known-traits-requires-then-a-lt240
-known-traits-requires-then-a-lt240 c = record { fits = (c.requires.cached.fits, c.if-index-lt-BLOCKS.false); at_in_bounds = search rules }
-
-pub rule-step-requires-then-a-lt240 : goal.rule-step-requires-then-a-lt240
-rule-step-requires-then-a-lt240 c = record { rules_value = c.requires.rules_value; row_lt_rule_rows = (omega (arith, c.loop-at.invariant.small), c.known-traits-then-a-lt240.ensures.small) }
-
-pub start_at-requires-then-a-lt240 : goal.start_at-requires-then-a-lt240
-start_at-requires-then-a-lt240 c = let r = three c in (omega arith, r.small)
-
-pub overflow_add-starts-then-a-lt240 : goal.overflow_add-starts-then-a-lt240
-overflow_add-starts-then-a-lt240 c = let r = three (goal.at.overflow_add-starts-then-a-lt240 c).Else-step-ge-ODD-3 in omega arith
-
-pub offset_bounds-starts-k-then-a-lt240 : goal.offset_bounds-starts-k-then-a-lt240
-offset_bounds-starts-k-then-a-lt240 c = let r = three (goal.at.offset_bounds-starts-k-then-a-lt240 c).Else-step-ge-ODD-3 in omega arith
-
-pub bounds-starts-k-then-a-lt240 : goal.bounds-starts-k-then-a-lt240
-bounds-starts-k-then-a-lt240 c = (three (goal.at.bounds-starts-k-then-a-lt240 c).Else-step-ge-ODD-3).place
-
-pub overflow_add-k-then-a-lt240 : goal.overflow_add-k-then-a-lt240
-overflow_add-k-then-a-lt240 c = let r = three (goal.at.overflow_add-k-then-a-lt240 c).Else-step-ge-ODD-3 in omega arith
-
-pub overflow_add-at-then-a-lt240 : goal.overflow_add-at-then-a-lt240
-overflow_add-at-then-a-lt240 c = let r = three (goal.at.overflow_add-at-then-a-lt240 c).Else-step-ge-ODD-3 in omega arith
-
-pub loop-at-smaller-then-a-lt240 : goal.loop-at-smaller-then-a-lt240
-loop-at-smaller-then-a-lt240 c = let r = three (goal.at.loop-at-smaller-then-a-lt240 c).Else-step-ge-ODD-3 in omega arith
-
-pub loop-at-preserved-then-a-lt240 : goal.loop-at-preserved-then-a-lt240
-loop-at-preserved-then-a-lt240 c = (three (goal.at.loop-at-preserved-then-a-lt240 c).Else-step-ge-ODD-3).next _ c.start_at-then-a-lt240.ensures
-
-pub known-traits-requires-in-loop-at : goal.known-traits-requires-in-loop-at
-known-traits-requires-in-loop-at c = record { fits = (c.requires.cached.fits, c.if-index-lt-BLOCKS.false); at_in_bounds = search rules }
+pub known_four-requires : goal.known_four-requires
+known_four-requires c = record { fits = (c.requires.cached.fits, c.if-index-lt-BLOCKS.false); at_in_bounds = search rules }
 
 pub rule-step-requires-in-loop-at : goal.rule-step-requires-in-loop-at
-rule-step-requires-in-loop-at c = record { rules_value = c.requires.rules_value; row_lt_rule_rows = (omega (arith, c.loop-at.invariant.small), c.known-traits-in-loop-at.ensures.small) }
+rule-step-requires-in-loop-at c = record { rules_value = c.requires.rules_value; row_lt_rule_rows = (omega (arith, c.loop-at.invariant.small), (found c).small) }
 
 pub start_at-requires-in-loop-at : goal.start_at-requires-in-loop-at
-start_at-requires-in-loop-at c = let r = four c in (omega arith, r.small)
+start_at-requires-in-loop-at c = let r = more c (found (goal.at.start_at-requires-in-loop-at c).Joined-a-lt224) in (omega arith, r.small)
 
 pub overflow_add-starts-in-loop-at : goal.overflow_add-starts-in-loop-at
-overflow_add-starts-in-loop-at c = let r = four (goal.at.overflow_add-starts-in-loop-at c).Else-step-ge-ODD-4 in omega arith
+overflow_add-starts-in-loop-at c = let r = more (goal.at.overflow_add-starts-in-loop-at c).Else-step-ge-ODD-2 (found (goal.at.overflow_add-starts-in-loop-at c).Joined-a-lt224) in omega arith
 
 pub offset_bounds-starts-k-in-loop-at : goal.offset_bounds-starts-k-in-loop-at
-offset_bounds-starts-k-in-loop-at c = let r = four (goal.at.offset_bounds-starts-k-in-loop-at c).Else-step-ge-ODD-4 in omega arith
+offset_bounds-starts-k-in-loop-at c = let r = more (goal.at.offset_bounds-starts-k-in-loop-at c).Else-step-ge-ODD-2 (found (goal.at.offset_bounds-starts-k-in-loop-at c).Joined-a-lt224) in omega arith
 
 pub bounds-starts-k-in-loop-at : goal.bounds-starts-k-in-loop-at
-bounds-starts-k-in-loop-at c = (four (goal.at.bounds-starts-k-in-loop-at c).Else-step-ge-ODD-4).place
+bounds-starts-k-in-loop-at c = (more (goal.at.bounds-starts-k-in-loop-at c).Else-step-ge-ODD-2 (found (goal.at.bounds-starts-k-in-loop-at c).Joined-a-lt224)).place
 
 pub overflow_add-k-in-loop-at : goal.overflow_add-k-in-loop-at
-overflow_add-k-in-loop-at c = let r = four (goal.at.overflow_add-k-in-loop-at c).Else-step-ge-ODD-4 in omega arith
+overflow_add-k-in-loop-at c = let r = more (goal.at.overflow_add-k-in-loop-at c).Else-step-ge-ODD-2 (found (goal.at.overflow_add-k-in-loop-at c).Joined-a-lt224) in omega arith
 
 pub overflow_add-at-in-loop-at : goal.overflow_add-at-in-loop-at
-overflow_add-at-in-loop-at c = let r = four (goal.at.overflow_add-at-in-loop-at c).Else-step-ge-ODD-4 in omega arith
+overflow_add-at-in-loop-at c = let r = more (goal.at.overflow_add-at-in-loop-at c).Else-step-ge-ODD-2 (found (goal.at.overflow_add-at-in-loop-at c).Joined-a-lt224) in omega arith
 
 pub loop-at-smaller : goal.loop-at-smaller
-loop-at-smaller c = let r = four (goal.at.loop-at-smaller c).Else-step-ge-ODD-4 in omega arith
+loop-at-smaller c = let r = more (goal.at.loop-at-smaller c).Else-step-ge-ODD-2 (found (goal.at.loop-at-smaller c).Joined-a-lt224) in omega arith
 
 pub loop-at-preserved : goal.loop-at-preserved
-loop-at-preserved c = (four (goal.at.loop-at-preserved c).Else-step-ge-ODD-4).next _ c.start_at-in-loop-at.ensures
+loop-at-preserved c = (more (goal.at.loop-at-preserved c).Else-step-ge-ODD-2 (found (goal.at.loop-at-preserved c).Joined-a-lt224)).next _ c.start_at-in-loop-at.ensures
 
 pub rule-requires : goal.rule-requires
 rule-requires c = record { rules_value = c.requires.rules_value; row_lt_rule_rows = (omega arith, c.loop-at.invariant.small) }

@@ -5,7 +5,7 @@ use Rattle.mark.proofs.MarkLaws.{Walked}
 use Rattle.mark.proofs.run_mark.Given as goal
 
 abbrev pub invariant-loop-at : goal.invariant-loop-at
-invariant-loop-at l = Walked l.image l.text l.done l.mark l.refused (length l.initial.starts) l.initial.at (l.done + l.initial.k) l.starts l.row l.k l.last l.at
+invariant-loop-at l = Walked l.image l.text l.done l.run.mark l.run.refused (length l.initial.starts) l.initial.at (l.done + l.initial.k) l.starts l.row l.k l.last l.at
 
 abbrev pub decreases-loop-at : goal.decreases-loop-at
 decreases-loop-at l = length l.text - l.at

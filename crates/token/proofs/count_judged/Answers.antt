@@ -15,13 +15,13 @@ may_read : (c : goal.In-Accepted) → before_text max_text c.args.image.now c.ar
 may_read c = is_accepted _ c.requires c.in-Accepted.is
 
 pub count_with-requires : goal.count_with-requires
-count_with-requires c = record { image_value = (nothing_refused _ _ _ (may_read (goal.at.count_with-requires c).In-Accepted)).0; blank = (blank _ refl, blank _ refl, search rules) }
+count_with-requires c = record { blank = (blank _ refl, blank _ refl, search rules) }
 
 pub returns-then-text-lt-SHORT : goal.returns-then-text-lt-SHORT
 returns-then-text-lt-SHORT c = c.count_with.ensures ∙ count_through_lem _ _ (may_read (goal.at.returns-then-text-lt-SHORT c).In-Accepted)
 
 pub count_with-requires-in-Accepted : goal.count_with-requires-in-Accepted
-count_with-requires-in-Accepted c = record { image_value = (nothing_refused _ _ _ (may_read (goal.at.count_with-requires-in-Accepted c).In-Accepted)).0; blank = (blank _ refl, blank _ refl, search rules) }
+count_with-requires-in-Accepted c = record { blank = (blank _ refl, blank _ refl, search rules) }
 
 pub returns-in-Refused : goal.returns-in-Refused
 returns-in-Refused c = count_refused _ _ (is_refused _ c.requires c.in-Refused.is)

@@ -12,7 +12,6 @@ pub count_on-requires : goal.count_on-requires
 count_on-requires c =
     let counting = c.begin-run.ensures.0 c.args.image.now in
     record {
-      image_value = c.requires.image_value;
       learning = learning_from c.begin-run.ensures.1 (c.begin-rows.ensures.0 c.args.index.now c.requires.blank.0);
       rules_value = refl;
       counting_as = record { start = 0; counting = counting.0; memo = counting.1 };

@@ -15,10 +15,10 @@ may_read : (c : goal.In-Accepted) → before_text max_text c.args.image.now c.ar
 may_read c = is_accepted _ c.requires c.in-Accepted.is
 
 pub list_with-requires : goal.list_with-requires
-list_with-requires c = let n = nothing_refused _ _ _ (may_read (goal.at.list_with-requires c).In-Accepted) in record { image_value = n.0; blank = (blank _ refl, blank _ refl, search rules); text_len_bound = n.1; in_bounds = search rules }
+list_with-requires c = let n = nothing_refused _ _ _ (may_read (goal.at.list_with-requires c).In-Accepted) in record { blank = (blank _ refl, blank _ refl, search rules); text_len_bound = n.1; in_bounds = search rules }
 
 pub list_with-requires-in-Accepted : goal.list_with-requires-in-Accepted
-list_with-requires-in-Accepted c = let n = nothing_refused _ _ _ (may_read (goal.at.list_with-requires-in-Accepted c).In-Accepted) in record { image_value = n.0; blank = (blank _ refl, blank _ refl, search rules); text_len_bound = n.1; in_bounds = search rules }
+list_with-requires-in-Accepted c = let n = nothing_refused _ _ _ (may_read (goal.at.list_with-requires-in-Accepted c).In-Accepted) in record { blank = (blank _ refl, blank _ refl, search rules); text_len_bound = n.1; in_bounds = search rules }
 
 pub returns-in-Refused : goal.returns-in-Refused
 returns-in-Refused c = let t = list_refused _ _ _ (is_refused _ c.requires c.in-Refused.is) in record { value = t.0; out_after = t.1 }

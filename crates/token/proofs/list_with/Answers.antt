@@ -3,7 +3,6 @@ use mathlib.Core.Path.{refl, sym, ◌∙◌}
 use native.Mathlib.Omega.{arith}
 use lib.ListN.{length}
 use borrow.Author.Tests.{leb-true, leb-false}
-use Rattle.mark.proofs.MarkedLaws.{marked_refused, marked_on, learnt_on}
 use Rattle.token.proofs.AnswerLaws.{list_stopped, list_no_room, list_given, room_words}
 use Rattle.token.proofs.EndLaws.{empty_counted, none_written, not_zero}
 use Rattle.token.proofs.list_with.Goals as goal
@@ -13,11 +12,11 @@ returns-then-text-eq0 c =
     let e = empty_counted c.args.image.now c.args.text.now c.if-text-eq0.true in
     let g = list_given c.args.image.now c.args.text.now c.args.out.now c.requires.image_value c.requires.text_len_bound e (omega arith) in record { value = g.0; out_after = none_written c.args.image.now c.args.text.now c.args.out.now (sym e) ∙ g.1 }
 
-pub mark_first-going-requires : goal.mark_first-going-requires
-mark_first-going-requires c = record { image_value = c.requires.image_value; learning = c.begin-rows.ensures.0 c.args.index.now c.requires.blank.0; rules_value = refl; text_nonzero = (not_zero _ c.if-text-eq0.false, c.requires.text_len_bound); margin_in_bounds = omega (arith, c.requires.in_bounds) }
+pub mark_first-requires : goal.mark_first-requires
+mark_first-requires c = record { learning = c.begin-rows.ensures.0 c.args.index.now c.requires.blank.0; rules_value = refl; text_nonzero = (not_zero _ c.if-text-eq0.false, c.requires.text_len_bound); margin_in_bounds = omega (arith, c.requires.in_bounds) }
 
 pub count_on-counted-requires : goal.count_on-counted-requires
-count_on-counted-requires c = record { image_value = c.requires.image_value; learning = learnt_on _ _ _ _ _ c.in-On.is c.mark_first-going.ensures.learning_on; rules_value = refl; counting_as = (marked_on _ _ _ _ _ _ c.in-On.is c.mark_first-going.ensures.marked.0).marking.counting }
+count_on-counted-requires c = record { learning = c.in-Ok.ensures.learning_on; rules_value = refl; counting_as = c.in-Ok.ensures.marked.0.marking.counting }
 
 pub returns-then-not-is_room : goal.returns-then-not-is_room
 returns-then-not-is_room c = let t = list_no_room _ _ _ c.requires.image_value c.requires.text_len_bound (sym c.in-Records.is ∙ c.count_on-counted.ensures.value) (leb-false _ _ (sym c.is_room.ensures ∙ c.if-not-is_room.true)) in record { value = t.0; out_after = t.1 }
@@ -26,18 +25,17 @@ pub write_all-requires : goal.write_all-requires
 write_all-requires c =
     let h = leb-true _ _ (sym c.is_room.ensures ∙ c.if-not-is_room.false) in
     record {
-      image_value = c.requires.image_value;
       learnt = c.count_on-counted.ensures.learnt;
       listing = record { counted = sym c.count_on-counted.ensures.value ∙ c.in-Records.is; short = c.requires.text_len_bound; room = room_words _ (length c.args.out.now) h };
-      marking = (marked_on _ _ _ _ _ _ c.in-On.is c.mark_first-going.ensures.marked.0).marking;
-      in_bounds = omega (arith, c.requires.in_bounds, c.mark_first-going.ensures.marked.1);
+      marking = c.in-Ok.ensures.marked.0.marking;
+      in_bounds = omega (arith, c.requires.in_bounds, c.in-Ok.ensures.marked.1);
     }
 
-pub returns-in-Refused : goal.returns-in-Refused
-returns-in-Refused c = let t = list_stopped _ _ _ c.requires.image_value c.requires.text_len_bound (marked_refused _ _ _ _ _ _ c.in-Refused.is c.mark_first-going.ensures.marked.0) in record { value = t.0; out_after = t.1 }
+pub returns-in-Err : goal.returns-in-Err
+returns-in-Err c = let t = list_stopped _ _ _ c.requires.image_value c.requires.text_len_bound c.in-Err.ensures.marked.0 in record { value = t.0; out_after = t.1 }
 
-pub returns-in-Refused-counted : goal.returns-in-Refused-counted
-returns-in-Refused-counted c = let t = list_stopped _ _ _ c.requires.image_value c.requires.text_len_bound (sym c.in-Refused-counted.is ∙ c.count_on-counted.ensures.value) in record { value = t.0; out_after = t.1 }
+pub returns-in-Refused : goal.returns-in-Refused
+returns-in-Refused c = let t = list_stopped _ _ _ c.requires.image_value c.requires.text_len_bound (sym c.in-Refused.is ∙ c.count_on-counted.ensures.value) in record { value = t.0; out_after = t.1 }
 
 pub returns-else-not-is_room : goal.returns-else-not-is_room
 returns-else-not-is_room c =

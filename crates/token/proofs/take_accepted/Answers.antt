@@ -40,10 +40,10 @@ pub returns-then-text-place : goal.returns-then-text-place
 returns-then-text-place c = taken_past _ _ _ c.requires c.if-text-place.true
 
 pub fill_cells-requires : goal.fill_cells-requires
-fill_cells-requires c = record { image_value = (nothing_refused _ _ _ c.requires).0; out_bound = omega arith; tag_bound = omega arith }
+fill_cells-requires c = record { out_bound = omega arith; tag_bound = omega arith }
 
 pub first_token-first-requires : goal.first_token-first-requires
-first_token-first-requires c = record { image_value = (nothing_refused _ _ _ c.requires).0; token_table_of = table_of _ c.fill_cells.ensures }
+first_token-first-requires c = record { token_table_of = table_of _ c.fill_cells.ensures }
 
 pub overflow_add-result : goal.overflow_add-result
 overflow_add-result c =

@@ -7,4 +7,4 @@ use Rattle.turns.proofs.TableLaws.{turn_at}
 use Rattle.turns.proofs.find_turn.Goals as goal
 
 pub returns : goal.returns
-returns c = c.widen.ensures ∙ ap (λ (xs : List ℕ). get_or xs (c.args.state * 16 + c.args.traits) 0) c.requires.turns_value ∙ turn_at _ _ c.requires.state_lt_states.0 c.requires.state_lt_states.1
+returns c = ap (λ (xs : List ℕ). get_or xs (c.args.state * 16 + c.args.traits) 0) c.requires.turns_value ∙ turn_at _ _ c.requires.state_lt_states.0 c.requires.state_lt_states.1
