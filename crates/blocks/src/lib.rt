@@ -12,7 +12,6 @@ ghost use Rattle.character.specs.Read.{MemoOf};
 ghost use Rattle.blocks.specs.Blocks.{block_size, block_count, Fits, Learning, Blank, HeldAt, FoundAt, BlockLong, Meets, Put, RowPut, Learns};
 
 use character::Memo;
-use image::ClassImage;
 use image::{ClassImage, START};
 
 // The code points of a block.
@@ -88,6 +87,7 @@ pub fn begin(image: &ClassImage, cells: &mut [u8]) -> usize
     requires in_bounds { (128 ≤ length cells.old) × Blank cells.old }
     ensures { ((index : List ℕ) → Blank index → Learning image.now index cells.new result) × (length cells.new ≡ length cells.old) }
 {
+    image.recall();
     character::fill_cells(image, 0, 0, &mut cells[..ASCII]);
     if FIRST_ROW * BLOCK <= cells.len() {
         for i in ASCII..FIRST_ROW * BLOCK {

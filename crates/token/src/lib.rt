@@ -21,7 +21,7 @@ use count::{Run, WAITING};
 use grammar::{MAX_TEXT, RECORD_WORDS};
 use image::ClassImage;
 use given::Judgement;
-use grammar::{Counted, MAX_TEXT, RECORD_WORDS};
+use grammar::{MAX_TEXT, RECORD_WORDS};
 use refusal::Refusal;
 use turns::First;
 use write::Written;

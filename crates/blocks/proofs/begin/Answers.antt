@@ -20,7 +20,7 @@ pub fill_cells-requires : goal.fill_cells-requires
 fill_cells-requires c = record { out_bound = omega (arith, length-take 128 c.args.cells.now); tag_bound = omega arith }
 
 pub returns-else-cells : goal.returns-else-cells
-returns-else-cells c = (begins c.requires.image_value (beginning _ c.requires.in_bounds.1 (room c.args.cells.now c.requires.in_bounds.0) c.fill_cells.ensures) (omega arith) (λ h. absurd (omega (arith, c.if-cells.false))), kept_long c.args.cells.now c.fill_cells.ensures)
+returns-else-cells c = (begins c.recall.ensures (beginning _ c.requires.in_bounds.1 (room c.args.cells.now c.requires.in_bounds.0) c.fill_cells.ensures) (omega arith) (λ h. absurd (omega (arith, c.if-cells.false))), kept_long c.args.cells.now c.fill_cells.ensures)
 
 pub loop-i-init : goal.loop-i-init
 loop-i-init c = (beginning _ c.requires.in_bounds.1 (room c.args.cells.now c.requires.in_bounds.0) c.fill_cells.ensures, omega arith, refl)
@@ -34,4 +34,4 @@ loop-i-preserved c =
     (beginning_more _ t (omega (arith, c.cell_of.ensures)) c.loop-i.invariant.0, omega (arith, c.loop-i-test.true), length-set c.loop-i.cells c.loop-i.i _ ∙ c.loop-i.invariant.2)
 
 pub returns-after-loop-i : goal.returns-after-loop-i
-returns-after-loop-i c = (begins c.requires.image_value c.loop-i.invariant.0 c.loop-i.invariant.1 (λ h. c.loop-i-test.false), c.loop-i.invariant.2 ∙ kept_long c.args.cells.now c.fill_cells.ensures)
+returns-after-loop-i c = (begins c.recall.ensures c.loop-i.invariant.0 c.loop-i.invariant.1 (λ h. c.loop-i-test.false), c.loop-i.invariant.2 ∙ kept_long c.args.cells.now c.fill_cells.ensures)
