@@ -108,6 +108,7 @@ pub fn first_token<'a>(image: &ClassImage, table: &'a [u8], text: &'a [u8]) -> F
     requires token_table_of { TokenTableOf image.now table.now }
     ensures { result ≡ first_of image.now text.now }
 {
+    image.recall();
     let turns = TURNS;
     let after = AFTER;
     let waiting = WAITING_AFTER;

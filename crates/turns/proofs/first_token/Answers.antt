@@ -18,7 +18,7 @@ looked : (c : goal.After-find_turn)
     let l = c.loop-at in
     let r = c.read_for_tokens-c.result in
     Here a.image.now a.text.now l.at r.len r.traits → Look a.image.now a.text.now l.state l.at r.len r.traits c.find_turn.result
-looked c h = record { accepted = c.requires.image_value; here = h; known = c.find_turn.ensures }
+looked c h = record { accepted = c.recall.ensures; here = h; known = c.find_turn.ensures }
 
 pub loop-at-init : goal.loop-at-init
 loop-at-init c = (searching_begins _ _, c.no_memo-memo.ensures _)
@@ -35,13 +35,13 @@ returns-else-at-eq0 c =
     c.end_first.ensures ∙ first_last c.loop-at.invariant.0 e c.if-at-eq0.false
 
 pub find_turn-requires : goal.find_turn-requires
-find_turn-requires c = record { turns_value = refl; state_lt_states = (searching_less c.loop-at.invariant.0, here_small c.requires.image_value (stands (goal.at.find_turn-requires c).Else-c-eq0)) }
+find_turn-requires c = record { turns_value = refl; state_lt_states = (searching_less c.loop-at.invariant.0, here_small c.recall.ensures (stands (goal.at.find_turn-requires c).Else-c-eq0)) }
 
 pub state_after-state-requires : goal.state_after-state-requires
-state_after-state-requires c = record { after_value = refl; traits_bound = here_small c.requires.image_value (stands (goal.at.state_after-state-requires c).Else-c-eq0) }
+state_after-state-requires c = record { after_value = refl; traits_bound = here_small c.recall.ensures (stands (goal.at.state_after-state-requires c).Else-c-eq0) }
 
 pub waiting_after-state-requires : goal.waiting_after-state-requires
-waiting_after-state-requires c = record { waiting_value = refl; traits_bound = here_small c.requires.image_value (stands (goal.at.waiting_after-state-requires c).Else-c-eq0) }
+waiting_after-state-requires c = record { waiting_value = refl; traits_bound = here_small c.recall.ensures (stands (goal.at.waiting_after-state-requires c).Else-c-eq0) }
 
 pub returns-in_default : goal.returns-in_default
 returns-in_default c =
