@@ -258,6 +258,7 @@ pub fn look<'a>(
     requires at_in_bounds { run.at < length text.now }
     ensures { Looked image.now text.now run result }
 {
+    image.recall();
     let c = character::read_for_tokens(image, cells, run.memo, text, run.at);
     if c.len == 0 {
         return Err(grammar::refuse_at(text, run.at));
@@ -356,6 +357,7 @@ fn run_count<'a>(
     requires counting_as { CountingAs image.now text.now run }
     ensures { CountingAs image.now text.now result × (run.at ≤ result.at) × (result.rows ≡ run.rows) }
 {
+    image.recall();
     let end = known_end(text.len());
     let mut at = run.at;
     let mut row = row;
@@ -441,6 +443,7 @@ pub fn count_on<'a>(
     ensures value { result ≡ count_through image.now text.now }
     ensures learnt { Learnt image.now index.new cells.new }
 {
+    image.recall();
     let mut run = run;
     while run.at < text.len() {
         let row = row_of(rules, run.state);

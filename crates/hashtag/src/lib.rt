@@ -95,6 +95,7 @@ fn continues_at<'a>(image: &ClassImage, table: &'a [u8; 128], text: &'a [u8], at
     requires table_of { TableOf image.now table.now }
     ensures { result ≡ continues_first image.now (characters_at text.now at) }
 {
+    image.recall();
     if text.len() <= at {
         return false;
     }
@@ -111,6 +112,7 @@ fn find_run_end<'a>(image: &ClassImage, table: &'a [u8; 128], text: &'a [u8], fr
     requires from_in_bounds { from ≤ length text.now }
     ensures { (result ≡ from + width_of (run_of image.now (characters_at text.now from))) × (result ≤ length text.now) }
 {
+    image.recall();
     let mut memo = character::no_memo();
     let mut at = from;
     while at < text.len() {

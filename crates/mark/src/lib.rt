@@ -79,6 +79,7 @@ fn run_mark<'a>(
     requires marking { Marking image.now text.now starts.old done run }
     ensures { Marking image.now text.now starts.new done result × (run.at ≤ result.at) × (run.count ≤ result.count) × (result.rows ≡ run.rows) × (length starts.new ≡ length starts.old) }
 {
+    image.recall();
     let mut row = count::row_of(rules, run.state);
     if NO_ROW <= row {
         return run;
@@ -192,6 +193,7 @@ pub fn mark_on<'a>(
     ensures marked { Marked image.now text.now starts.new done result × (length starts.new ≡ length starts.old) }
     ensures learning_on { LearningOn image.now index.new cells.new result }
 {
+    image.recall();
     let mut run = run;
     while run.at < text.len() {
         run = run_mark(image, index, cells, rules, text, starts, done, run);
@@ -226,6 +228,7 @@ pub fn mark_first<'a>(
     ensures marked { Marked image.now text.now starts.new 0 result × (length starts.new ≡ length starts.old) }
     ensures learning_on { LearningOn image.now index.new cells.new result }
 {
+    image.recall();
     let first = count::begin(text, rows);
     let next = count::look(image, cells, rules, text, first)?;
     put_start(rules, starts, 0, 0, next.state);

@@ -176,6 +176,7 @@ fn list_with<'a>(
     ensures value { result ≡ counted_by (list_of image.now text.now (length out.old)) }
     ensures out_after { out.new ≡ list_words image.now text.now out.old }
 {
+    image.recall();
     if text.len() == 0 {
         return Ok(0);
     }

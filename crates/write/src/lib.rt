@@ -96,6 +96,7 @@ pub fn put_records<'a>(
     ensures written_to_2 { WrittenTo image.now text.now (from.w / record_size + n) result }
     ensures wrote { Wrote image.now text.now out.old out.new (from.w / record_size) n total × (length out.new ≡ length out.old) }
 {
+    image.recall();
     let kinds = turns::AFTER;
     let mut w = from.w;
     let mut line = from.line;

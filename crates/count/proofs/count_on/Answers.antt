@@ -61,7 +61,7 @@ loop-run-smaller c = let g = goes_on (goal.at.loop-run-smaller c).Joined-row-lt-
 pub loop-run-preserved : goal.loop-run-preserved
 loop-run-preserved c =
     let g = goes_on (goal.at.loop-run-preserved c).Joined-row-lt-NO_ROW in
-    let l = c.learn_at-rows.ensures.by_index _ c.requires.image_value c.in-Ok.ensures.memo (subst (Learning _ _ _) (sym g.3) c.loop-run.invariant.1) in
+    let l = c.learn_at-rows.ensures.by_index _ c.recall.ensures c.in-Ok.ensures.memo (subst (Learning _ _ _) (sym g.3) c.loop-run.invariant.1) in
     (looked_on _ _ _ _ _ c.in-Ok.ensures g.0, l, omega arith, omega arith)
 
 pub finish-requires : goal.finish-requires

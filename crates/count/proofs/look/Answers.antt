@@ -22,7 +22,7 @@ looked : (c : goal.After-rule-turn)
     → let a = c.args in
     let r = c.read_for_tokens-c.result in
     Here a.image.now a.text.now a.run.at r.len r.traits → CountLook a.image.now a.text.now a.run.state a.run.at r.len r.traits c.rule-turn.result
-looked c h = record { accepted = c.requires.image_value; here = h; known = c.rule-turn.ensures ∙ rule_turn _ _ c.requires.counting_as.counting.less }
+looked c h = record { accepted = c.recall.ensures; here = h; known = c.rule-turn.ensures ∙ rule_turn _ _ c.requires.counting_as.counting.less }
 
 -- what waits is settled
 settled : (c : goal.Else-run-eq-WAITING)
@@ -37,13 +37,13 @@ looked_next : (c : goal.After-rule-turn-2)
     → let a = c.args in
     let r = c.read_for_tokens-c.result in
     Here a.image.now a.text.now a.run.at r.len r.traits → CountLook a.image.now a.text.now (settled_run a.run).state a.run.at r.len r.traits c.rule-turn-2.result
-looked_next c h = record { accepted = c.requires.image_value; here = h; known = c.rule-turn-2.ensures ∙ rule_turn _ _ (omega (arith, c.requires.counting_as.counting.less)) }
+looked_next c h = record { accepted = c.recall.ensures; here = h; known = c.rule-turn-2.ensures ∙ rule_turn _ _ (omega (arith, c.requires.counting_as.counting.less)) }
 
 pub returns-then-c-eq0 : goal.returns-then-c-eq0
 returns-then-c-eq0 c = ap Err c.refuse_at.ensures ∙ counts_ill c.requires.counting_as.counting (c.read_for_tokens-c.ensures.none c.if-c-eq0.true)
 
 pub rule-turn-requires : goal.rule-turn-requires
-rule-turn-requires c = record { rules_value = c.requires.rules_value; row_lt_rule_rows = (omega (arith, c.requires.counting_as.counting.less), here_small c.requires.image_value (stands (goal.at.rule-turn-requires c).Else-c-eq0)) }
+rule-turn-requires c = record { rules_value = c.requires.rules_value; row_lt_rule_rows = (omega (arith, c.requires.counting_as.counting.less), here_small c.recall.ensures (stands (goal.at.rule-turn-requires c).Else-c-eq0)) }
 
 pub advance-requires : goal.advance-requires
 advance-requires c = record { rules_value = c.requires.rules_value; counting_as = c.requires.counting_as; count_look = looked (goal.at.advance-requires c).After-rule-turn (stands (goal.at.advance-requires c).Else-c-eq0); memo_of = (c.read_for_tokens-c.ensures.memo, c.if-turn-ne-SETTLES.true) }
@@ -57,7 +57,7 @@ pub overflow_add-next : goal.overflow_add-next
 overflow_add-next c = omega (arith, counting_few (settled (goal.at.overflow_add-next c).Else-run-eq-WAITING (looked (goal.at.overflow_add-next c).After-rule-turn (stands (goal.at.overflow_add-next c).Else-c-eq0)) _ c.requires.counting_as.counting))
 
 pub rule-turn-requires-2 : goal.rule-turn-requires-2
-rule-turn-requires-2 c = record { rules_value = c.requires.rules_value; row_lt_rule_rows = (omega (arith, c.requires.counting_as.counting.less), here_small c.requires.image_value (stands (goal.at.rule-turn-requires-2 c).Else-c-eq0)) }
+rule-turn-requires-2 c = record { rules_value = c.requires.rules_value; row_lt_rule_rows = (omega (arith, c.requires.counting_as.counting.less), here_small c.recall.ensures (stands (goal.at.rule-turn-requires-2 c).Else-c-eq0)) }
 
 pub advance-requires-2 : goal.advance-requires-2
 advance-requires-2 c =

@@ -30,10 +30,10 @@ took : (c : goal.Then-four-lt-ODD)
     → let a = c.args in
     let l = c.loop-at in
     RanFour a.image.now a.text.now a.run.mark a.run.refused a.run.at (cell_for a.cells.now a.text.now (l.at + 3)) c.four_steps-four.result l.count l.at
-took c = ran_four c.requires.cached.ascii c.requires.image_value c.loop-at.invariant (taken c) (four_bytes c.loop-at-test.true c.known_end-end.ensures)
+took c = ran_four c.requires.cached.ascii c.recall.ensures c.loop-at.invariant (taken c) (four_bytes c.loop-at-test.true c.known_end-end.ensures)
 
 pub four_steps-four-requires : goal.four_steps-four-requires
-four_steps-four-requires c = record { small_cells = small_cells c.requires.cached.ascii c.requires.image_value; rules_value = c.requires.rules_value; row_bound = (c.loop-at.invariant.small, four_bytes c.loop-at-test.true c.known_end-end.ensures, c.if-a-lt128.true) }
+four_steps-four-requires c = record { small_cells = small_cells c.requires.cached.ascii c.recall.ensures; rules_value = c.requires.rules_value; row_bound = (c.loop-at.invariant.small, four_bytes c.loop-at-test.true c.known_end-end.ensures, c.if-a-lt128.true) }
 
 pub overflow_add-count : goal.overflow_add-count
 overflow_add-count c = omega (arith, (took c).few)
@@ -64,7 +64,7 @@ pub rule-step-requires : goal.rule-step-requires
 rule-step-requires c =
     let b = four_bytes c.loop-at-test.true c.known_end-end.ensures in
     let h = here_ascii c.args.image.now c.args.text.now c.args.cells.now c.loop-at.at (cell_for c.args.cells.now c.args.text.now c.loop-at.at) c.requires.cached.ascii (omega arith) c.if-a-lt128.true refl in
-    record { rules_value = c.requires.rules_value; row_lt_rule_rows = (omega (arith, c.loop-at.invariant.small), here_small c.requires.image_value h) }
+    record { rules_value = c.requires.rules_value; row_lt_rule_rows = (omega (arith, c.loop-at.invariant.small), here_small c.recall.ensures h) }
 
 once : (c : goal.Else-step-ge-ODD)
     → let a = c.args in
@@ -72,7 +72,7 @@ once : (c : goal.Else-step-ge-ODD)
     Ran a.image.now a.text.now a.run.mark a.run.refused a.run.at (cell_for a.cells.now a.text.now l.at) c.rule-step.result l.count l.at 1
 once c =
     let b = four_bytes c.loop-at-test.true c.known_end-end.ensures in
-    ran c.requires.image_value c.loop-at.invariant (omega arith) c.rule-step.ensures c.if-step-ge-ODD.false (here_ascii _ _ _ _ _ c.requires.cached.ascii (omega arith) c.if-a-lt128.true refl)
+    ran c.recall.ensures c.loop-at.invariant (omega arith) c.rule-step.ensures c.if-step-ge-ODD.false (here_ascii _ _ _ _ _ c.requires.cached.ascii (omega arith) c.if-a-lt128.true refl)
 
 pub overflow_add-count-then-a-lt128 : goal.overflow_add-count-then-a-lt128
 overflow_add-count-then-a-lt128 c = omega (arith, (once c).few)
@@ -87,23 +87,14 @@ pub loop-at-preserved-then-a-lt128 : goal.loop-at-preserved-then-a-lt128
 loop-at-preserved-then-a-lt128 c = (once c).next
 
 -- more
-pub known_two-requires : goal.known_two-requires
-known_two-requires c = record { fits = (c.requires.cached.fits, c.if-index-lt-BLOCKS.false); at_in_bounds = search rules }
-
-pub known_three-requires : goal.known_three-requires
-known_three-requires c = record { fits = (c.requires.cached.fits, c.if-index-lt-BLOCKS.false); at_in_bounds = search rules }
-
-pub known_four-requires : goal.known_four-requires
-known_four-requires c = record { fits = (c.requires.cached.fits, c.if-index-lt-BLOCKS.false); at_in_bounds = search rules }
-
 found : (c : goal.Joined-a-lt224)
     → let a = c.args in
     FoundAt a.index.now a.cells.now a.text.now c.loop-at.at c.if-a-lt224.traits.1 c.if-a-lt224.traits.0
 found c =
     elim c.if-a-lt224.branch [
-      | then-a-lt224 w ↦ rw w.traits-is w.known_two.ensures
-      | else-a-lt224+then-a-lt240 w ↦ rw w.traits-is w.known_three.ensures
-      | else-a-lt224+else-a-lt240 w ↦ rw w.traits-is w.known_four.ensures
+      | then-a-lt224 w ↦ rw w.traits-is w.known.ensures
+      | else-a-lt224+then-a-lt240 w ↦ rw w.traits-is w.known-then-a-lt240.ensures
+      | else-a-lt224+else-a-lt240 w ↦ rw w.traits-is w.known-else-a-lt240.ensures
     ]
 
 pub rule-step-requires-in-loop-at : goal.rule-step-requires-in-loop-at
@@ -114,7 +105,7 @@ more : (c : goal.Else-step-ge-ODD-2)
     let l = c.loop-at in
     let t = c.if-a-lt224.traits in
     FoundAt a.index.now a.cells.now a.text.now l.at t.1 t.0 → Ran a.image.now a.text.now a.run.mark a.run.refused a.run.at t.0 c.rule-step-in-loop-at.result l.count l.at t.1
-more c f = ran_known c.requires.image_value c.loop-at.invariant (omega (arith, four_bytes c.loop-at-test.true c.known_end-end.ensures)) c.requires.cached f c.rule-step-in-loop-at.ensures c.if-step-ge-ODD-2.false
+more c f = ran_known c.recall.ensures c.loop-at.invariant (omega (arith, four_bytes c.loop-at-test.true c.known_end-end.ensures)) c.requires.cached f c.rule-step-in-loop-at.ensures c.if-step-ge-ODD-2.false
 
 pub overflow_add-count-in-loop-at : goal.overflow_add-count-in-loop-at
 overflow_add-count-in-loop-at c = omega (arith, (more c (found (goal.at.overflow_add-count-in-loop-at c).Joined-a-lt224)).few)

@@ -16,5 +16,5 @@ returns-then-c-eq0 c = rw (characters_ill c.args.text.now c.args.at (c.read-c.en
 
 pub returns : goal.returns
 returns c =
-    let r = read_continues _ _ _ _ c.requires.image_value c.if-text-at.false c.read-c.ensures (omega arith) in
+    let r = read_continues _ _ _ _ c.recall.ensures c.if-text-at.false c.read-c.ensures (omega arith) in
     c.continues.ensures ∙ r.1

@@ -19,7 +19,7 @@ returns-then-len-eq0 c = run_ill _ _ c.loop-at.invariant.0 (c.read-c.ensures.non
 
 pub returns-then-not-continues : goal.returns-then-not-continues
 returns-then-not-continues c =
-    let r = read_continues _ _ _ _ c.requires.image_value c.loop-at-test.true c.read-c.ensures (omega arith) in
+    let r = read_continues _ _ _ _ c.recall.ensures c.loop-at-test.true c.read-c.ensures (omega arith) in
     run_stops _ _ c.loop-at.invariant.0 (sym r.1 ∙ sym c.continues.ensures ∙ c.if-not-continues.true)
 
 -- the run goes on over the character that was read, if it is hashtag Continue
@@ -29,7 +29,7 @@ goes : (c : goal.Else-len-eq0)
     let r = c.read-c.result in
     continues_by r.code r.traits ≡ true → Here a.image.now a.text.now l.at r.code r.len × Running a.image.now a.text.now a.from (l.at + r.len)
 goes c e =
-    let r = read_continues _ _ _ _ c.requires.image_value c.loop-at-test.true c.read-c.ensures (omega arith) in
+    let r = read_continues _ _ _ _ c.recall.ensures c.loop-at-test.true c.read-c.ensures (omega arith) in
     (r.0, run_goes _ _ c.loop-at.invariant.0 r.0 (sym r.1 ∙ e))
 
 pub overflow_add-at : goal.overflow_add-at

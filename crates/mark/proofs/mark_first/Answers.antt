@@ -23,7 +23,7 @@ learn_at-rows-requires c = record { fits = c.requires.learning.cached.fits; at_i
 pub mark_on-requires : goal.mark_on-requires
 mark_on-requires c =
     record {
-      learning = c.learn_at-rows.ensures.by_index _ c.requires.image_value c.in_ok-next.ensures.memo c.requires.learning;
+      learning = c.learn_at-rows.ensures.by_index _ c.recall.ensures c.in_ok-next.ensures.memo c.requires.learning;
       rules_value = c.requires.rules_value;
       text_len_bound = c.requires.text_nonzero.1;
       marking = marks_first c.args.starts.now _ (c.begin-first.ensures.0 _).0 c.begin-first.ensures.3 c.begin-first.ensures.4 c.in_ok-next.ensures c.requires.margin_in_bounds c.put_start.ensures;

@@ -39,7 +39,7 @@ loop-run-smaller c = omega (arith, c.in_ok-next.ensures.on, c.run_mark-run.ensur
 
 pub loop-run-preserved : goal.loop-run-preserved
 loop-run-preserved c =
-    let n = c.learn_at-rows.ensures.by_index _ c.requires.image_value c.in_ok-next.ensures.memo (subst (Learning _ _ _) (sym c.run_mark-run.ensures.3) c.loop-run.invariant.1) in (
+    let n = c.learn_at-rows.ensures.by_index _ c.recall.ensures c.in_ok-next.ensures.memo (subst (Learning _ _ _) (sym c.run_mark-run.ensures.3) c.loop-run.invariant.1) in (
       marks_on c.run_mark-run.ensures.0 c.in_ok-next.ensures _ c.if-starts-run.false (c.put_starts.ensures.0 _ _ c.run_mark-run.ensures.0 c.in_ok-next.ensures) c.put_starts.ensures.1,
       n,
       omega arith,

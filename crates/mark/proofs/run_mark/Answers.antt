@@ -37,7 +37,7 @@ ascii : (c : goal.Else-step-ge-ODD)
     Stepping a.image.now a.text.now a.done a.run.mark a.run.refused (length a.starts.now) a.run.at (a.done + (a.run.count - a.done)) l.starts (cell_for a.cells.now a.text.now l.at) c.rule-step.result l.k l.at 1
 ascii c =
     let b = four_bytes c.loop-at-test.true c.known_end-end.ensures in
-    steps c.requires.image_value c.loop-at.invariant (omega (arith, c.if-starts-k.false)) c.rule-step.ensures c.if-step-ge-ODD.false (here_ascii _ _ _ _ _ c.requires.cached.ascii (omega arith) c.if-a-lt128.true refl)
+    steps c.recall.ensures c.loop-at.invariant (omega (arith, c.if-starts-k.false)) c.rule-step.ensures c.if-step-ge-ODD.false (here_ascii _ _ _ _ _ c.requires.cached.ascii (omega arith) c.if-a-lt128.true refl)
 
 -- any other character
 found : (c : goal.Joined-a-lt224)
@@ -56,7 +56,7 @@ more : (c : goal.Else-step-ge-ODD-2)
     let t = c.if-a-lt224.traits in
     FoundAt a.index.now a.cells.now a.text.now l.at t.1 t.0 →
     Stepping a.image.now a.text.now a.done a.run.mark a.run.refused (length a.starts.now) a.run.at (a.done + (a.run.count - a.done)) l.starts t.0 c.rule-step-in-loop-at.result l.k l.at t.1
-more c f = steps_known c.requires.image_value c.loop-at.invariant (omega (arith, c.if-starts-k.false)) (omega (arith, four_bytes c.loop-at-test.true c.known_end-end.ensures)) c.requires.cached f c.rule-step-in-loop-at.ensures c.if-step-ge-ODD-2.false
+more c f = steps_known c.recall.ensures c.loop-at.invariant (omega (arith, c.if-starts-k.false)) (omega (arith, four_bytes c.loop-at-test.true c.known_end-end.ensures)) c.requires.cached f c.rule-step-in-loop-at.ensures c.if-step-ge-ODD-2.false
 
 pub bounds-text-at : goal.bounds-text-at
 bounds-text-at c = omega (arith, four_bytes c.loop-at-test.true c.known_end-end.ensures)
@@ -66,10 +66,10 @@ taken : (c : goal.Then-four-lt-ODD) → FourSteps c.args.cells.now c.args.text.n
 taken c = c.four_steps-four.ensures c.if-four-lt-ODD.true
 
 pub four_steps-four-requires : goal.four_steps-four-requires
-four_steps-four-requires c = record { small_cells = small_cells c.requires.cached.ascii c.requires.image_value; rules_value = c.requires.rules_value; row_bound = (c.loop-at.invariant.small, four_bytes c.loop-at-test.true c.known_end-end.ensures, c.if-a-lt128.true) }
+four_steps-four-requires c = record { small_cells = small_cells c.requires.cached.ascii c.recall.ensures; rules_value = c.requires.rules_value; row_bound = (c.loop-at.invariant.small, four_bytes c.loop-at-test.true c.known_end-end.ensures, c.if-a-lt128.true) }
 
 pub put_four-k-requires : goal.put_four-k-requires
-put_four-k-requires c = record { small_cells = small_cells c.requires.cached.ascii c.requires.image_value; rules_value = c.requires.rules_value; four_at = record { number = _; steps = taken (goal.at.put_four-k-requires c).Then-four-lt-ODD }; row_bound = (c.loop-at.invariant.small, four_bytes c.loop-at-test.true c.known_end-end.ensures, c.loop-at.invariant.fits, omega (arith, c.loop-at.invariant.fits, counting_few c.loop-at.invariant.counting), omega (arith, c.if-starts-k.false)) }
+put_four-k-requires c = record { small_cells = small_cells c.requires.cached.ascii c.recall.ensures; rules_value = c.requires.rules_value; four_at = record { number = _; steps = taken (goal.at.put_four-k-requires c).Then-four-lt-ODD }; row_bound = (c.loop-at.invariant.small, four_bytes c.loop-at-test.true c.known_end-end.ensures, c.loop-at.invariant.fits, omega (arith, c.loop-at.invariant.fits, counting_few c.loop-at.invariant.counting), omega (arith, c.if-starts-k.false)) }
 
 pub overflow_add-last : goal.overflow_add-last
 overflow_add-last c = omega (arith, four_bytes c.loop-at-test.true c.known_end-end.ensures)
@@ -78,7 +78,7 @@ pub bounds-text-last : goal.bounds-text-last
 bounds-text-last c = omega (arith, four_bytes c.loop-at-test.true c.known_end-end.ensures)
 
 pub ascii_cell-row-requires : goal.ascii_cell-row-requires
-ascii_cell-row-requires c = (small_cells c.requires.cached.ascii c.requires.image_value, (taken (goal.at.ascii_cell-row-requires c).Then-four-lt-ODD).fourth)
+ascii_cell-row-requires c = (small_cells c.requires.cached.ascii c.recall.ensures, (taken (goal.at.ascii_cell-row-requires c).Then-four-lt-ODD).fourth)
 
 pub overflow_add-at : goal.overflow_add-at
 overflow_add-at c = omega (arith, four_bytes c.loop-at-test.true c.known_end-end.ensures)
@@ -87,7 +87,7 @@ pub loop-at-smaller-then-four-lt-ODD : goal.loop-at-smaller-then-four-lt-ODD
 loop-at-smaller-then-four-lt-ODD c = omega (arith, four_bytes c.loop-at-test.true c.known_end-end.ensures)
 
 pub loop-at-preserved-then-four-lt-ODD : goal.loop-at-preserved-then-four-lt-ODD
-loop-at-preserved-then-four-lt-ODD c = four_walk c.requires.cached.ascii c.requires.image_value c.loop-at.invariant (omega (arith, c.if-starts-k.false)) (taken (goal.at.loop-at-preserved-then-four-lt-ODD c).Then-four-lt-ODD) (four_bytes c.loop-at-test.true c.known_end-end.ensures) _ c.put_four-k.ensures.1 _ _ c.put_four-k.ensures.0 c.ascii_cell-row.ensures.0
+loop-at-preserved-then-four-lt-ODD c = four_walk c.requires.cached.ascii c.recall.ensures c.loop-at.invariant (omega (arith, c.if-starts-k.false)) (taken (goal.at.loop-at-preserved-then-four-lt-ODD c).Then-four-lt-ODD) (four_bytes c.loop-at-test.true c.known_end-end.ensures) _ c.put_four-k.ensures.1 _ _ c.put_four-k.ensures.0 c.ascii_cell-row.ensures.0
 
 -- one
 pub bounds-cells-a : goal.bounds-cells-a
@@ -97,7 +97,7 @@ pub rule-step-requires : goal.rule-step-requires
 rule-step-requires c =
     let b = four_bytes c.loop-at-test.true c.known_end-end.ensures in
     let h = here_ascii c.args.image.now c.args.text.now c.args.cells.now c.loop-at.at (cell_for c.args.cells.now c.args.text.now c.loop-at.at) c.requires.cached.ascii (omega arith) c.if-a-lt128.true refl in
-    record { rules_value = c.requires.rules_value; row_lt_rule_rows = (omega (arith, c.loop-at.invariant.small), here_small c.requires.image_value h) }
+    record { rules_value = c.requires.rules_value; row_lt_rule_rows = (omega (arith, c.loop-at.invariant.small), here_small c.recall.ensures h) }
 
 pub start_at-requires : goal.start_at-requires
 start_at-requires c = let r = ascii c in (omega arith, r.small)

@@ -10,7 +10,7 @@ use Rattle.token.proofs.list_with.Goals as goal
 pub returns-then-text-eq0 : goal.returns-then-text-eq0
 returns-then-text-eq0 c =
     let e = empty_counted c.args.image.now c.args.text.now c.if-text-eq0.true in
-    let g = list_given c.args.image.now c.args.text.now c.args.out.now c.requires.image_value c.requires.text_len_bound e (omega arith) in record { value = g.0; out_after = none_written c.args.image.now c.args.text.now c.args.out.now (sym e) ∙ g.1 }
+    let g = list_given c.args.image.now c.args.text.now c.args.out.now c.recall.ensures c.requires.text_len_bound e (omega arith) in record { value = g.0; out_after = none_written c.args.image.now c.args.text.now c.args.out.now (sym e) ∙ g.1 }
 
 pub mark_first-requires : goal.mark_first-requires
 mark_first-requires c = record { learning = c.begin-rows.ensures.0 c.args.index.now c.requires.blank.0; rules_value = refl; text_nonzero = (not_zero _ c.if-text-eq0.false, c.requires.text_len_bound); margin_in_bounds = omega (arith, c.requires.in_bounds) }
@@ -19,7 +19,7 @@ pub count_on-counted-requires : goal.count_on-counted-requires
 count_on-counted-requires c = record { learning = c.in-Ok.ensures.learning_on; rules_value = refl; counting_as = c.in-Ok.ensures.marked.0.marking.counting }
 
 pub returns-then-not-is_room : goal.returns-then-not-is_room
-returns-then-not-is_room c = let t = list_no_room _ _ _ c.requires.image_value c.requires.text_len_bound (sym c.in-Records.is ∙ c.count_on-counted.ensures.value) (leb-false _ _ (sym c.is_room.ensures ∙ c.if-not-is_room.true)) in record { value = t.0; out_after = t.1 }
+returns-then-not-is_room c = let t = list_no_room _ _ _ c.recall.ensures c.requires.text_len_bound (sym c.in-Records.is ∙ c.count_on-counted.ensures.value) (leb-false _ _ (sym c.is_room.ensures ∙ c.if-not-is_room.true)) in record { value = t.0; out_after = t.1 }
 
 pub write_all-requires : goal.write_all-requires
 write_all-requires c =
@@ -32,13 +32,13 @@ write_all-requires c =
     }
 
 pub returns-in-Err : goal.returns-in-Err
-returns-in-Err c = let t = list_stopped _ _ _ c.requires.image_value c.requires.text_len_bound c.in-Err.ensures.marked.0 in record { value = t.0; out_after = t.1 }
+returns-in-Err c = let t = list_stopped _ _ _ c.recall.ensures c.requires.text_len_bound c.in-Err.ensures.marked.0 in record { value = t.0; out_after = t.1 }
 
 pub returns-in-Refused : goal.returns-in-Refused
-returns-in-Refused c = let t = list_stopped _ _ _ c.requires.image_value c.requires.text_len_bound (sym c.in-Refused.is ∙ c.count_on-counted.ensures.value) in record { value = t.0; out_after = t.1 }
+returns-in-Refused c = let t = list_stopped _ _ _ c.recall.ensures c.requires.text_len_bound (sym c.in-Refused.is ∙ c.count_on-counted.ensures.value) in record { value = t.0; out_after = t.1 }
 
 pub returns-else-not-is_room : goal.returns-else-not-is_room
 returns-else-not-is_room c =
     let e = sym c.in-Records.is ∙ c.count_on-counted.ensures.value in
     let h = leb-true _ _ (sym c.is_room.ensures ∙ c.if-not-is_room.false) in
-    let g = list_given _ _ c.args.out.now c.requires.image_value c.requires.text_len_bound e h in record { value = g.0; out_after = c.write_all.ensures ∙ g.1 }
+    let g = list_given _ _ c.args.out.now c.recall.ensures c.requires.text_len_bound e h in record { value = g.0; out_after = c.write_all.ensures ∙ g.1 }

@@ -38,7 +38,7 @@ loop-k-preserved c =
     elim c.if-may_end_lines.branch [
       | then-may_end_lines w ↦ rw w.line-is (going_next c.requires.listing c.requires.piece c.loop-k.invariant t (after_at _ (omega arith)) w.line_after-line.ensures _ c.put_record.ensures)
       | else-may_end_lines w ↦
-          let l = turn_stays c.requires.listing c.requires.piece c.loop-k.invariant t c.requires.image_value c.requires.plain (after_at _ (omega arith)) (sym c.may_end_lines.ensures ∙ w.if-may_end_lines.false) in
+          let l = turn_stays c.requires.listing c.requires.piece c.loop-k.invariant t c.recall.ensures c.requires.plain (after_at _ (omega arith)) (sym c.may_end_lines.ensures ∙ w.if-may_end_lines.false) in
           rw w.line-is (going_next c.requires.listing c.requires.piece c.loop-k.invariant t (after_at _ (omega arith)) l _ c.put_record.ensures)
     ]
 
