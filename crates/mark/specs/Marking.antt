@@ -2,7 +2,6 @@
 -- How far the starts of a text's tokens are marked.
 use Rattle.std.specs.Prelude.{ℕ, ◌+◌, ◌-◌, ◌*◌, ◌≤◌, ◌<◌, ◌≡◌, List, ◌⊎◌, length, set, Err, Result, MatchResult, IfOk}
 use Rattle.refusal.specs.declared.Refusal.{Refusal}
-use Rattle.grammar.specs.declared.Counted.TheVariants.{Refused}
 use Rattle.grammar.specs.Counted.{count_through}
 use Rattle.grammar.specs.Before.{max_text}
 use Rattle.blocks.specs.Blocks.{Learning}

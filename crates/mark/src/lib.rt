@@ -14,7 +14,6 @@ ghost use Rattle.count.specs.Four.{SmallCells};
 ghost use Rattle.mark.specs.Marking.{Marking, Marked, LearningOn, Putting, FourAt, count_four, four_put, margin};
 
 use blocks::BLOCKS;
-use count::{NO_ROW, ODD, ROW_STATES, Run, STATE_TRAITS, WAITING};
 use image::ClassImage;
 use count::{NO_ROW, ODD, ROW_STATES, Run, STATE_TRAITS, WAITING};
 use refusal::Refusal;

@@ -45,9 +45,9 @@ found : (c : goal.Joined-a-lt224)
     FoundAt a.index.now a.cells.now a.text.now c.loop-at.at c.if-a-lt224.traits.1 c.if-a-lt224.traits.0
 found c =
     elim c.if-a-lt224.branch [
-      | then-a-lt224 w ↦ rw w.traits-is w.known_two.ensures
-      | else-a-lt224+then-a-lt240 w ↦ rw w.traits-is w.known_three.ensures
-      | else-a-lt224+else-a-lt240 w ↦ rw w.traits-is w.known_four.ensures
+      | then-a-lt224 w ↦ rw w.traits-is w.known.ensures
+      | else-a-lt224+then-a-lt240 w ↦ rw w.traits-is w.known-then-a-lt240.ensures
+      | else-a-lt224+else-a-lt240 w ↦ rw w.traits-is w.known-else-a-lt240.ensures
     ]
 
 more : (c : goal.Else-step-ge-ODD-2)
@@ -121,15 +121,6 @@ pub loop-at-preserved-then-a-lt128 : goal.loop-at-preserved-then-a-lt128
 loop-at-preserved-then-a-lt128 c = (ascii (goal.at.loop-at-preserved-then-a-lt128 c).Else-step-ge-ODD).next _ c.start_at.ensures
 
 -- more
-pub known_two-requires : goal.known_two-requires
-known_two-requires c = record { fits = (c.requires.cached.fits, c.if-index-lt-BLOCKS.false); at_in_bounds = search rules }
-
-pub known_three-requires : goal.known_three-requires
-known_three-requires c = record { fits = (c.requires.cached.fits, c.if-index-lt-BLOCKS.false); at_in_bounds = search rules }
-
-pub known_four-requires : goal.known_four-requires
-known_four-requires c = record { fits = (c.requires.cached.fits, c.if-index-lt-BLOCKS.false); at_in_bounds = search rules }
-
 pub rule-step-requires-in-loop-at : goal.rule-step-requires-in-loop-at
 rule-step-requires-in-loop-at c = record { rules_value = c.requires.rules_value; row_lt_rule_rows = (omega (arith, c.loop-at.invariant.small), (found c).small) }
 
