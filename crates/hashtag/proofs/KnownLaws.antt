@@ -46,9 +46,9 @@ module _ {text : List ℕ} {from to at : ℕ} (i : Back text from to at) where
   backed_found h e =
       record { above = omega arith; below = omega (arith, i.below); others = λ j l u. i.others j (omega arith) u; first = inl (omega (arith, i.below), e) }
 
-  pub backed_none : at ≤ from → Backed text from to at
+  pub backed_none : at ≤ from → Backed text from to from
   backed_none h =
-      record { above = i.above; below = i.below; others = λ j l u. i.others j (omega arith) u; first = inr (omega (arith, i.above), λ l. i.others at (omega arith) l) }
+      record { above = omega arith; below = omega (arith, i.above, i.below); others = λ j l u. i.others j (omega arith) u; first = inr (refl, λ l. i.others from h l) }
 
 module _ (s text : List ℕ) where
   -- the bytes of a character: the first, and those that follow it

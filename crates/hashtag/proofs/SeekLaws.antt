@@ -85,6 +85,14 @@ passed_more {known} {text} {from} {at} p h e =
     go i l u (yes v) = p.each i l v
     go i l u (no v) = let q : at ≡ i = omega arith in subst (λ (j : ℕ). stop_for known (get_or text j 0) < look) q e
 
+-- .. up to where a search stops, or to the text's end
+module _ {known : Bool} {text : List ℕ} {from at : ℕ} (p : BytesPassed known text from at) where
+  pub passed_stop : {n : ℕ} → n ≡ stop_for known (get_or text at 0) → look ≤ n → Skipped known text from at
+  passed_stop e h = record { passed = p; stop = λ l u. omega arith }
+
+  pub passed_end : length text ≤ at → Skipped known text from (length text)
+  passed_end h = record { passed = let q : at ≡ length text = omega (arith, p.within) in subst (BytesPassed known text from) q p; stop = λ l. absurd (omega arith) }
+
 -- the length of the sequence at a place: none begins there, or one of this length
 pub measured_none : (text : List ℕ) (at n : ℕ) → at < length text → n ≡ length_of (step_of (drop at text)) → n ≡ 0 → IllHead (drop at text)
 measured_none text at n h e z = go (step_of (drop at text)) refl (sym e ∙ z)

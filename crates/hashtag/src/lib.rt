@@ -64,16 +64,11 @@ pub struct Reach {
 }
 
 // Whether a code point is a sign.
+#[tactic(auto, unfolding(crate::specs::Sign::is_sign))]
 fn is_sign(code: u32) -> bool
     ensures { result ≡ is_sign code }
 {
-    if code == NUMBER_SIGN {
-        return true;
-    }
-    if code == SMALL_NUMBER_SIGN {
-        return true;
-    }
-    code == FULLWIDTH_NUMBER_SIGN
+    matches!(code, NUMBER_SIGN | SMALL_NUMBER_SIGN | FULLWIDTH_NUMBER_SIGN)
 }
 
 // Whether a character with these traits is hashtag Continue.
@@ -83,14 +78,7 @@ fn continues(code: u32, traits: u32) -> bool
     if is_sign(code) {
         return false; // whatever its class or role
     }
-    if character::HASHTAG <= traits {
-        return true;
-    }
-    let class = traits % 8;
-    if class == image::START {
-        return true;
-    }
-    class == image::NONSTART
+    character::HASHTAG <= traits || matches!(traits % 8, image::START | image::NONSTART)
 }
 
 // Whether the character at a place is hashtag Continue; there may be none.
@@ -103,10 +91,7 @@ fn continues_at<'a>(image: &'a [u8], table: &'a [u8; 128], text: &'a [u8], at: u
         return false;
     }
     let c = character::read(image, table, character::no_memo(), text, at);
-    if c.len == 0 {
-        return false;
-    }
-    continues(c.code, c.traits)
+    c.len != 0 && continues(c.code, c.traits)
 }
 
 // One past the run of hashtag Continue that begins at a place.
@@ -120,15 +105,11 @@ fn find_run_end<'a>(image: &'a [u8], table: &'a [u8; 128], text: &'a [u8], from:
     let mut at = from;
     while at < text.len() {
         let c = character::read(image, table, memo, text, at);
-        let len = c.len;
-        if len == 0 {
-            return at;
-        }
-        if !continues(c.code, c.traits) {
-            return at;
+        if c.len == 0 || !continues(c.code, c.traits) {
+            break;
         }
         memo = c.memo;
-        at += len;
+        at += c.len;
     }
     at
 }
@@ -139,30 +120,24 @@ fn find_run_end<'a>(image: &'a [u8], table: &'a [u8; 128], text: &'a [u8], from:
 fn stop_at(b: usize, known: bool) -> u8
     ensures { result ≡ stop_for known b }
 {
-    if b == NUMBER_SIGN as usize {
-        return STOP;
+    if b == NUMBER_SIGN as usize || b == WIDE_SIGNS as usize {
+        STOP
+    } else if known {
+        line::tell_end(b)
+    } else if b < 0x80 {
+        0
+    } else {
+        STOP
     }
-    if b == WIDE_SIGNS as usize {
-        return STOP;
-    }
-    if known {
-        return line::tell_end(b);
-    }
-    if b < 0x80 {
-        return 0;
-    }
-    STOP
 }
 
 // The table of bytes.
 fn fill_stops(known: bool) -> [u8; 256]
     ensures { StopsOf known result }
 {
-    let mut stops = [0u8; 256];
-    let mut i = 0;
-    while i < 256 {
-        stops[i] = stop_at(i, known);
-        i += 1;
+    let mut stops = [STOP; 256];
+    for (b, stop) in stops.iter_mut().enumerate() {
+        *stop = stop_at(b, known);
     }
     stops
 }
@@ -179,14 +154,12 @@ fn skip<'a>(stops: &'a [u8; 256], text: &'a [u8], from: usize) -> usize
     requires { from ≤ length text.now }
     ensures { (known : Bool) → StopsOf known stops.now → Skipped known text.now from result }
 {
-    let mut at = from;
-    while at < text.len() {
+    for at in from..text.len() {
         if STOP <= look(stops, text[at]) {
             return at;
         }
-        at += 1;
     }
-    at
+    text.len()
 }
 
 // The sum of what the table has for four bytes.
@@ -225,17 +198,15 @@ fn pass_bytes<'a>(stops: &'a [u8; 256], text: &'a [u8], from: usize, first: u32)
     requires first_bound { first ≤ 16 * max_text }
     ensures { LinesCountedTo text.now from first result }
 {
-    let mut at = from;
     let mut line = first;
-    while at < text.len() {
+    for at in from..text.len() {
         let end = look(stops, text[at]);
         if STOP <= end {
             return Reach { at, line };
         }
         line += end as u32;
-        at += 1;
     }
-    Reach { at, line }
+    Reach { at: text.len(), line }
 }
 
 // Whether the sequence at a place is that of a sign.
@@ -244,13 +215,7 @@ fn is_sign_at(text: &[u8], at: usize) -> bool
     ensures { result ≡ sign_of (step_of (drop at text.now)) }
 {
     let b = text[at];
-    if b == NUMBER_SIGN as u8 {
-        return true;
-    }
-    if b != WIDE_SIGNS {
-        return false;
-    }
-    is_sign((utf8::decode_packed(text, at) / 8) as u32)
+    b == NUMBER_SIGN as u8 || b == WIDE_SIGNS && is_sign((utf8::decode_packed(text, at) / 8) as u32)
 }
 
 // Whether no hashtag Continue stands right before a place; the character there begins at `before`, or there is none and the two are the same.
@@ -265,10 +230,7 @@ fn is_free<'a>(
     requires table_of { TableOf image.now table.now }
     ensures { result ≡ free_at image.now text.now before at }
 {
-    if before < at {
-        return !continues_at(image, table, text, before);
-    }
-    true
+    at <= before || !continues_at(image, table, text, before)
 }
 
 // Whether a sign begins a hashtag: no hashtag Continue stands right before it, and one right after it.
@@ -283,10 +245,7 @@ fn begins<'a>(
     requires table_of { TableOf image.now table.now }
     ensures { result ≡ (free_at image.now text.now before sign.at && continues_first image.now (characters_at text.now sign.next)) }
 {
-    if is_free(image, table, text, before, sign.at) {
-        return continues_at(image, table, text, sign.next);
-    }
-    false
+    is_free(image, table, text, before, sign.at) && continues_at(image, table, text, sign.next)
 }
 
 // The next hashtag from a place on, where no hashtag Continue stands right before that place. `before` is where the character right before
@@ -334,14 +293,12 @@ fn step_back(text: &[u8], from: usize, to: usize) -> usize
     requires { (from ≤ to) × (to ≤ length text.now) }
     ensures { Backed text.now from to result }
 {
-    let mut at = to;
-    while from < at {
-        at -= 1;
+    for at in (from..to).rev() {
         if !utf8::is_trail(text[at]) {
             return at;
         }
     }
-    at
+    from
 }
 
 // As `seek`, in a text that is well-formed from the place on, which has this line: bytes at which it doesn't stop are passed over, whatever

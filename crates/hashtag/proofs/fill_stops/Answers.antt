@@ -1,14 +1,13 @@
 -- `hashtag::fill_stops` meets its contract. Assumes nothing.
-use mathlib.Core.Path.{refl}
-use native.Mathlib.Omega.{arith}
+use Rattle.std.proofs.Common.{refl, arith}
 use Rattle.lists.proofs.FilledLaws.{filled_none, filled_more, filled_all}
 use Rattle.hashtag.proofs.fill_stops.Goals as goal
 
-pub loop-i-init : goal.loop-i-init
-loop-i-init c = (omega arith, filled_none refl)
+pub loop-b-init : goal.loop-b-init
+loop-b-init c = filled_none refl
 
-pub loop-i-preserved : goal.loop-i-preserved
-loop-i-preserved c = (omega (arith, c.loop-i-test.true), filled_more _ c.loop-i-test.true c.loop-i.invariant.1 c.stop_at.ensures)
+pub loop-b-preserved : goal.loop-b-preserved
+loop-b-preserved c = filled_more _ (omega arith) c.loop-b.invariant c.stop_at.ensures
 
 pub returns : goal.returns
-returns c = filled_all c.loop-i.invariant.1 c.loop-i-test.false
+returns c = filled_all c.loop-b.invariant (omega arith)

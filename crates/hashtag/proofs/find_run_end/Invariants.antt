@@ -1,6 +1,5 @@
 -- The invariant and the measure of the loop of `hashtag::find_run_end`.
-use Prim.Native.Nat.{◌-◌}
-use lib.ListN.{length}
+use Rattle.std.proofs.Common.{◌-◌, length}
 use Rattle.character.specs.Read.{MemoOf}
 use Rattle.hashtag.proofs.SeekLaws.{Running}
 use Rattle.hashtag.proofs.find_run_end.Given as goal

@@ -1,5 +1,5 @@
 -- `hashtag::step_back` meets its contract. Assumes nothing.
-use mathlib.Core.Path.{sym, ◌∙◌}
+use Rattle.std.proofs.Common.{sym, ◌∙◌}
 use Rattle.hashtag.proofs.KnownLaws.{back_begins, back_more, backed_found, backed_none}
 use Rattle.hashtag.proofs.step_back.Goals as goal
 
