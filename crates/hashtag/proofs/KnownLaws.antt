@@ -3,7 +3,7 @@
 use Prim.Native.Nat.{ℕ, zero, suc, ◌+◌, ◌-◌, ◌≤◌, ◌<◌}
 use mathlib.Core.Path.{◌≡◌, refl, sym, ap, subst, ◌∙◌}
 use mathlib.Core.Bool.{Bool, true, false, ◌&&◌}
-use mathlib.Core.List.{List}
+use mathlib.Core.List.{List, []}
 use mathlib.Core.Logic.{◌⊎◌, inl, inr}
 use native.Mathlib.Omega.{arith}
 use native.Mathlib.Decide.{dec_lt}
@@ -18,7 +18,7 @@ use Rattle.line.specs.Line.{ends_line, one, LineAt}
 use Rattle.line.specs.Ends.{look, end_at}
 use Rattle.line.proofs.LineLaws.{told, end_at_lem, line_counted, counted_few, line_passes}
 use Rattle.hashtag.specs.Sign.{is_sign}
-use Rattle.hashtag.specs.Seek.{continues_first, free_at, stop_for, BytesPassed, sum_of, LinesCounted, Backed, Sought}
+use Rattle.hashtag.specs.Seek.{continues_first, free_at, stop_for, BytesPassed, sum_of, hashtags_at, LinesCounted, Backed, SignFound}
 use Rattle.hashtag.specs.declared.Sign.{Sign}
 use Rattle.hashtag.specs.declared.Reach.{Reach}
 use Rattle.hashtag.proofs.SignLaws.{sign_ends_none, no_sign_here}
@@ -170,10 +170,10 @@ module _ (s text : List ℕ) where
   -- a hashtag begins at a place, or none does; nothing is left
   module _ {from at line : ℕ} (i : Walked from at line) where
     abbrev Finds : Sign → Type 0
-    Finds r = Sought s text from r × (LineAt text r.at line × LineAt text r.next line)
+    Finds r = SignFound s text from r × (LineAt text r.at line × LineAt text r.next line)
 
-    pub known_end : length text ≤ at → Finds (record { at = at; next = at })
-    known_end h = (sought_end s text i.seeking h, (i.lined, i.lined))
+    pub known_end : length text ≤ at → hashtags_at s text true from ≡ []
+    known_end h = (sought_end s text i.seeking h).none
 
     -- the line past a character
     module _ {n k : ℕ} (h : Stands s text at n) (e : k ≡ end_at text at) where

@@ -28,7 +28,7 @@ use Rattle.character.specs.Read.{ReadAs}
 use Rattle.character.specs.declared.Character.{Character as Read}
 use Rattle.hashtag.specs.Sign.{is_sign, continues}
 use Rattle.hashtag.specs.Find.{run_of, hashtags_from}
-use Rattle.hashtag.specs.Seek.{hashtags_at, continues_first, free_at, stop_for, BytesPassed, Skipped, sign_of, Sought}
+use Rattle.hashtag.specs.Seek.{hashtags_at, continues_first, free_at, stop_for, BytesPassed, Skipped, sign_of, SignFound, NoneFound}
 use Rattle.hashtag.proofs.SignLaws.{continues_by, by_traits, no_sign_here}
 use Rattle.hashtag.proofs.RunLaws.{Characters, run_yes, run_no, run_none}
 use Rattle.hashtag.proofs.FindLaws.{found_none, found_begins, found_passes}
@@ -86,12 +86,12 @@ passed_more {known} {text} {from} {at} p h e =
     go i l u (no v) = let q : at ≡ i = omega arith in subst (λ (j : ℕ). stop_for known (get_or text j 0) < look) q e
 
 -- .. up to where a search stops, or to the text's end
-module _ {known : Bool} {text : List ℕ} {from at : ℕ} (p : BytesPassed known text from at) where
-  pub passed_stop : {n : ℕ} → n ≡ stop_for known (get_or text at 0) → look ≤ n → Skipped known text from at
+module _ {text : List ℕ} {from at : ℕ} (p : BytesPassed false text from at) where
+  pub passed_stop : {n : ℕ} → n ≡ stop_for false (get_or text at 0) → look ≤ n → Skipped text from at
   passed_stop e h = record { passed = p; stop = λ l u. omega arith }
 
-  pub passed_end : length text ≤ at → Skipped known text from (length text)
-  passed_end h = record { passed = let q : at ≡ length text = omega (arith, p.within) in subst (BytesPassed known text from) q p; stop = λ l. absurd (omega arith) }
+  pub passed_end : length text ≤ at → Skipped text from (length text)
+  passed_end h = record { passed = let q : at ≡ length text = omega (arith, p.within) in subst (BytesPassed false text from) q p; stop = λ l. absurd (omega arith) }
 
 -- the length of the sequence at a place: none begins there, or one of this length
 pub measured_none : (text : List ℕ) (at n : ℕ) → at < length text → n ≡ length_of (step_of (drop at text)) → n ≡ 0 → IllHead (drop at text)
@@ -215,21 +215,14 @@ module _ (s text : List ℕ) where
     free = free_at s text before at
 
     -- no character stands here
-    sought_no : characters_at text at ≡ [] → (at < length text → IllHead (drop at text)) → Sought s text from (record { at = at; next = at })
+    sought_no : characters_at text at ≡ [] → (at < length text → IllHead (drop at text)) → NoneFound s text from at
     sought_no e k =
-        record {
-          above = i.above;
-          rises = omega arith;
-          within = i.within;
-          form = i.form;
-          none = λ _. (i.rest ∙ ap (hashtags_from s free at) e ∙ found_none s free at, k);
-          some = λ h. absurd (omega arith);
-        }
+        record { above = i.above; within = i.within; form = i.form; none = i.rest ∙ ap (hashtags_from s free at) e ∙ found_none s free at; ill_head = k }
 
-    pub sought_ill : IllHead (drop at text) → Sought s text from (record { at = at; next = at })
+    pub sought_ill : IllHead (drop at text) → NoneFound s text from at
     sought_ill e = sought_no (characters_ill text at e) (λ _. e)
 
-    pub sought_end : length text ≤ at → Sought s text from (record { at = at; next = at })
+    pub sought_end : length text ≤ at → NoneFound s text from at
     sought_end h = sought_no (characters_end text at h) (λ l. absurd (omega arith))
 
     module _ {x n : ℕ} (h : Here at x n) where
@@ -237,15 +230,14 @@ module _ (s text : List ℕ) where
       next = characters_at text (at + n)
 
       -- a hashtag begins here
-      pub sought_some : is_sign x ≡ true → (free && continues_first s next) ≡ true → Sought s text from (record { at = at; next = at + n })
+      pub sought_some : is_sign x ≡ true → (free && continues_first s next) ≡ true → SignFound s text from (record { at = at; next = at + n })
       sought_some g b =
           record {
             above = i.above;
-            rises = omega arith;
+            rises = omega (arith, h.some_bytes);
             within = h.within;
             form = sym h.same ∙ i.form;
-            none = λ l. absurd (omega (arith, h.some_bytes));
-            some = λ _. i.rest ∙ ap (hashtags_from s free at) h.decoded
+            some = i.rest ∙ ap (hashtags_from s free at) h.decoded
                 ∙ found_begins s free at (record { code = x; width = n }) next (and_left free (continues_first s next) b) g (run_first s next (and_right free (continues_first s next) b));
           }
 
@@ -275,7 +267,7 @@ module _ (s text : List ℕ) where
       let n = no_stop false (get_or text at 0) e in
       seeking_over i k.here (inl (sym k.sign ∙ sym (no_sign_here text at n.0 n.1)))
 
-  pub seeking_plain : {from before at past : ℕ} → Seeking from before at → Skipped false text at past → at < past → Seeking from (past - 1) past
+  pub seeking_plain : {from before at past : ℕ} → Seeking from before at → Skipped text at past → at < past → Seeking from (past - 1) past
   seeking_plain {from} {before} {at} {past} i p h = go (past - at - 1) past (omega arith) p.passed
     where
       go : (k q : ℕ) → q ≡ at + suc k → BytesPassed false text at q → Seeking from (q - 1) q

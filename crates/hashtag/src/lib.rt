@@ -2,7 +2,7 @@
 // checked and accepted.
 #![tactic(auto)]
 
-ghost use Rattle.std.specs.Prelude.{◌≡◌, Bool, true, false, not, ◌&&◌, ◌||◌, ◌+◌, ◌*◌, ◌%◌, ◌≤◌, ◌<◌, length, drop, leb};
+ghost use Rattle.std.specs.Prelude.{◌≡◌, Bool, true, false, not, ◌&&◌, ◌||◌, ◌+◌, ◌*◌, ◌%◌, ◌≤◌, ◌<◌, [], length, drop, leb, MatchOption, IfSome};
 ghost use Rattle.std.proofs.Math.Option.{none};
 ghost use Rattle.lists.specs.Laid.{laid};
 ghost use Rattle.utf8.specs.declared.Text.TheVariants.{WellFormed};
@@ -20,7 +20,7 @@ ghost use Rattle.grammar.specs.Before.{max_text, before_text};
 ghost use Rattle.hashtag.specs.Sign.{is_sign};
 ghost use Rattle.hashtag.specs.Find.{run_of, hashtags_of};
 ghost use Rattle.hashtag.specs.Listed.{spans_words, hashtag_list_of, hashtag_list_words, counted_through, closed_by};
-ghost use Rattle.hashtag.specs.Seek.{continues_first, free_at, stop_for, StopsOf, Skipped, sum_of, LinesCounted, LinesCountedTo, Backed, sign_of, Sought};
+ghost use Rattle.hashtag.specs.Seek.{continues_first, free_at, stop_for, StopsOf, Skipped, sum_of, LinesCounted, LinesCountedTo, Backed, sign_of, SignFound, Sought, hashtags_at};
 
 use given::Judgement;
 use grammar::{Counted, MAX_TEXT, RECORD_WORDS};
@@ -42,22 +42,22 @@ const WIDE_SIGNS: u8 = 0xEF;
 // What a table of bytes has where a search stops.
 const STOP: u8 = line::LOOK;
 
-// A sign that begins a hashtag: its first byte, and one past its last. The same place twice: there is none.
-#[derive(Clone, Copy)]
+// A sign that begins a hashtag: its first byte, and one past its last.
+#[derive(Clone, Copy, Debug, PartialEq, Eq)]
 pub struct Sign {
     pub at: usize,
     pub next: usize,
 }
 
-// A sign, and the line of its first byte; where there is none, the line of that place.
-#[derive(Drop)]
+// A sign, and the line of its first byte.
+#[derive(Clone, Copy, Debug, PartialEq, Eq)]
 pub struct FoundSign {
     pub sign: Sign,
     pub line: u32,
 }
 
 // A place that a search has reached, and the line there.
-#[derive(Drop)]
+#[derive(Clone, Copy, Debug, PartialEq, Eq)]
 pub struct Reach {
     pub at: usize,
     pub line: u32,
@@ -68,17 +68,19 @@ pub struct Reach {
 fn is_sign(code: u32) -> bool
     ensures { result ≡ is_sign code }
 {
-    matches!(code, NUMBER_SIGN | SMALL_NUMBER_SIGN | FULLWIDTH_NUMBER_SIGN)
+    matches!(
+        code,
+        NUMBER_SIGN | SMALL_NUMBER_SIGN | FULLWIDTH_NUMBER_SIGN
+    )
 }
 
 // Whether a character with these traits is hashtag Continue.
 fn continues(code: u32, traits: u32) -> bool
     ensures { result ≡ (not (is_sign code) && (is_continue (part_class (traits % 8)) || leb 16 traits)) }
 {
-    if is_sign(code) {
-        return false; // whatever its class or role
-    }
-    character::HASHTAG <= traits || matches!(traits % 8, image::START | image::NONSTART)
+    // a sign never is, whatever its class or role
+    !is_sign(code)
+        && (character::HASHTAG <= traits || matches!(traits % 8, image::START | image::NONSTART))
 }
 
 // Whether the character at a place is hashtag Continue; there may be none.
@@ -103,6 +105,7 @@ fn find_run_end<'a>(image: &'a [u8], table: &'a [u8; 128], text: &'a [u8], from:
 {
     let mut memo = character::no_memo();
     let mut at = from;
+    // a `while`, since characters differ in length
     while at < text.len() {
         let c = character::read(image, table, memo, text, at);
         if c.len == 0 || !continues(c.code, c.traits) {
@@ -149,10 +152,12 @@ fn look(stops: &[u8; 256], b: u8) -> u8
     stops[b as usize]
 }
 
-// The first place from a place on where a search stops, or the text's end.
+// The first place from a place on where a search stops, in a text that isn't known to be well-formed, or the text's end. It isn't one with
+// `pass_bytes`, since it counts no line ends.
 fn skip<'a>(stops: &'a [u8; 256], text: &'a [u8], from: usize) -> usize
-    requires { from ≤ length text.now }
-    ensures { (known : Bool) → StopsOf known stops.now → Skipped known text.now from result }
+    requires stops_of { StopsOf false stops.now }
+    requires from_in_bounds { from ≤ length text.now }
+    ensures { Skipped text.now from result }
 {
     for at in from..text.len() {
         if STOP <= look(stops, text[at]) {
@@ -180,6 +185,7 @@ fn pass_fours<'a>(stops: &'a [u8; 256], text: &'a [u8], from: usize, first: u32)
 {
     let mut at = from;
     let mut line = first;
+    // a `while`, since it goes on by four bytes
     while 4 <= text.len() - at {
         let ends = look_four(stops, &text[at..]);
         if STOP <= ends {
@@ -206,7 +212,10 @@ fn pass_bytes<'a>(stops: &'a [u8; 256], text: &'a [u8], from: usize, first: u32)
         }
         line += end as u32;
     }
-    Reach { at: text.len(), line }
+    Reach {
+        at: text.len(),
+        line,
+    }
 }
 
 // Whether the sequence at a place is that of a sign.
@@ -248,15 +257,15 @@ fn begins<'a>(
     is_free(image, table, text, before, sign.at) && continues_at(image, table, text, sign.next)
 }
 
-// The next hashtag from a place on, where no hashtag Continue stands right before that place. `before` is where the character right before
-// `at` begins, or `at` itself where there is none.
+// The sign of the next hashtag from a place on, where no hashtag Continue stands right before that place; else the place where the characters
+// end. `before` is where the character right before `at` begins, or `at` itself where there is none.
 fn seek<'a>(
     image: &'a [u8],
     table: &'a [u8; 128],
     stops: &'a [u8; 256],
     text: &'a [u8],
     from: usize,
-) -> Sign
+) -> Result<Sign, usize>
     requires image_value { refusal_of image.now ≡ none }
     requires table_of { TableOf image.now table.now }
     requires stops_of { StopsOf false stops.now }
@@ -265,6 +274,7 @@ fn seek<'a>(
 {
     let mut before = from;
     let mut at = from;
+    // a `while`, since characters differ in length
     while at < text.len() {
         let past = skip(stops, text, at);
         if at < past {
@@ -274,18 +284,16 @@ fn seek<'a>(
         }
         let len = utf8::measure(text, at);
         if len == 0 {
-            return Sign { at, next: at };
+            return Err(at);
         }
-        let next = at + len;
-        if is_sign_at(text, at) {
-            if begins(image, table, text, before, Sign { at, next }) {
-                return Sign { at, next };
-            }
+        let sign = Sign { at, next: at + len };
+        if is_sign_at(text, at) && begins(image, table, text, before, sign) {
+            return Ok(sign);
         }
         before = at;
-        at = next;
+        at = sign.next;
     }
-    Sign { at, next: at }
+    Err(at)
 }
 
 // Where the character begins that ends at a place, not before another place; the same place where the two are the same.
@@ -301,8 +309,8 @@ fn step_back(text: &[u8], from: usize, to: usize) -> usize
     from
 }
 
-// As `seek`, in a text that is well-formed from the place on, which has this line: bytes at which it doesn't stop are passed over, whatever
-// character they are of.
+// As `seek`, in a text that is well-formed from the place on, which has this line; None where no hashtag is left. Bytes at which it doesn't
+// stop are passed over, whatever character they are of.
 fn seek_known<'a>(
     image: &'a [u8],
     table: &'a [u8; 128],
@@ -310,38 +318,35 @@ fn seek_known<'a>(
     text: &'a [u8],
     from: usize,
     mut line: u32,
-) -> FoundSign
+) -> Option<FoundSign>
     requires image_value { refusal_of image.now ≡ none }
     requires table_of { TableOf image.now table.now }
     requires stops_of { StopsOf true stops.now }
     requires text_len_bound { length text.now ≤ max_text }
     requires from_in_bounds { (from ≤ length text.now) × (text_of (drop from text.now) ≡ WellFormed) }
     requires line_at { LineAt text.now from line }
-    ensures sought { Sought image.now text.now from result.sign }
-    ensures line_at_2 { LineAt text.now result.sign.at result.line × LineAt text.now result.sign.next result.line }
+    ensures sought { MatchOption result (hashtags_at image.now text.now true from ≡ []) (λ f. SignFound image.now text.now from f.sign) }
+    ensures line_at_2 { IfSome result (λ f. LineAt text.now f.sign.at f.line × LineAt text.now f.sign.next f.line) }
 {
     let mut at = from;
+    // a `while`, since characters differ in length
     while at < text.len() {
         let near = pass_fours(stops, text, at, line);
         let stop = pass_bytes(stops, text, near.at, near.line);
         at = stop.at;
         line = stop.line;
         if text.len() <= at {
-            break;
+            return None;
         }
-        let next = at + utf8::measure_known(text[at]);
-        if is_sign_at(text, at) {
-            let before = step_back(text, from, at);
-            let sign = Sign { at, next };
-            if begins(image, table, text, before, sign) {
-                return FoundSign { sign, line };
-            }
+        let len = utf8::measure_known(text[at]);
+        let sign = Sign { at, next: at + len };
+        if is_sign_at(text, at) && begins(image, table, text, step_back(text, from, at), sign) {
+            return Some(FoundSign { sign, line });
         }
         line += line::count_at(text, at);
-        at = next;
+        at = sign.next;
     }
-    let sign = Sign { at, next: at };
-    FoundSign { sign, line }
+    None
 }
 
 // The answer where the characters end at a place: so many hashtags, or refusal 6 if the text goes on there.
@@ -363,17 +368,17 @@ fn count_hashtags<'a>(image: &'a [u8], table: &'a [u8; 128], text: &'a [u8]) -> 
     ensures { result ≡ counted_through image.now text.now }
 {
     let stops = fill_stops(false);
-    let mut count: usize = 0;
+    let mut count = 0;
     let mut at = 0;
-    while at < text.len() {
-        let sign = seek(image, table, &stops, text, at);
-        if sign.next <= sign.at {
-            return close(text, sign.at, count);
+    loop {
+        match seek(image, table, &stops, text, at) {
+            Ok(sign) => {
+                count += 1;
+                at = sign.next;
+            }
+            Err(end) => return close(text, end, count),
         }
-        count += 1;
-        at = sign.next;
     }
-    Counted::Records(count)
 }
 
 // The words of all hashtags of a well-formed text.
@@ -389,12 +394,8 @@ fn write_hashtags<'a>(image: &'a [u8], table: &'a [u8; 128], text: &'a [u8], out
     let mut w = 0;
     let mut at = 0;
     let mut line = 1;
-    while at < text.len() {
-        let found = seek_known(image, table, &stops, text, at, line);
+    while let Some(found) = seek_known(image, table, &stops, text, at, line) {
         let sign = found.sign;
-        if sign.next <= sign.at {
-            return;
-        }
         let end = find_run_end(image, table, text, sign.next);
         grammar::put_record(&mut out[w..], HASHTAG_KIND, sign.at, end, found.line);
         w += RECORD_WORDS;

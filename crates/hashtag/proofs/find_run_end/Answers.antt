@@ -1,7 +1,6 @@
 -- `hashtag::find_run_end` meets its contract. Assumes nothing.
-use Rattle.std.proofs.Common.{◌≡◌, ◌+◌, true, sym, ◌∙◌, arith}
-use Rattle.hashtag.proofs.SignLaws.{continues_by}
-use Rattle.hashtag.proofs.SeekLaws.{Here, read_continues, Running, running_begins, run_ill, run_end, run_stops, run_goes}
+use Rattle.std.proofs.Common.{sym, ◌∙◌, arith}
+use Rattle.hashtag.proofs.SeekLaws.{read_continues, running_begins, run_ill, run_end, run_stops, run_goes}
 use Rattle.hashtag.proofs.find_run_end.Goals as goal
 use Rattle.hashtag.proofs.find_run_end.Goals.{then-c-eq0-via-then-c-eq0, then-c-eq0-via-else-c-eq0+then-not-continues}
 
@@ -34,6 +33,6 @@ returns-then-c-eq0 c =
     elim c.then-c-eq0.branch [
       | then-c-eq0-via-then-c-eq0 w ↦ run_ill _ _ c.loop-at.invariant.0 (c.read-c.ensures.none w.if-c-eq0.true)
       | then-c-eq0-via-else-c-eq0+then-not-continues w ↦
-        let r = read_continues _ _ _ _ c.requires.image_value c.loop-at-test.true c.read-c.ensures (omega arith) in
-        run_stops _ _ c.loop-at.invariant.0 (sym r.1 ∙ sym w.continues.ensures ∙ w.if-not-continues.true)
+          let r = read_continues _ _ _ _ c.requires.image_value c.loop-at-test.true c.read-c.ensures (omega arith) in
+          run_stops _ _ c.loop-at.invariant.0 (sym r.1 ∙ sym w.continues.ensures ∙ w.if-not-continues.true)
     ]

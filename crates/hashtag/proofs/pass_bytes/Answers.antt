@@ -1,5 +1,5 @@
 -- `hashtag::pass_bytes` meets its contract. Assumes nothing.
-use Rattle.std.proofs.Common.{◌≤◌, length, true, sym, ◌∙◌, arith}
+use Rattle.std.proofs.Common.{true, sym, ◌∙◌, arith}
 use Rattle.hashtag.proofs.CountedLaws.{sum_one, counted_begins, counted_more, counted_stop, counted_end}
 use Rattle.hashtag.proofs.pass_bytes.Goals as goal
 

@@ -1,20 +1,14 @@
 -- `hashtag::seek` meets its contract. Assumes nothing.
-use mathlib.Core.Bool.{false}
-use mathlib.Core.Path.{sym, ◌∙◌}
-use mathlib.Core.Logic.{inl, inr}
-use native.Mathlib.Omega.{arith}
+use Rattle.std.proofs.Common.{sym, ◌∙◌, inl, inr, arith}
 use Rattle.hashtag.proofs.SeekLaws.{seeking_begins, seeking_plain, seeking_over, sought_ill, sought_end, sought_some, measured_none, Stands, stands}
 use Rattle.hashtag.proofs.seek.Goals as goal
-use Rattle.hashtag.proofs.seek.Goals.{Else-len-eq0}
+use Rattle.hashtag.proofs.seek.Goals.{Else-len-eq0, else-is_sign_at-via-then-is_sign_at+else-begins, else-is_sign_at-via-else-is_sign_at}
 
 pub loop-at-init : goal.loop-at-init
 loop-at-init c = seeking_begins _ _ _ c.requires.from_in_bounds
 
 pub loop-at-preserved-then-at-past : goal.loop-at-preserved-then-at-past
-loop-at-preserved-then-at-past c = seeking_plain _ _ c.loop-at.invariant (c.skip-past.ensures false c.requires.stops_of) c.if-at-past.true
-
-pub measure-len-requires : goal.measure-len-requires
-measure-len-requires c = c.loop-at-test.true
+loop-at-preserved-then-at-past c = seeking_plain _ _ c.loop-at.invariant c.skip-past.ensures c.if-at-past.true
 
 pub returns-then-len-eq0 : goal.returns-then-len-eq0
 returns-then-len-eq0 c = sought_ill _ _ c.loop-at.invariant (measured_none _ _ _ c.loop-at-test.true c.measure-len.ensures c.if-len-eq0.true)
@@ -25,19 +19,13 @@ standing : (c : goal.Else-len-eq0)
     Stands a.image.now a.text.now c.loop-at.at c.measure-len.result
 standing c = stands _ _ _ _ c.loop-at-test.true c.measure-len.ensures c.if-len-eq0.false
 
-pub overflow_add-next : goal.overflow_add-next
-overflow_add-next c = omega (arith, (standing c).here.within)
+pub overflow_add-sign : goal.overflow_add-sign
+overflow_add-sign c = omega (arith, (standing c).here.within)
 
 pub returns-then-begins : goal.returns-then-begins
 returns-then-begins c =
     let s = standing (goal.at.returns-then-begins c).Else-len-eq0 in
     sought_some _ _ c.loop-at.invariant s.here (sym s.sign ∙ sym c.is_sign_at.ensures ∙ c.if-is_sign_at.true) (sym c.begins.ensures ∙ c.if-begins.true)
-
-pub loop-at-smaller-else-begins : goal.loop-at-smaller-else-begins
-loop-at-smaller-else-begins c = let h = (standing (goal.at.loop-at-smaller-else-begins c).Else-len-eq0).here in omega (arith, h.some_bytes, h.within)
-
-pub loop-at-preserved-else-begins : goal.loop-at-preserved-else-begins
-loop-at-preserved-else-begins c = seeking_over _ _ c.loop-at.invariant (standing (goal.at.loop-at-preserved-else-begins c).Else-len-eq0).here (inr (sym c.begins.ensures ∙ c.if-begins.false))
 
 pub loop-at-smaller : goal.loop-at-smaller
 loop-at-smaller c = let h = (standing (goal.at.loop-at-smaller c).Else-len-eq0).here in omega (arith, h.some_bytes, h.within)
@@ -45,7 +33,11 @@ loop-at-smaller c = let h = (standing (goal.at.loop-at-smaller c).Else-len-eq0).
 pub loop-at-preserved : goal.loop-at-preserved
 loop-at-preserved c =
     let s = standing (goal.at.loop-at-preserved c).Else-len-eq0 in
-    seeking_over _ _ c.loop-at.invariant s.here (inl (sym s.sign ∙ sym c.is_sign_at.ensures ∙ c.if-is_sign_at.false))
+    elim c.else-is_sign_at.branch [
+      | else-is_sign_at-via-then-is_sign_at+else-begins w ↦ seeking_over _ _ c.loop-at.invariant s.here (inr (sym w.begins.ensures ∙ w.if-begins.false))
+      | else-is_sign_at-via-else-is_sign_at w ↦
+          seeking_over _ _ c.loop-at.invariant s.here (inl (sym s.sign ∙ sym c.is_sign_at.ensures ∙ w.if-is_sign_at.false))
+    ]
 
 pub returns : goal.returns
 returns c = sought_end _ _ c.loop-at.invariant c.loop-at-test.false
