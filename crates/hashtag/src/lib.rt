@@ -83,40 +83,6 @@ fn continues(code: u32, traits: u32) -> bool
         && (character::HASHTAG <= traits || matches!(traits % 8, image::START | image::NONSTART))
 }
 
-// Whether the character at a place is hashtag Continue; there may be none.
-fn continues_at<'a>(image: &'a [u8], table: &'a [u8; 128], text: &'a [u8], at: usize) -> bool
-    requires image_value { refusal_of image.now ≡ none }
-    requires table_of { TableOf image.now table.now }
-    ensures { result ≡ continues_first image.now (characters_at text.now at) }
-{
-    if text.len() <= at {
-        return false;
-    }
-    let c = character::read(image, table, character::no_memo(), text, at);
-    c.len != 0 && continues(c.code, c.traits)
-}
-
-// One past the run of hashtag Continue that begins at a place.
-fn find_run_end<'a>(image: &'a [u8], table: &'a [u8; 128], text: &'a [u8], from: usize) -> usize
-    requires image_value { refusal_of image.now ≡ none }
-    requires table_of { TableOf image.now table.now }
-    requires from_in_bounds { from ≤ length text.now }
-    ensures { (result ≡ from + width_of (run_of image.now (characters_at text.now from))) × (result ≤ length text.now) }
-{
-    let mut memo = character::no_memo();
-    let mut at = from;
-    // a `while`, since characters differ in length
-    while at < text.len() {
-        let c = character::read(image, table, memo, text, at);
-        if c.len == 0 || !continues(c.code, c.traits) {
-            break;
-        }
-        memo = c.memo;
-        at += c.len;
-    }
-    at
-}
-
 // What a table of bytes has for a byte: STOP where a search stops, else how many line ends it passes over there. The first bytes of the signs
 // stop it; in a text that is known to be well-formed those whose line end is to be looked at too, in another every byte that isn't a
 // character by itself.
@@ -227,75 +193,6 @@ fn is_sign_at(text: &[u8], at: usize) -> bool
     b == NUMBER_SIGN as u8 || b == WIDE_SIGNS && is_sign((utf8::decode_packed(text, at) / 8) as u32)
 }
 
-// Whether no hashtag Continue stands right before a place; the character there begins at `before`, or there is none and the two are the same.
-fn is_free<'a>(
-    image: &'a [u8],
-    table: &'a [u8; 128],
-    text: &'a [u8],
-    before: usize,
-    at: usize,
-) -> bool
-    requires image_value { refusal_of image.now ≡ none }
-    requires table_of { TableOf image.now table.now }
-    ensures { result ≡ free_at image.now text.now before at }
-{
-    at <= before || !continues_at(image, table, text, before)
-}
-
-// Whether a sign begins a hashtag: no hashtag Continue stands right before it, and one right after it.
-fn begins<'a>(
-    image: &'a [u8],
-    table: &'a [u8; 128],
-    text: &'a [u8],
-    before: usize,
-    sign: Sign,
-) -> bool
-    requires image_value { refusal_of image.now ≡ none }
-    requires table_of { TableOf image.now table.now }
-    ensures { result ≡ (free_at image.now text.now before sign.at && continues_first image.now (characters_at text.now sign.next)) }
-{
-    is_free(image, table, text, before, sign.at) && continues_at(image, table, text, sign.next)
-}
-
-// The sign of the next hashtag from a place on, where no hashtag Continue stands right before that place; else the place where the characters
-// end. `before` is where the character right before `at` begins, or `at` itself where there is none.
-fn seek<'a>(
-    image: &'a [u8],
-    table: &'a [u8; 128],
-    stops: &'a [u8; 256],
-    text: &'a [u8],
-    from: usize,
-) -> Result<Sign, usize>
-    requires image_value { refusal_of image.now ≡ none }
-    requires table_of { TableOf image.now table.now }
-    requires stops_of { StopsOf false stops.now }
-    requires from_in_bounds { from ≤ length text.now }
-    ensures { Sought image.now text.now from result }
-{
-    let mut before = from;
-    let mut at = from;
-    // a `while`, since characters differ in length
-    while at < text.len() {
-        let past = skip(stops, text, at);
-        if at < past {
-            before = past - 1;
-            at = past;
-            continue;
-        }
-        let len = utf8::measure(text, at);
-        if len == 0 {
-            return Err(at);
-        }
-        let sign = Sign { at, next: at + len };
-        if is_sign_at(text, at) && begins(image, table, text, before, sign) {
-            return Ok(sign);
-        }
-        before = at;
-        at = sign.next;
-    }
-    Err(at)
-}
-
 // Where the character begins that ends at a place, not before another place; the same place where the two are the same.
 fn step_back(text: &[u8], from: usize, to: usize) -> usize
     requires { (from ≤ to) × (to ≤ length text.now) }
@@ -309,44 +206,123 @@ fn step_back(text: &[u8], from: usize, to: usize) -> usize
     from
 }
 
-// As `seek`, in a text that is well-formed from the place on, which has this line; None where no hashtag is left. Bytes at which it doesn't
-// stop are passed over, whatever character they are of.
-fn seek_known<'a>(
+// A text, and a class image that was accepted, with the traits of ASCII under it.
+#[derive(Clone, Copy)]
+struct Reader<'a> {
     image: &'a [u8],
     table: &'a [u8; 128],
-    stops: &'a [u8; 256],
     text: &'a [u8],
-    from: usize,
-    mut line: u32,
-) -> Option<FoundSign>
-    requires image_value { refusal_of image.now ≡ none }
-    requires table_of { TableOf image.now table.now }
-    requires stops_of { StopsOf true stops.now }
-    requires text_len_bound { length text.now ≤ max_text }
-    requires from_in_bounds { (from ≤ length text.now) × (text_of (drop from text.now) ≡ WellFormed) }
-    requires line_at { LineAt text.now from line }
-    ensures sought { MatchOption result (hashtags_at image.now text.now true from ≡ []) (λ f. SignFound image.now text.now from f.sign) }
-    ensures line_at_2 { IfSome result (λ f. LineAt text.now f.sign.at f.line × LineAt text.now f.sign.next f.line) }
-{
-    let mut at = from;
-    // a `while`, since characters differ in length
-    while at < text.len() {
-        let near = pass_fours(stops, text, at, line);
-        let stop = pass_bytes(stops, text, near.at, near.line);
-        at = stop.at;
-        line = stop.line;
-        if text.len() <= at {
-            return None;
+    ghost image_value: { refusal_of image.now ≡ none },
+    ghost table_of: { TableOf image.now table.now },
+}
+
+impl<'a> Reader<'a> {
+    // Whether the character at a place is hashtag Continue; there may be none.
+    fn continues_at(self, at: usize) -> bool
+        ensures { result ≡ continues_first self.entry.image.now (characters_at self.entry.text.now at) }
+    {
+        if self.text.len() <= at {
+            return false;
         }
-        let len = utf8::measure_known(text[at]);
-        let sign = Sign { at, next: at + len };
-        if is_sign_at(text, at) && begins(image, table, text, step_back(text, from, at), sign) {
-            return Some(FoundSign { sign, line });
-        }
-        line += line::count_at(text, at);
-        at = sign.next;
+        let c = character::read(self.image, self.table, character::no_memo(), self.text, at);
+        c.len != 0 && continues(c.code, c.traits)
     }
-    None
+
+    // One past the run of hashtag Continue that begins at a place.
+    fn find_run_end(self, from: usize) -> usize
+        requires from_in_bounds { from ≤ length self.text.now }
+        ensures { let r = self.entry in (result ≡ from + width_of (run_of r.image.now (characters_at r.text.now from))) × (result ≤ length r.text.now) }
+    {
+        let mut memo = character::no_memo();
+        let mut at = from;
+        // a `while`, since characters differ in length
+        while at < self.text.len() {
+            let c = character::read(self.image, self.table, memo, self.text, at);
+            if c.len == 0 || !continues(c.code, c.traits) {
+                break;
+            }
+            memo = c.memo;
+            at += c.len;
+        }
+        at
+    }
+
+    // Whether no hashtag Continue stands right before a place; the character there begins at `before`, or there is none and the two are the
+    // same.
+    fn is_free(self, before: usize, at: usize) -> bool
+        ensures { result ≡ free_at self.entry.image.now self.entry.text.now before at }
+    {
+        at <= before || !self.continues_at(before)
+    }
+
+    // Whether a sign begins a hashtag: no hashtag Continue stands right before it, and one right after it.
+    fn begins(self, before: usize, sign: Sign) -> bool
+        ensures { let r = self.entry in result ≡ (free_at r.image.now r.text.now before sign.at && continues_first r.image.now (characters_at r.text.now sign.next)) }
+    {
+        self.is_free(before, sign.at) && self.continues_at(sign.next)
+    }
+
+    // The sign of the next hashtag from a place on, where no hashtag Continue stands right before that place; else the place where the
+    // characters end. `before` is where the character right before `at` begins, or `at` itself where there is none.
+    fn seek(self, stops: &[u8; 256], from: usize) -> Result<Sign, usize>
+        requires stops_of { StopsOf false stops.now }
+        requires from_in_bounds { from ≤ length self.text.now }
+        ensures { Sought self.entry.image.now self.entry.text.now from result }
+    {
+        let mut before = from;
+        let mut at = from;
+        // a `while`, since characters differ in length
+        while at < self.text.len() {
+            let past = skip(stops, self.text, at);
+            if at < past {
+                before = past - 1;
+                at = past;
+                continue;
+            }
+            let len = utf8::measure(self.text, at);
+            if len == 0 {
+                return Err(at);
+            }
+            let sign = Sign { at, next: at + len };
+            if is_sign_at(self.text, at) && self.begins(before, sign) {
+                return Ok(sign);
+            }
+            before = at;
+            at = sign.next;
+        }
+        Err(at)
+    }
+
+    // As `seek`, in a text that is well-formed from the place on, which has this line; None where no hashtag is left. Bytes at which it
+    // doesn't stop are passed over, whatever character they are of.
+    fn seek_known(self, stops: &[u8; 256], from: usize, mut line: u32) -> Option<FoundSign>
+        requires stops_of { StopsOf true stops.now }
+        requires text_len_bound { length self.text.now ≤ max_text }
+        requires from_in_bounds { (from ≤ length self.text.now) × (text_of (drop from self.text.now) ≡ WellFormed) }
+        requires line_at { LineAt self.text.now from line }
+        ensures sought { let r = self.entry in MatchOption result (hashtags_at r.image.now r.text.now true from ≡ []) (λ f. SignFound r.image.now r.text.now from f.sign) }
+        ensures line_at_2 { let t = self.entry.text.now in IfSome result (λ f. LineAt t f.sign.at f.line × LineAt t f.sign.next f.line) }
+    {
+        let mut at = from;
+        // a `while`, since characters differ in length
+        while at < self.text.len() {
+            let near = pass_fours(stops, self.text, at, line);
+            let stop = pass_bytes(stops, self.text, near.at, near.line);
+            at = stop.at;
+            line = stop.line;
+            if self.text.len() <= at {
+                return None;
+            }
+            let len = utf8::measure_known(self.text[at]);
+            let sign = Sign { at, next: at + len };
+            if is_sign_at(self.text, at) && self.begins(step_back(self.text, from, at), sign) {
+                return Some(FoundSign { sign, line });
+            }
+            line += line::count_at(self.text, at);
+            at = sign.next;
+        }
+        None
+    }
 }
 
 // The answer where the characters end at a place: so many hashtags, or refusal 6 if the text goes on there.
@@ -368,10 +344,11 @@ fn count_hashtags<'a>(image: &'a [u8], table: &'a [u8; 128], text: &'a [u8]) -> 
     ensures { result ≡ counted_through image.now text.now }
 {
     let stops = fill_stops(false);
+    let reader = Reader { image, table, text };
     let mut count = 0;
     let mut at = 0;
     loop {
-        match seek(image, table, &stops, text, at) {
+        match reader.seek(&stops, at) {
             Ok(sign) => {
                 count += 1;
                 at = sign.next;
@@ -391,12 +368,13 @@ fn write_hashtags<'a>(image: &'a [u8], table: &'a [u8; 128], text: &'a [u8], out
     ensures { out.new ≡ laid out.old 0 (spans_words text.now (hashtags_of image.now text.now)) }
 {
     let stops = fill_stops(true);
+    let reader = Reader { image, table, text };
     let mut w = 0;
     let mut at = 0;
     let mut line = 1;
-    while let Some(found) = seek_known(image, table, &stops, text, at, line) {
+    while let Some(found) = reader.seek_known(&stops, at, line) {
         let sign = found.sign;
-        let end = find_run_end(image, table, text, sign.next);
+        let end = reader.find_run_end(sign.next);
         grammar::put_record(&mut out[w..], HASHTAG_KIND, sign.at, end, found.line);
         w += RECORD_WORDS;
         at = sign.next;

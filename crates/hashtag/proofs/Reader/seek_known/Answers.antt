@@ -1,11 +1,11 @@
--- `hashtag::seek_known` meets its contract. Assumes nothing.
+-- `hashtag::Reader::seek_known` meets its contract. Assumes nothing.
 use Rattle.std.proofs.Common.{sym, ◌∙◌, arith}
 use Rattle.line.proofs.LineLaws.{line_few}
 use Rattle.hashtag.proofs.SeekLaws.{Stands}
 use Rattle.hashtag.proofs.CountedLaws.{counted_on}
 use Rattle.hashtag.proofs.KnownLaws.{Walked, walked_begins, walked_bytes, stands_here, known_end, known_some, known_over, known_passes, line_fits}
-use Rattle.hashtag.proofs.seek_known.Goals as goal
-use Rattle.hashtag.proofs.seek_known.Goals.{After-measure_known-len, After-pass_bytes-stop, else-is_sign_at-via-then-is_sign_at+else-begins, else-is_sign_at-via-else-is_sign_at}
+use Rattle.hashtag.proofs.Reader.seek_known.Goals as goal
+use Rattle.hashtag.proofs.Reader.seek_known.Goals.{After-measure_known-len, After-pass_bytes-stop, else-is_sign_at-via-then-is_sign_at+else-begins, else-is_sign_at-via-else-is_sign_at}
 
 pub loop-at-init : goal.loop-at-init
 loop-at-init c = walked_begins _ _ c.requires.from_in_bounds.0 c.requires.line_at
@@ -19,7 +19,7 @@ pass_bytes-stop-requires-clause-first_bound c = omega (arith, line_few c.loop-at
 -- what was passed over
 walked : (c : goal.After-pass_bytes-stop)
     → let a = c.args in
-    Walked a.image.now a.text.now a.from c.pass_bytes-stop.result.at c.pass_bytes-stop.result.line
+    Walked a.self.image.now a.self.text.now a.from c.pass_bytes-stop.result.at c.pass_bytes-stop.result.line
 walked c =
     walked_bytes _ _ _ c.requires.from_in_bounds.1 c.loop-at.invariant
     (counted_on c.pass_fours-near.ensures c.pass_bytes-stop.ensures.counted) c.pass_bytes-stop.ensures.stop
@@ -28,11 +28,11 @@ walked c =
 standing : (c : goal.After-measure_known-len)
     → let a = c.args in
     let r = c.pass_bytes-stop.result in
-    Walked a.image.now a.text.now a.from r.at r.line → Stands a.image.now a.text.now r.at c.measure_known-len.result
-standing c i = stands_here _ _ _ c.requires.from_in_bounds.1 _ i c.if-text-at.false c.measure_known-len.ensures
+    Walked a.self.image.now a.self.text.now a.from r.at r.line → Stands a.self.image.now a.self.text.now r.at c.measure_known-len.result
+standing c i = stands_here _ _ _ c.requires.from_in_bounds.1 _ i c.if-self-at.false c.measure_known-len.ensures
 
-pub returns-then-text-at-clause-sought : goal.returns-then-text-at-clause-sought
-returns-then-text-at-clause-sought c = known_end _ _ (walked (goal.at.returns-then-text-at-clause-sought c).After-pass_bytes-stop) c.if-text-at.true
+pub returns-then-self-at-clause-sought : goal.returns-then-self-at-clause-sought
+returns-then-self-at-clause-sought c = known_end _ _ (walked (goal.at.returns-then-self-at-clause-sought c).After-pass_bytes-stop) c.if-self-at.true
 
 pub overflow_add-sign : goal.overflow_add-sign
 overflow_add-sign c =

@@ -1,8 +1,8 @@
--- `hashtag::seek` meets its contract. Assumes nothing.
+-- `hashtag::Reader::seek` meets its contract. Assumes nothing.
 use Rattle.std.proofs.Common.{sym, ◌∙◌, inl, inr, arith}
 use Rattle.hashtag.proofs.SeekLaws.{seeking_begins, seeking_plain, seeking_over, sought_ill, sought_end, sought_some, measured_none, Stands, stands}
-use Rattle.hashtag.proofs.seek.Goals as goal
-use Rattle.hashtag.proofs.seek.Goals.{Else-len-eq0, else-is_sign_at-via-then-is_sign_at+else-begins, else-is_sign_at-via-else-is_sign_at}
+use Rattle.hashtag.proofs.Reader.seek.Goals as goal
+use Rattle.hashtag.proofs.Reader.seek.Goals.{Else-len-eq0, else-is_sign_at-via-then-is_sign_at+else-begins, else-is_sign_at-via-else-is_sign_at}
 
 pub loop-at-init : goal.loop-at-init
 loop-at-init c = seeking_begins _ _ _ c.requires.from_in_bounds
@@ -16,7 +16,7 @@ returns-then-len-eq0 c = sought_ill _ _ c.loop-at.invariant (measured_none _ _ _
 -- a character stands at the place
 standing : (c : goal.Else-len-eq0)
     → let a = c.args in
-    Stands a.image.now a.text.now c.loop-at.at c.measure-len.result
+    Stands a.self.image.now a.self.text.now c.loop-at.at c.measure-len.result
 standing c = stands _ _ _ _ c.loop-at-test.true c.measure-len.ensures c.if-len-eq0.false
 
 pub overflow_add-sign : goal.overflow_add-sign
