@@ -190,14 +190,18 @@ module _ (s text : List ℕ) where
       free_same : free_at s text r at ≡ free_at s text i.before at
       free_same = ap (λ (k : ℕ). free_at s text k at) (stepped i b)
 
-      pub known_some : is_sign h.code ≡ true → (free_at s text r at && continues_first s (characters_at text (at + n))) ≡ true → Finds (record { at = at; next = at + n })
-      known_some g e = (
-        sought_some s text i.seeking h.here g (ap (λ (t : Bool). t && continues_first s (characters_at text (at + n))) (sym free_same) ∙ e),
+      -- a hashtag begins here, by what tells so
+      abbrev Begins : Bool → Type 0
+      Begins b = b ≡ (free_at s text r at && continues_first s (characters_at text (at + n)))
+
+      pub known_some : {b : Bool} → is_sign h.code ≡ true → Begins b → b ≡ true → Finds (record { at = at; next = at + n })
+      known_some g d e = (
+        sought_some s text i.seeking h.here g (ap (λ (t : Bool). t && continues_first s (characters_at text (at + n))) (sym free_same) ∙ sym d ∙ e),
         (i.lined, line_passes i.lined h.code n h.step (sign_ends_none h.code g)),
       )
 
-      pub known_over : {k : ℕ} → k ≡ end_at text at → (free_at s text r at && continues_first s (characters_at text (at + n))) ≡ false → Walked from (at + n) (line + k)
-      known_over f e = walked_over i h (inr (ap (λ (t : Bool). t && continues_first s (characters_at text (at + n))) (sym free_same) ∙ e)) (line_past h f)
+      pub known_over : {k : ℕ} {b : Bool} → k ≡ end_at text at → Begins b → b ≡ false → Walked from (at + n) (line + k)
+      known_over f d e = walked_over i h (inr (ap (λ (t : Bool). t && continues_first s (characters_at text (at + n))) (sym free_same) ∙ sym d ∙ e)) (line_past h f)
 
     pub known_passes : {n k : ℕ} (h : Stands s text at n) → k ≡ end_at text at → is_sign h.code ≡ false → Walked from (at + n) (line + k)
     known_passes h f g = walked_over i h (inl g) (line_past h f)

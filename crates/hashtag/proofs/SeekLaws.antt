@@ -145,6 +145,10 @@ module _ (s text : List ℕ) where
     pub here : Here at code n
     pub sign : sign_of (step_of (drop at text)) ≡ is_sign code
 
+  -- whether it is a sign, by what the sequence tells
+  pub stands_sign : {at n : ℕ} {b v : Bool} (h : Stands at n) → b ≡ sign_of (step_of (drop at text)) → b ≡ v → is_sign h.code ≡ v
+  stands_sign h e f = sym h.sign ∙ sym e ∙ f
+
   stands_at : {x : ℕ} (at n : ℕ) → step_of (drop at text) ≡ Scalar x n → at < length text → Stands at n
   stands_at {x} at n f h = record { code = x; step = f; here = here at x n h f; sign = ap sign_of f }
 

@@ -1,6 +1,6 @@
 -- `hashtag::Reader::seek` meets its contract. Assumes nothing.
 use Rattle.std.proofs.Common.{sym, ◌∙◌, inl, inr, arith}
-use Rattle.hashtag.proofs.SeekLaws.{seeking_begins, seeking_plain, seeking_over, sought_ill, sought_end, sought_some, measured_none, Stands, stands}
+use Rattle.hashtag.proofs.SeekLaws.{seeking_begins, seeking_plain, seeking_over, sought_ill, sought_end, sought_some, measured_none, Stands, stands, stands_sign}
 use Rattle.hashtag.proofs.Reader.seek.Goals as goal
 use Rattle.hashtag.proofs.Reader.seek.Goals.{Else-len-eq0, else-is_sign_at-via-then-is_sign_at+else-begins, else-is_sign_at-via-else-is_sign_at}
 
@@ -25,7 +25,7 @@ overflow_add-sign c = omega (arith, (standing c).here.within)
 pub returns-then-begins : goal.returns-then-begins
 returns-then-begins c =
     let s = standing (goal.at.returns-then-begins c).Else-len-eq0 in
-    sought_some _ _ c.loop-at.invariant s.here (sym s.sign ∙ sym c.is_sign_at.ensures ∙ c.if-is_sign_at.true) (sym c.begins.ensures ∙ c.if-begins.true)
+    sought_some _ _ c.loop-at.invariant s.here (stands_sign _ _ s c.is_sign_at.ensures c.if-is_sign_at.true) (sym c.begins.ensures ∙ c.if-begins.true)
 
 pub loop-at-smaller : goal.loop-at-smaller
 loop-at-smaller c = let h = (standing (goal.at.loop-at-smaller c).Else-len-eq0).here in omega (arith, h.some_bytes, h.within)
@@ -36,7 +36,7 @@ loop-at-preserved c =
     elim c.else-is_sign_at.branch [
       | else-is_sign_at-via-then-is_sign_at+else-begins w ↦ seeking_over _ _ c.loop-at.invariant s.here (inr (sym w.begins.ensures ∙ w.if-begins.false))
       | else-is_sign_at-via-else-is_sign_at w ↦
-          seeking_over _ _ c.loop-at.invariant s.here (inl (sym s.sign ∙ sym c.is_sign_at.ensures ∙ w.if-is_sign_at.false))
+          seeking_over _ _ c.loop-at.invariant s.here (inl (stands_sign _ _ s c.is_sign_at.ensures w.if-is_sign_at.false))
     ]
 
 pub returns : goal.returns

@@ -1,7 +1,7 @@
 -- `hashtag::Reader::seek_known` meets its contract. Assumes nothing.
-use Rattle.std.proofs.Common.{sym, ◌∙◌, arith}
+use Rattle.std.proofs.Common.{arith}
 use Rattle.line.proofs.LineLaws.{line_few}
-use Rattle.hashtag.proofs.SeekLaws.{Stands}
+use Rattle.hashtag.proofs.SeekLaws.{Stands, stands_sign}
 use Rattle.hashtag.proofs.CountedLaws.{counted_on}
 use Rattle.hashtag.proofs.KnownLaws.{Walked, walked_begins, walked_bytes, stands_here, known_end, known_some, known_over, known_passes, line_fits}
 use Rattle.hashtag.proofs.Reader.seek_known.Goals as goal
@@ -48,8 +48,7 @@ pub returns-then-begins : goal.returns-then-begins
 returns-then-begins c =
     let i = walked (goal.at.returns-then-begins c).After-pass_bytes-stop in
     let s = standing (goal.at.returns-then-begins c).After-measure_known-len i in
-    let t = known_some _ _ i s c.step_back.ensures
-    (sym s.sign ∙ sym c.is_sign_at.ensures ∙ c.if-is_sign_at.true) (sym c.begins.ensures ∙ c.if-begins.true) in
+    let t = known_some _ _ i s c.step_back.ensures (stands_sign _ _ s c.is_sign_at.ensures c.if-is_sign_at.true) c.begins.ensures c.if-begins.true in
     record { sought = t.0; line_at_2 = t.1 }
 
 pub overflow_add-line : goal.overflow_add-line
@@ -70,8 +69,8 @@ loop-at-preserved c =
     let s = standing (goal.at.loop-at-preserved c).After-measure_known-len i in
     elim c.else-is_sign_at.branch [
       | else-is_sign_at-via-then-is_sign_at+else-begins w ↦
-          known_over _ _ i s w.step_back.ensures c.count_at-line.ensures (sym w.begins.ensures ∙ w.if-begins.false)
-      | else-is_sign_at-via-else-is_sign_at w ↦ known_passes _ _ i s c.count_at-line.ensures (sym s.sign ∙ sym c.is_sign_at.ensures ∙ w.if-is_sign_at.false)
+          known_over _ _ i s w.step_back.ensures c.count_at-line.ensures w.begins.ensures w.if-begins.false
+      | else-is_sign_at-via-else-is_sign_at w ↦ known_passes _ _ i s c.count_at-line.ensures (stands_sign _ _ s c.is_sign_at.ensures w.if-is_sign_at.false)
     ]
 
 pub returns-clause-sought : goal.returns-clause-sought
