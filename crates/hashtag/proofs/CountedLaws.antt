@@ -9,7 +9,7 @@ use lib.ListN.{length, get_or, take, drop}
 use lib.Seq.{get_or-drop}
 use Rattle.lists.proofs.LaidLaws.{rest as part_rest}
 use Rattle.line.specs.Ends.{look}
-use Rattle.hashtag.specs.Seek.{stop_for, sum_of, LinesCounted, LinesCountedTo}
+use Rattle.hashtag.specs.Seek.{stop_for, sum_of, LinesCounted}
 use Rattle.hashtag.specs.declared.Reach.{Reach}
 use Rattle.hashtag.proofs.SeekLaws.{passed_begins}
 
@@ -97,16 +97,6 @@ module _ {text : List ℕ} {from first : ℕ} where
       go : (j : ℕ) → from ≤ j → j < at + n → Dec (j < at) → stop_for true (get_or text j 0) < look
       go j u v (yes w) = i.passed.each j u w
       go j u v (no w) = sum-each text at n (omega arith) j (omega arith) v
-
-  -- .. up to where the search stops, or to the text's end
-  module _ {at line : ℕ} (i : LinesCounted text from first (reach at line)) where
-    pub counted_stop : {n : ℕ} → n ≡ stop_for true (get_or text at 0) → look ≤ n → LinesCountedTo text from first (reach at line)
-    counted_stop e h = record { counted = i; stop = λ l u. omega arith }
-
-    pub counted_end : length text ≤ at → LinesCountedTo text from first (reach (length text) line)
-    counted_end h =
-        let q : at ≡ length text = omega (arith, i.passed.within) in
-        record { counted = subst (λ (k : ℕ). LinesCounted text from first (reach k line)) q i; stop = λ l. absurd (omega arith) }
 
   -- on from there
   pub counted_on : {r q : Reach} → LinesCounted text from first r → LinesCounted text r.at r.line q → LinesCounted text from first q

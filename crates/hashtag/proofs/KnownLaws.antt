@@ -31,25 +31,6 @@ pub record Back (text : List ℕ) (from to at : ℕ) : Type 0 where
   pub below : at ≤ to
   pub others : (i : ℕ) → at ≤ i → i < to → is_trail (get_or text i 0) ≡ true
 
-pub back_begins : (text : List ℕ) (from to : ℕ) → from ≤ to → Back text from to to
-back_begins text from to h = record { above = h; below = omega arith; others = λ i l u. absurd (omega arith) }
-
-module _ {text : List ℕ} {from to at : ℕ} (i : Back text from to at) where
-  pub back_more : from < at → is_trail (get_or text (at - 1) 0) ≡ true → Back text from to (at - 1)
-  back_more h e = record { above = omega arith; below = omega (arith, i.below); others = λ j l u. go j l u (dec_lt j at) }
-    where
-      go : (j : ℕ) → at - 1 ≤ j → j < to → Dec (j < at) → is_trail (get_or text j 0) ≡ true
-      go j l u (yes v) = let q : j ≡ at - 1 = omega arith in ap (λ (k : ℕ). is_trail (get_or text k 0)) q ∙ e
-      go j l u (no v) = i.others j (omega arith) u
-
-  pub backed_found : from < at → is_trail (get_or text (at - 1) 0) ≡ false → Backed text from to (at - 1)
-  backed_found h e =
-      record { above = omega arith; below = omega (arith, i.below); others = λ j l u. i.others j (omega arith) u; first = inl (omega (arith, i.below), e) }
-
-  pub backed_none : at ≤ from → Backed text from to from
-  backed_none h =
-      record { above = omega arith; below = omega (arith, i.above, i.below); others = λ j l u. i.others j (omega arith) u; first = inr (refl, λ l. i.others from h l) }
-
 module _ (s text : List ℕ) where
   -- the bytes of a character: the first, and those that follow it
   byte_at : (at i : ℕ) → get_or (drop at text) i 0 ≡ get_or text (at + i) 0

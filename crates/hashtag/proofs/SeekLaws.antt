@@ -77,22 +77,6 @@ small b {n} e = go (eqb b 0x23) (eqb b 0xEF) e
 pub passed_begins : (known : Bool) (text : List ℕ) (from : ℕ) → from ≤ length text → BytesPassed known text from from
 passed_begins known text from h = record { above = omega arith; within = h; each = λ i l u. absurd (omega arith) }
 
-pub passed_more : {known : Bool} {text : List ℕ} {from at : ℕ} → BytesPassed known text from at → at < length text → stop_for known (get_or text at 0) < look → BytesPassed known text from (at + 1)
-passed_more {known} {text} {from} {at} p h e =
-    record { above = omega (arith, p.above); within = omega arith; each = λ i l u. go i l u (dec_lt i at) }
-  where
-    go : (i : ℕ) → from ≤ i → i < at + 1 → Dec (i < at) → stop_for known (get_or text i 0) < look
-    go i l u (yes v) = p.each i l v
-    go i l u (no v) = let q : at ≡ i = omega arith in subst (λ (j : ℕ). stop_for known (get_or text j 0) < look) q e
-
--- .. up to where a search stops, or to the text's end
-module _ {text : List ℕ} {from at : ℕ} (p : BytesPassed false text from at) where
-  pub passed_stop : {n : ℕ} → n ≡ stop_for false (get_or text at 0) → look ≤ n → Skipped text from at
-  passed_stop e h = record { passed = p; stop = λ l u. omega arith }
-
-  pub passed_end : length text ≤ at → Skipped text from (length text)
-  passed_end h = record { passed = let q : at ≡ length text = omega (arith, p.within) in subst (BytesPassed false text from) q p; stop = λ l. absurd (omega arith) }
-
 -- the length of the sequence at a place: none begins there, or one of this length
 pub measured_none : (text : List ℕ) (at n : ℕ) → at < length text → n ≡ length_of (step_of (drop at text)) → n ≡ 0 → IllHead (drop at text)
 measured_none text at n h e z = go (step_of (drop at text)) refl (sym e ∙ z)
