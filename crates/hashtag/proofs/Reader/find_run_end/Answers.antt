@@ -1,24 +1,13 @@
 -- `hashtag::Reader::find_run_end` meets its contract. Assumes nothing.
 use Rattle.std.proofs.Common.{sym, ◌∙◌, arith}
-use Rattle.hashtag.proofs.SeekLaws.{read_continues, running_begins, run_ill, run_end, run_stops, run_goes}
+use Rattle.hashtag.proofs.SeekLaws.{read_continues, run_ill, run_end, run_stops, run_goes}
 use Rattle.hashtag.proofs.Reader.find_run_end.Goals as goal
 use Rattle.hashtag.proofs.Reader.find_run_end.Goals.{then-c-eq0-via-then-c-eq0, then-c-eq0-via-else-c-eq0+then-not-continues}
-
-pub loop-at-init : goal.loop-at-init
-loop-at-init c = (running_begins _ _ _ c.requires.from_in_bounds, c.no_memo-memo.ensures _)
-
-pub read-c-requires-clause-memo_of : goal.read-c-requires-clause-memo_of
-read-c-requires-clause-memo_of c = c.loop-at.invariant.1
 
 pub overflow_add-at : goal.overflow_add-at
 overflow_add-at c =
     let r = read_continues _ _ _ _ c.args.self.image_value c.loop-at-test.true c.read-c.ensures (omega arith) in
     omega (arith, r.0.within)
-
-pub loop-at-smaller : goal.loop-at-smaller
-loop-at-smaller c =
-    let r = read_continues _ _ _ _ c.args.self.image_value c.loop-at-test.true c.read-c.ensures (omega arith) in
-    omega (arith, r.0.some_bytes, r.0.within)
 
 pub loop-at-preserved : goal.loop-at-preserved
 loop-at-preserved c =

@@ -1,11 +1,8 @@
 -- `hashtag::Reader::seek` meets its contract. Assumes nothing.
 use Rattle.std.proofs.Common.{sym, ◌∙◌, inl, inr, arith}
-use Rattle.hashtag.proofs.SeekLaws.{seeking_begins, seeking_plain, seeking_over, sought_ill, sought_end, sought_some, measured_none, Stands, stands, stands_sign}
+use Rattle.hashtag.proofs.SeekLaws.{seeking_plain, seeking_over, sought_ill, sought_end, sought_some, measured_none, Stands, stands, stands_sign}
 use Rattle.hashtag.proofs.Reader.seek.Goals as goal
 use Rattle.hashtag.proofs.Reader.seek.Goals.{Else-len-eq0, else-is_sign_at-via-then-is_sign_at+else-begins, else-is_sign_at-via-else-is_sign_at}
-
-pub loop-at-init : goal.loop-at-init
-loop-at-init c = seeking_begins _ _ _ c.requires.from_in_bounds
 
 pub loop-at-preserved-then-at-past : goal.loop-at-preserved-then-at-past
 loop-at-preserved-then-at-past c = seeking_plain _ _ c.loop-at.invariant c.skip-past.ensures c.if-at-past.true
@@ -26,9 +23,6 @@ pub returns-then-begins : goal.returns-then-begins
 returns-then-begins c =
     let s = standing (goal.at.returns-then-begins c).Else-len-eq0 in
     sought_some _ _ c.loop-at.invariant s.here (stands_sign _ _ s c.is_sign_at.ensures c.if-is_sign_at.true) (sym c.begins.ensures ∙ c.if-begins.true)
-
-pub loop-at-smaller : goal.loop-at-smaller
-loop-at-smaller c = let h = (standing (goal.at.loop-at-smaller c).Else-len-eq0).here in omega (arith, h.some_bytes, h.within)
 
 pub loop-at-preserved : goal.loop-at-preserved
 loop-at-preserved c =

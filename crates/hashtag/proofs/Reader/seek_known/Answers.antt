@@ -39,11 +39,6 @@ overflow_add-sign c =
     let s = standing (goal.at.overflow_add-sign c).After-measure_known-len (walked (goal.at.overflow_add-sign c).After-pass_bytes-stop) in
     omega (arith, s.here.within)
 
-pub step_back-requires : goal.step_back-requires
-step_back-requires c =
-    let i = (walked (goal.at.step_back-requires c).After-pass_bytes-stop).seeking in
-    (i.above, i.within)
-
 pub returns-then-begins : goal.returns-then-begins
 returns-then-begins c =
     let i = walked (goal.at.returns-then-begins c).After-pass_bytes-stop in
