@@ -2,7 +2,7 @@
 use Prim.Native.Nat.{ℕ, ◌+◌, ◌-◌, ◌*◌, ◌≤◌}
 use mathlib.Core.Path.{◌≡◌, refl, sym, ap, ◌∙◌}
 use mathlib.Core.Bool.{true}
-use mathlib.Core.List.{List, [], ◌∷◌, ◌++◌, append_assoc, append-nil}
+use mathlib.Core.List.{List, [], ◌∷◌, ◌++◌, append_assoc}
 use native.Mathlib.Omega.{arith}
 use lib.ListN.{length, take, drop, length-append, length-take, length-drop}
 use borrow.Rule.Slice.PartMut.{put_mid}
@@ -20,7 +20,6 @@ use Rattle.hashtag.specs.Listed.{hashtag_kind, span_words, spans_words, hashtags
 use Rattle.hashtag.specs.Seek.{hashtags_at, SignFound, NoneFound}
 use Rattle.grammar.specs.declared.Counted.TheVariants.{Records}
 use Rattle.hashtag.specs.declared.Sign.{Sign}
-use Rattle.hashtag.proofs.SeekLaws.{unshifted}
 
 -- the words of hashtags
 module _ (text : List ℕ) where
@@ -54,10 +53,6 @@ module _ (s text : List ℕ) where
   unfolding hashtags_of
   counting_begins = record { reached = reached_begins; few = omega arith; sum = omega arith }
 
-  pub counting_next : {count at : ℕ} {r : Sign} → Counting count at → SignFound s text at r → Counting (count + 1) r.next
-  counting_next i h =
-      record { reached = reached_next i.reached h; few = omega (arith, i.few, h.above, h.rises); sum = omega (arith, i.sum, ap length h.some) }
-
   -- the answer, by what is said of the text from a place on
   closes : (at count : ℕ) (t : Text) → shift at t ≡ text_of text → length (hashtags_of s text) ≡ count → closed_by at count t ≡ counted_through s text
   unfolding counted_through hashtags_through
@@ -84,12 +79,6 @@ module _ (s text : List ℕ) where
       record { reached = reached_begins; lined = line_begins text; done = []; all = refl; placed = refl; long = refl; same = sym (laid_none out 0) }
 
   module _ {out₀ out : List ℕ} {w at line : ℕ} (i : Writing out₀ out w at line) where
-    pub writing_known : text_of text ≡ WellFormed → text_of (drop at text) ≡ WellFormed
-    writing_known e = unshifted at (text_of (drop at text)) (i.reached.form ∙ e)
-
-    pub writing_ends : hashtags_at s text true at ≡ [] → out ≡ laid out₀ 0 (spans_words text (hashtags_of s text))
-    writing_ends e = i.same ∙ ap (λ (ts : List Span). laid out₀ 0 (spans_words text ts)) (sym (i.all ∙ ap (λ (ts : List Span). i.done ++ ts) e ∙ append-nil i.done))
-
     -- one more
     module _ {r : Sign} (h : SignFound s text at r) (room : record_size * length (hashtags_of s text) ≤ length out₀) where
       abbrev found : Span

@@ -157,9 +157,6 @@ module _ (s text : List ℕ) where
     pub within : at ≤ length text
     pub same : from + width_of (run_of s (characters_at text from)) ≡ at + width_of (run_of s (characters_at text at))
 
-  pub running_begins : (from : ℕ) → from ≤ length text → Running from from
-  running_begins from h = record { above = omega arith; within = h; same = refl }
-
   module _ {from at : ℕ} (i : Running from at) where
     abbrev Ends : Type 0
     Ends = (at ≡ from + width_of (run_of s (characters_at text from))) × (at ≤ length text)
