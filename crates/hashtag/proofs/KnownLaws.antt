@@ -3,7 +3,7 @@
 use Prim.Native.Nat.{ℕ, zero, suc, ◌+◌, ◌-◌, ◌≤◌, ◌<◌}
 use mathlib.Core.Path.{◌≡◌, refl, sym, ap, subst, ◌∙◌}
 use mathlib.Core.Bool.{Bool, true, false, ◌&&◌}
-use mathlib.Core.List.{List}
+use mathlib.Core.List.{List, []}
 use mathlib.Core.Logic.{◌⊎◌, inl, inr}
 use native.Mathlib.Omega.{arith}
 use native.Mathlib.Decide.{dec_lt}
@@ -18,7 +18,7 @@ use Rattle.line.specs.Line.{ends_line, one, LineAt}
 use Rattle.line.specs.Ends.{look, end_at}
 use Rattle.line.proofs.LineLaws.{told, end_at_lem, line_counted, counted_few, line_passes}
 use Rattle.hashtag.specs.Sign.{is_sign}
-use Rattle.hashtag.specs.Seek.{continues_first, free_at, stop_for, BytesPassed, sum_of, LinesCounted, Backed, Sought}
+use Rattle.hashtag.specs.Seek.{continues_first, free_at, stop_for, BytesPassed, sum_of, hashtags_at, LinesCounted, Backed, SignFound}
 use Rattle.hashtag.specs.declared.Sign.{Sign}
 use Rattle.hashtag.specs.declared.Reach.{Reach}
 use Rattle.hashtag.proofs.SignLaws.{sign_ends_none, no_sign_here}
@@ -30,25 +30,6 @@ pub record Back (text : List ℕ) (from to at : ℕ) : Type 0 where
   pub above : from ≤ at
   pub below : at ≤ to
   pub others : (i : ℕ) → at ≤ i → i < to → is_trail (get_or text i 0) ≡ true
-
-pub back_begins : (text : List ℕ) (from to : ℕ) → from ≤ to → Back text from to to
-back_begins text from to h = record { above = h; below = omega arith; others = λ i l u. absurd (omega arith) }
-
-module _ {text : List ℕ} {from to at : ℕ} (i : Back text from to at) where
-  pub back_more : from < at → is_trail (get_or text (at - 1) 0) ≡ true → Back text from to (at - 1)
-  back_more h e = record { above = omega arith; below = omega (arith, i.below); others = λ j l u. go j l u (dec_lt j at) }
-    where
-      go : (j : ℕ) → at - 1 ≤ j → j < to → Dec (j < at) → is_trail (get_or text j 0) ≡ true
-      go j l u (yes v) = let q : j ≡ at - 1 = omega arith in ap (λ (k : ℕ). is_trail (get_or text k 0)) q ∙ e
-      go j l u (no v) = i.others j (omega arith) u
-
-  pub backed_found : from < at → is_trail (get_or text (at - 1) 0) ≡ false → Backed text from to (at - 1)
-  backed_found h e =
-      record { above = omega arith; below = omega (arith, i.below); others = λ j l u. i.others j (omega arith) u; first = inl (omega (arith, i.below), e) }
-
-  pub backed_none : at ≤ from → Backed text from to at
-  backed_none h =
-      record { above = i.above; below = i.below; others = λ j l u. i.others j (omega arith) u; first = inr (omega (arith, i.above), λ l. i.others at (omega arith) l) }
 
 module _ (s text : List ℕ) where
   -- the bytes of a character: the first, and those that follow it
@@ -170,10 +151,10 @@ module _ (s text : List ℕ) where
   -- a hashtag begins at a place, or none does; nothing is left
   module _ {from at line : ℕ} (i : Walked from at line) where
     abbrev Finds : Sign → Type 0
-    Finds r = Sought s text from r × (LineAt text r.at line × LineAt text r.next line)
+    Finds r = SignFound s text from r × (LineAt text r.at line × LineAt text r.next line)
 
-    pub known_end : length text ≤ at → Finds (record { at = at; next = at })
-    known_end h = (sought_end s text i.seeking h, (i.lined, i.lined))
+    pub known_end : length text ≤ at → hashtags_at s text true from ≡ []
+    known_end h = (sought_end s text i.seeking h).none
 
     -- the line past a character
     module _ {n k : ℕ} (h : Stands s text at n) (e : k ≡ end_at text at) where
@@ -190,14 +171,18 @@ module _ (s text : List ℕ) where
       free_same : free_at s text r at ≡ free_at s text i.before at
       free_same = ap (λ (k : ℕ). free_at s text k at) (stepped i b)
 
-      pub known_some : is_sign h.code ≡ true → (free_at s text r at && continues_first s (characters_at text (at + n))) ≡ true → Finds (record { at = at; next = at + n })
-      known_some g e = (
-        sought_some s text i.seeking h.here g (ap (λ (t : Bool). t && continues_first s (characters_at text (at + n))) (sym free_same) ∙ e),
+      -- a hashtag begins here, by what tells so
+      abbrev Begins : Bool → Type 0
+      Begins b = b ≡ (free_at s text r at && continues_first s (characters_at text (at + n)))
+
+      pub known_some : {b : Bool} → is_sign h.code ≡ true → Begins b → b ≡ true → Finds (record { at = at; next = at + n })
+      known_some g d e = (
+        sought_some s text i.seeking h.here g (ap (λ (t : Bool). t && continues_first s (characters_at text (at + n))) (sym free_same) ∙ sym d ∙ e),
         (i.lined, line_passes i.lined h.code n h.step (sign_ends_none h.code g)),
       )
 
-      pub known_over : {k : ℕ} → k ≡ end_at text at → (free_at s text r at && continues_first s (characters_at text (at + n))) ≡ false → Walked from (at + n) (line + k)
-      known_over f e = walked_over i h (inr (ap (λ (t : Bool). t && continues_first s (characters_at text (at + n))) (sym free_same) ∙ e)) (line_past h f)
+      pub known_over : {k : ℕ} {b : Bool} → k ≡ end_at text at → Begins b → b ≡ false → Walked from (at + n) (line + k)
+      known_over f d e = walked_over i h (inr (ap (λ (t : Bool). t && continues_first s (characters_at text (at + n))) (sym free_same) ∙ sym d ∙ e)) (line_past h f)
 
     pub known_passes : {n k : ℕ} (h : Stands s text at n) → k ≡ end_at text at → is_sign h.code ≡ false → Walked from (at + n) (line + k)
     known_passes h f g = walked_over i h (inl g) (line_past h f)

@@ -1,8 +1,8 @@
 -- Counting the hashtags of a text and writing their words, one hashtag after the other. Assumes nothing.
-use Prim.Native.Nat.{ℕ, ◌+◌, ◌-◌, ◌*◌, ◌≤◌, ◌<◌}
+use Prim.Native.Nat.{ℕ, ◌+◌, ◌-◌, ◌*◌, ◌≤◌}
 use mathlib.Core.Path.{◌≡◌, refl, sym, ap, ◌∙◌}
 use mathlib.Core.Bool.{true}
-use mathlib.Core.List.{List, [], ◌∷◌, ◌++◌, append_assoc, append-nil}
+use mathlib.Core.List.{List, [], ◌∷◌, ◌++◌, append_assoc}
 use native.Mathlib.Omega.{arith}
 use lib.ListN.{length, take, drop, length-append, length-take, length-drop}
 use borrow.Rule.Slice.PartMut.{put_mid}
@@ -11,15 +11,14 @@ use Rattle.lists.specs.Laid.{laid}
 use Rattle.lists.proofs.LaidLaws.{laid_none, laid_step, length-laid, lent}
 use Rattle.utf8.specs.Text.{characters_at, width_of, text_of, shift, Form}
 use Rattle.utf8.proofs.TextLaws.{shift_zero, end_here, characters_end}
+use Rattle.utf8.specs.declared.Text.{Text}
 use Rattle.line.specs.Line.{LineAt}
 use Rattle.line.proofs.LineLaws.{line_begins}
 use Rattle.grammar.specs.Record.{record_size, token_words}
-use Rattle.hashtag.specs.Find.{Span, run_of, hashtags_from, hashtags_of}
+use Rattle.hashtag.specs.Find.{Span, run_of, hashtags_of}
 use Rattle.hashtag.specs.Listed.{hashtag_kind, span_words, spans_words, hashtags_through, counted_through, closed_by}
-use Rattle.hashtag.specs.Seek.{hashtags_at, Sought}
+use Rattle.hashtag.specs.Seek.{hashtags_at, Sought, SignFound, NoneFound}
 use Rattle.hashtag.specs.declared.Sign.{Sign}
-use Rattle.hashtag.proofs.FindLaws.{found_none}
-use Rattle.hashtag.proofs.SeekLaws.{unshifted}
 
 -- the words of hashtags
 module _ (text : List ℕ) where
@@ -40,11 +39,8 @@ module _ (s text : List ℕ) where
   reached_begins : Reached 0
   reached_begins = record { within = omega arith; form = shift_zero (text_of text) }
 
-  reached_next : {at : ℕ} {r : Sign} → Reached at → Sought s text at r → Reached r.next
+  reached_next : {at : ℕ} {r : Sign} → Reached at → SignFound s text at r → Reached r.next
   reached_next i h = record { within = h.within; form = h.form ∙ i.form }
-
-  none_left : {at : ℕ} → length text ≤ at → hashtags_at s text true at ≡ []
-  none_left {at} h = ap (hashtags_from s true at) (characters_end text at h) ∙ found_none s true at
 
   -- so many were counted
   pub record Counting (count at : ℕ) : Type 0 where
@@ -56,25 +52,15 @@ module _ (s text : List ℕ) where
   unfolding hashtags_of
   counting_begins = record { reached = reached_begins; few = omega arith; sum = omega arith }
 
-  pub counting_next : {count at : ℕ} {r : Sign} → Counting count at → Sought s text at r → r.at < r.next → Counting (count + 1) r.next
-  counting_next i h l =
-      record { reached = reached_next i.reached h; few = omega (arith, i.few, h.above); sum = omega (arith, i.sum, ap length (h.some l)) }
-
   -- the answer, by what is said of the text from a place on
   closes : (at count : ℕ) (t : Form) → shift at t ≡ text_of text → length (hashtags_of s text) ≡ count → closed_by at count t ≡ counted_through s text
   unfolding counted_through hashtags_through
   closes at count (Ok u) e n = rw (sym e) (ap Ok (sym n))
   closes at count (Err i) e n = rw (sym e)
 
-  pub counting_closes : {count at : ℕ} {r : Sign} → Counting count at → Sought s text at r → r.next ≤ r.at → closed_by r.at count (text_of (drop r.at text)) ≡ counted_through s text
-  counting_closes {count} {at} {r} i h l =
-      let e : r.next ≡ r.at = omega (arith, h.rises) in
-      let f : shift r.at (text_of (drop r.at text)) ≡ text_of text = ap (λ (k : ℕ). shift k (text_of (drop k text))) (sym e) ∙ h.form ∙ i.reached.form in
-      closes r.at count (text_of (drop r.at text)) f (omega (arith, i.sum, ap length (h.none l).0))
-
-  pub counting_ends : {count at : ℕ} → Counting count at → length text ≤ at → Ok count ≡ counted_through s text
-  counting_ends {count} {at} i h =
-      closes at count (Ok tt) (sym (end_here text at h) ∙ i.reached.form) (omega (arith, i.sum, ap length (none_left h)))
+  pub counting_closes : {count at end : ℕ} → Counting count at → NoneFound s text at end → closed_by end count (text_of (drop end text)) ≡ counted_through s text
+  counting_closes {count} {at} {end} i h =
+      closes end count (text_of (drop end text)) (h.form ∙ i.reached.form) (omega (arith, i.sum, ap length h.none))
 
   -- those that were found are in the buffer, up to word w; the place has this line
   pub record Writing (out₀ out : List ℕ) (w at line : ℕ) : Type 0 where
@@ -92,26 +78,14 @@ module _ (s text : List ℕ) where
       record { reached = reached_begins; lined = line_begins text; done = []; all = refl; placed = refl; long = refl; same = sym (laid_none out 0) }
 
   module _ {out₀ out : List ℕ} {w at line : ℕ} (i : Writing out₀ out w at line) where
-    pub writing_known : text_of text ≡ Ok tt → text_of (drop at text) ≡ Ok tt
-    writing_known e = unshifted at (text_of (drop at text)) (i.reached.form ∙ e)
-
-    all_written : hashtags_at s text true at ≡ [] → out ≡ laid out₀ 0 (spans_words text (hashtags_of s text))
-    all_written e = i.same ∙ ap (λ (ts : List Span). laid out₀ 0 (spans_words text ts)) (sym (i.all ∙ ap (λ (ts : List Span). i.done ++ ts) e ∙ append-nil i.done))
-
-    pub writing_ends : length text ≤ at → out ≡ laid out₀ 0 (spans_words text (hashtags_of s text))
-    writing_ends h = all_written (none_left h)
-
-    pub writing_stops : {r : Sign} → Sought s text at r → r.next ≤ r.at → out ≡ laid out₀ 0 (spans_words text (hashtags_of s text))
-    writing_stops h l = all_written (h.none l).0
-
     -- one more
-    module _ {r : Sign} (h : Sought s text at r) (l : r.at < r.next) (room : record_size * length (hashtags_of s text) ≤ length out₀) where
+    module _ {r : Sign} (h : SignFound s text at r) (room : record_size * length (hashtags_of s text) ≤ length out₀) where
       abbrev found : Span
       found = record { start = r.at; end = r.next + width_of (run_of s (characters_at text r.next)) }
 
       pub next_fits : w + record_size ≤ length out₀
       next_fits =
-          omega (arith, i.placed, length_words text i.done, ap length i.all, length-append i.done (hashtags_at s text true at), ap length (h.some l), room)
+          omega (arith, i.placed, length_words text i.done, ap length i.all, length-append i.done (hashtags_at s text true at), ap length h.some, room)
 
       pub next_room : w + record_size ≤ length out
       next_room = omega (arith, next_fits, i.long)
@@ -134,7 +108,7 @@ module _ (s text : List ℕ) where
             reached = reached_next i.reached h;
             lined = b;
             done = i.done ++ (found ∷ []);
-            all = i.all ∙ ap (λ (ts : List Span). i.done ++ ts) (h.some l) ∙ sym (append_assoc i.done (found ∷ []) (hashtags_at s text true r.next));
+            all = i.all ∙ ap (λ (ts : List Span). i.done ++ ts) h.some ∙ sym (append_assoc i.done (found ∷ []) (hashtags_at s text true r.next));
             placed = omega (arith, i.placed, ap length v, length-append xs zs);
             long = ap length m ∙ length-laid out₀ (spans_words text (i.done ++ (found ∷ []))) 0 (omega (arith, i.placed, ap length v, length-append xs zs));
             same = m;

@@ -27,7 +27,7 @@ use Rattle.character.specs.Read.{ReadAs}
 use Rattle.character.specs.declared.Character.{Character as Read}
 use Rattle.hashtag.specs.Sign.{is_sign, continues}
 use Rattle.hashtag.specs.Find.{run_of, hashtags_from}
-use Rattle.hashtag.specs.Seek.{hashtags_at, continues_first, free_at, stop_for, BytesPassed, Skipped, sign_of, Sought}
+use Rattle.hashtag.specs.Seek.{hashtags_at, continues_first, free_at, stop_for, BytesPassed, Skipped, sign_of, SignFound, NoneFound}
 use Rattle.hashtag.proofs.SignLaws.{continues_by, by_traits, no_sign_here}
 use Rattle.hashtag.proofs.RunLaws.{Characters, run_yes, run_no, run_none}
 use Rattle.hashtag.proofs.FindLaws.{found_none, found_begins, found_passes}
@@ -75,14 +75,6 @@ small b {n} e = go (eqb b 0x23) (eqb b 0xEF) e
 -- bytes that were passed over
 pub passed_begins : (known : Bool) (text : List ℕ) (from : ℕ) → from ≤ length text → BytesPassed known text from from
 passed_begins known text from h = record { above = omega arith; within = h; each = λ i l u. absurd (omega arith) }
-
-pub passed_more : {known : Bool} {text : List ℕ} {from at : ℕ} → BytesPassed known text from at → at < length text → stop_for known (get_or text at 0) < look → BytesPassed known text from (at + 1)
-passed_more {known} {text} {from} {at} p h e =
-    record { above = omega (arith, p.above); within = omega arith; each = λ i l u. go i l u (dec_lt i at) }
-  where
-    go : (i : ℕ) → from ≤ i → i < at + 1 → Dec (i < at) → stop_for known (get_or text i 0) < look
-    go i l u (yes v) = p.each i l v
-    go i l u (no v) = let q : at ≡ i = omega arith in subst (λ (j : ℕ). stop_for known (get_or text j 0) < look) q e
 
 -- the length of the sequence at a place: none begins there, or one of this length
 pub measured_none : (text : List ℕ) (at n : ℕ) → at < length text → n ≡ length_of (step_of (drop at text)) → n ≡ 0 → IllHead (drop at text)
@@ -136,6 +128,10 @@ module _ (s text : List ℕ) where
     pub here : Here at code n
     pub sign : sign_of (step_of (drop at text)) ≡ is_sign code
 
+  -- whether it is a sign, by what the sequence tells
+  pub stands_sign : {at n : ℕ} {b v : Bool} (h : Stands at n) → b ≡ sign_of (step_of (drop at text)) → b ≡ v → is_sign h.code ≡ v
+  stands_sign h e f = sym h.sign ∙ sym e ∙ f
+
   stands_at : {x : ℕ} (at n : ℕ) → step_of (drop at text) ≡ Scalar x n → at < length text → Stands at n
   stands_at {x} at n f h = record { code = x; step = f; here = here at x n h f; sign = ap sign_of f }
 
@@ -159,9 +155,6 @@ module _ (s text : List ℕ) where
     pub above : from ≤ at
     pub within : at ≤ length text
     pub same : from + width_of (run_of s (characters_at text from)) ≡ at + width_of (run_of s (characters_at text at))
-
-  pub running_begins : (from : ℕ) → from ≤ length text → Running from from
-  running_begins from h = record { above = omega arith; within = h; same = refl }
 
   module _ {from at : ℕ} (i : Running from at) where
     abbrev Ends : Type 0
@@ -206,21 +199,14 @@ module _ (s text : List ℕ) where
     free = free_at s text before at
 
     -- no character stands here
-    sought_no : characters_at text at ≡ [] → (at < length text → IllHead (drop at text)) → Sought s text from (record { at = at; next = at })
+    sought_no : characters_at text at ≡ [] → (at < length text → IllHead (drop at text)) → NoneFound s text from at
     sought_no e k =
-        record {
-          above = i.above;
-          rises = omega arith;
-          within = i.within;
-          form = i.form;
-          none = λ _. (i.rest ∙ ap (hashtags_from s free at) e ∙ found_none s free at, k);
-          some = λ h. absurd (omega arith);
-        }
+        record { above = i.above; within = i.within; form = i.form; none = i.rest ∙ ap (hashtags_from s free at) e ∙ found_none s free at; ill_head = k }
 
-    pub sought_ill : IllHead (drop at text) → Sought s text from (record { at = at; next = at })
+    pub sought_ill : IllHead (drop at text) → NoneFound s text from at
     sought_ill e = sought_no (characters_ill text at e) (λ _. e)
 
-    pub sought_end : length text ≤ at → Sought s text from (record { at = at; next = at })
+    pub sought_end : length text ≤ at → NoneFound s text from at
     sought_end h = sought_no (characters_end text at h) (λ l. absurd (omega arith))
 
     module _ {x n : ℕ} (h : Here at x n) where
@@ -228,15 +214,14 @@ module _ (s text : List ℕ) where
       next = characters_at text (at + n)
 
       -- a hashtag begins here
-      pub sought_some : is_sign x ≡ true → (free && continues_first s next) ≡ true → Sought s text from (record { at = at; next = at + n })
+      pub sought_some : is_sign x ≡ true → (free && continues_first s next) ≡ true → SignFound s text from (record { at = at; next = at + n })
       sought_some g b =
           record {
             above = i.above;
-            rises = omega arith;
+            rises = omega (arith, h.some_bytes);
             within = h.within;
             form = sym h.same ∙ i.form;
-            none = λ l. absurd (omega (arith, h.some_bytes));
-            some = λ _. i.rest ∙ ap (hashtags_from s free at) h.decoded
+            some = i.rest ∙ ap (hashtags_from s free at) h.decoded
                 ∙ found_begins s free at (record { code = x; width = n }) next (and_left free (continues_first s next) b) g (run_first s next (and_right free (continues_first s next) b));
           }
 
@@ -266,7 +251,7 @@ module _ (s text : List ℕ) where
       let n = no_stop false (get_or text at 0) e in
       seeking_over i k.here (inl (sym k.sign ∙ sym (no_sign_here text at n.0 n.1)))
 
-  pub seeking_plain : {from before at past : ℕ} → Seeking from before at → Skipped false text at past → at < past → Seeking from (past - 1) past
+  pub seeking_plain : {from before at past : ℕ} → Seeking from before at → Skipped text at past → at < past → Seeking from (past - 1) past
   seeking_plain {from} {before} {at} {past} i p h = go (past - at - 1) past (omega arith) p.passed
     where
       go : (k q : ℕ) → q ≡ at + suc k → BytesPassed false text at q → Seeking from (q - 1) q

@@ -6,13 +6,14 @@
 --   free_at                         no hashtag Continue stands right before a place
 --   stop_for, StopsOf                what a search for signs does at a byte; the table of all bytes
 --   BytesPassed                         it stops nowhere from one place to before another
---   Skipped                        the first place from a place on where it stops, or the text's end
+--   Skipped                        the first place from a place on where it stops, in a text not known to be well-formed, or the text's end
 --   sum_of                          the line ends that it passes over
 --   LinesCounted, LinesCountedTo   as BytesPassed and Skipped, with the line ends counted on the way
 --   Backed                         the last place before another whose byte is none of 80 to BF
 --   sign_of                         whether a sequence is that of a sign
---   Sought                         the next hashtag from a place on
-use Rattle.std.specs.Prelude.{ℕ, zero, suc, ◌+◌, ◌-◌, ◌*◌, ◌≤◌, ◌<◌, ◌≡◌, Bool, true, false, not, cond, List, [], ◌∷◌, ◌⊎◌, ltb, eqb, length, get_or, drop}
+--   SignFound, NoneFound           the sign of the next hashtag from a place on; there is none, and the characters end at a place
+--   Sought                         the one or the other
+use Rattle.std.specs.Prelude.{ℕ, zero, suc, ◌+◌, ◌-◌, ◌*◌, ◌≤◌, ◌<◌, ◌≡◌, Bool, true, false, not, cond, List, [], ◌∷◌, ◌⊎◌, ltb, eqb, length, get_or, drop, Result, Ok, Err}
 use Rattle.lists.specs.Filled.{Filled}
 use Rattle.utf8.specs.declared.Step.{Step}
 use Rattle.utf8.specs.declared.Step.TheVariants.{Scalar, IllFormed, End}
@@ -49,9 +50,9 @@ pub record BytesPassed (known : Bool) (text : List ℕ) (from to : ℕ) : Type 0
   pub within : to ≤ length text
   pub each : (i : ℕ) → from ≤ i → i < to → stop_for known (get_or text i 0) < look
 
-pub record Skipped (known : Bool) (text : List ℕ) (from to : ℕ) : Type 0 where
-  pub passed : BytesPassed known text from to
-  pub stop : to < length text → stop_for known (get_or text to 0) < look → ⊥
+pub record Skipped (text : List ℕ) (from to : ℕ) : Type 0 where
+  pub passed : BytesPassed false text from to
+  pub stop : to < length text → stop_for false (get_or text to 0) < look → ⊥
 
 -- in n bytes from a place on, in a text that is known to be well-formed
 unfoldable pub sum_of : List ℕ → ℕ → ℕ → ℕ
@@ -80,15 +81,23 @@ sign_of (Scalar x n) = is_sign x
 sign_of (IllFormed n) = false
 sign_of End = false
 
--- where no hashtag Continue stands right before that place: its sign, and one past the sign. There is none if the two are the same; the
--- characters end there
-pub record Sought (s text : List ℕ) (from : ℕ) (r : Sign) : Type 0 where
+-- where no hashtag Continue stands right before the place `from`
+pub record SignFound (s text : List ℕ) (from : ℕ) (r : Sign) : Type 0 where
   pub above : from ≤ r.at
-  pub rises : r.at ≤ r.next
+  pub rises : r.at < r.next
   pub within : r.next ≤ length text
   pub form : shift r.next (text_of (drop r.next text)) ≡ shift from (text_of (drop from text))
-  pub none : r.next ≤ r.at → (hashtags_at s text true from ≡ []) × (r.at < length text → IllHead (drop r.at text))
   pub some :
-      r.at < r.next
-      → hashtags_at s text true from
+      hashtags_at s text true from
       ≡ record { start = r.at; end = r.next + width_of (run_of s (characters_at text r.next)) } ∷ hashtags_at s text true r.next
+
+pub record NoneFound (s text : List ℕ) (from at : ℕ) : Type 0 where
+  pub above : from ≤ at
+  pub within : at ≤ length text
+  pub form : shift at (text_of (drop at text)) ≡ shift from (text_of (drop from text))
+  pub none : hashtags_at s text true from ≡ []
+  pub ill_head : at < length text → IllHead (drop at text)
+
+abbrev pub Sought : List ℕ → List ℕ → ℕ → Result Sign ℕ → Type 0
+Sought s text from (Ok r) = SignFound s text from r
+Sought s text from (Err at) = NoneFound s text from at

@@ -2,7 +2,7 @@
 // checked and accepted.
 #![tactic(auto)]
 
-ghost use Rattle.std.specs.Prelude.{◌≡◌, Bool, true, false, not, ◌&&◌, ◌||◌, ◌+◌, ◌*◌, ◌%◌, ◌≤◌, ◌<◌, length, drop, leb};
+ghost use Rattle.std.specs.Prelude.{◌≡◌, Bool, true, false, not, ◌&&◌, ◌||◌, ◌+◌, ◌*◌, ◌%◌, ◌≤◌, ◌<◌, [], length, drop, leb, MatchOption, IfSome};
 ghost use Rattle.std.proofs.Math.Option.{none};
 ghost use Rattle.lists.specs.Laid.{laid};
 ghost use Rattle.utf8.specs.Head.{step_of, IllHead};
@@ -17,7 +17,7 @@ ghost use Rattle.grammar.specs.Before.{max_text, before_text};
 ghost use Rattle.hashtag.specs.Sign.{is_sign};
 ghost use Rattle.hashtag.specs.Find.{run_of, hashtags_of};
 ghost use Rattle.hashtag.specs.Listed.{spans_words, hashtag_list_of, hashtag_list_words, counted_through, closed_by};
-ghost use Rattle.hashtag.specs.Seek.{continues_first, free_at, stop_for, StopsOf, Skipped, sum_of, LinesCounted, LinesCountedTo, Backed, sign_of, Sought};
+ghost use Rattle.hashtag.specs.Seek.{continues_first, free_at, stop_for, StopsOf, Skipped, sum_of, LinesCounted, LinesCountedTo, Backed, sign_of, SignFound, Sought, hashtags_at};
 
 use grammar::{MAX_TEXT, RECORD_WORDS};
 use image::ClassImage;
@@ -39,95 +39,45 @@ const WIDE_SIGNS: u8 = 0xEF;
 // What a table of bytes has where a search stops.
 const STOP: u8 = line::LOOK;
 
-// A sign that begins a hashtag: its first byte, and one past its last. The same place twice: there is none.
-#[derive(Clone, Copy)]
+// A sign that begins a hashtag: its first byte, and one past its last.
+#[derive(Clone, Copy, Debug, PartialEq, Eq)]
 pub struct Sign {
     pub at: usize,
     pub next: usize,
 }
 
-// A sign, and the line of its first byte; where there is none, the line of that place.
-#[derive(Drop)]
+// A sign, and the line of its first byte.
+#[derive(Clone, Copy, Debug, PartialEq, Eq)]
 pub struct FoundSign {
     pub sign: Sign,
     pub line: u32,
 }
 
 // A place that a search has reached, and the line there.
-#[derive(Drop)]
+#[derive(Clone, Copy, Debug, PartialEq, Eq)]
 pub struct Reach {
     pub at: usize,
     pub line: u32,
 }
 
 // Whether a code point is a sign.
+#[tactic(auto, unfolding(crate::specs::Sign::is_sign))]
 fn is_sign(code: u32) -> bool
     ensures { result ≡ is_sign code }
 {
-    if code == NUMBER_SIGN {
-        return true;
-    }
-    if code == SMALL_NUMBER_SIGN {
-        return true;
-    }
-    code == FULLWIDTH_NUMBER_SIGN
+    matches!(
+        code,
+        NUMBER_SIGN | SMALL_NUMBER_SIGN | FULLWIDTH_NUMBER_SIGN
+    )
 }
 
 // Whether a character with these traits is hashtag Continue.
 fn continues(code: u32, traits: u32) -> bool
     ensures { result ≡ (not (is_sign code) && (is_continue (part_class (traits % 8)) || leb 16 traits)) }
 {
-    if is_sign(code) {
-        return false; // whatever its class or role
-    }
-    if character::HASHTAG <= traits {
-        return true;
-    }
-    let class = traits % 8;
-    if class == image::START {
-        return true;
-    }
-    class == image::NONSTART
-}
-
-// Whether the character at a place is hashtag Continue; there may be none.
-fn continues_at<'a>(image: &ClassImage, table: &'a [u8; 128], text: &'a [u8], at: usize) -> bool
-    requires table_of { TableOf image.now table.now }
-    ensures { result ≡ continues_first image.now (characters_at text.now at) }
-{
-    image.recall();
-    if text.len() <= at {
-        return false;
-    }
-    let c = character::read(image, table, character::no_memo(), text, at);
-    if c.len == 0 {
-        return false;
-    }
-    continues(c.code, c.traits)
-}
-
-// One past the run of hashtag Continue that begins at a place.
-fn find_run_end<'a>(image: &ClassImage, table: &'a [u8; 128], text: &'a [u8], from: usize) -> usize
-    requires table_of { TableOf image.now table.now }
-    requires from_in_bounds { from ≤ length text.now }
-    ensures { (result ≡ from + width_of (run_of image.now (characters_at text.now from))) × (result ≤ length text.now) }
-{
-    image.recall();
-    let mut memo = character::no_memo();
-    let mut at = from;
-    while at < text.len() {
-        let c = character::read(image, table, memo, text, at);
-        let len = c.len;
-        if len == 0 {
-            return at;
-        }
-        if !continues(c.code, c.traits) {
-            return at;
-        }
-        memo = c.memo;
-        at += len;
-    }
-    at
+    // a sign never is, whatever its class or role
+    !is_sign(code)
+        && (character::HASHTAG <= traits || matches!(traits % 8, image::START | image::NONSTART))
 }
 
 // What a table of bytes has for a byte: STOP where a search stops, else how many line ends it passes over there. The first bytes of the signs
@@ -136,30 +86,24 @@ fn find_run_end<'a>(image: &ClassImage, table: &'a [u8; 128], text: &'a [u8], fr
 fn stop_at(b: usize, known: bool) -> u8
     ensures { result ≡ stop_for known b }
 {
-    if b == NUMBER_SIGN as usize {
-        return STOP;
+    if b == NUMBER_SIGN as usize || b == WIDE_SIGNS as usize {
+        STOP
+    } else if known {
+        line::tell_end(b)
+    } else if b < 0x80 {
+        0
+    } else {
+        STOP
     }
-    if b == WIDE_SIGNS as usize {
-        return STOP;
-    }
-    if known {
-        return line::tell_end(b);
-    }
-    if b < 0x80 {
-        return 0;
-    }
-    STOP
 }
 
 // The table of bytes.
 fn fill_stops(known: bool) -> [u8; 256]
     ensures { StopsOf known result }
 {
-    let mut stops = [0u8; 256];
-    let mut i = 0;
-    while i < 256 {
-        stops[i] = stop_at(i, known);
-        i += 1;
+    let mut stops = [STOP; 256];
+    for (b, stop) in stops.iter_mut().enumerate() {
+        *stop = stop_at(b, known);
     }
     stops
 }
@@ -171,19 +115,19 @@ fn look(stops: &[u8; 256], b: u8) -> u8
     stops[b as usize]
 }
 
-// The first place from a place on where a search stops, or the text's end.
+// The first place from a place on where a search stops, in a text that isn't known to be well-formed, or the text's end. It isn't one with
+// `pass_bytes`, since it counts no line ends.
 fn skip<'a>(stops: &'a [u8; 256], text: &'a [u8], from: usize) -> usize
-    requires { from ≤ length text.now }
-    ensures { (known : Bool) → StopsOf known stops.now → Skipped known text.now from result }
+    requires stops_of { StopsOf false stops.now }
+    requires from_in_bounds { from ≤ length text.now }
+    ensures { Skipped text.now from result }
 {
-    let mut at = from;
-    while at < text.len() {
+    for at in from..text.len() {
         if STOP <= look(stops, text[at]) {
             return at;
         }
-        at += 1;
     }
-    at
+    text.len()
 }
 
 // The sum of what the table has for four bytes.
@@ -204,6 +148,7 @@ fn pass_fours<'a>(stops: &'a [u8; 256], text: &'a [u8], from: usize, first: u32)
 {
     let mut at = from;
     let mut line = first;
+    // a `while`, since it goes on by four bytes
     while 4 <= text.len() - at {
         let ends = look_four(stops, &text[at..]);
         if STOP <= ends {
@@ -222,17 +167,18 @@ fn pass_bytes<'a>(stops: &'a [u8; 256], text: &'a [u8], from: usize, first: u32)
     requires first_bound { first ≤ 16 * max_text }
     ensures { LinesCountedTo text.now from first result }
 {
-    let mut at = from;
     let mut line = first;
-    while at < text.len() {
+    for at in from..text.len() {
         let end = look(stops, text[at]);
         if STOP <= end {
             return Reach { at, line };
         }
         line += end as u32;
-        at += 1;
     }
-    Reach { at, line }
+    Reach {
+        at: text.len(),
+        line,
+    }
 }
 
 // Whether the sequence at a place is that of a sign.
@@ -241,86 +187,7 @@ fn is_sign_at(text: &[u8], at: usize) -> bool
     ensures { result ≡ sign_of (step_of (drop at text.now)) }
 {
     let b = text[at];
-    if b == NUMBER_SIGN as u8 {
-        return true;
-    }
-    if b != WIDE_SIGNS {
-        return false;
-    }
-    is_sign((utf8::decode_packed(text, at) / 8) as u32)
-}
-
-// Whether no hashtag Continue stands right before a place; the character there begins at `before`, or there is none and the two are the same.
-fn is_free<'a>(
-    image: &ClassImage,
-    table: &'a [u8; 128],
-    text: &'a [u8],
-    before: usize,
-    at: usize,
-) -> bool
-    requires table_of { TableOf image.now table.now }
-    ensures { result ≡ free_at image.now text.now before at }
-{
-    if before < at {
-        return !continues_at(image, table, text, before);
-    }
-    true
-}
-
-// Whether a sign begins a hashtag: no hashtag Continue stands right before it, and one right after it.
-fn begins<'a>(
-    image: &ClassImage,
-    table: &'a [u8; 128],
-    text: &'a [u8],
-    before: usize,
-    sign: Sign,
-) -> bool
-    requires table_of { TableOf image.now table.now }
-    ensures { result ≡ (free_at image.now text.now before sign.at && continues_first image.now (characters_at text.now sign.next)) }
-{
-    if is_free(image, table, text, before, sign.at) {
-        return continues_at(image, table, text, sign.next);
-    }
-    false
-}
-
-// The next hashtag from a place on, where no hashtag Continue stands right before that place. `before` is where the character right before
-// `at` begins, or `at` itself where there is none.
-fn seek<'a>(
-    image: &ClassImage,
-    table: &'a [u8; 128],
-    stops: &'a [u8; 256],
-    text: &'a [u8],
-    from: usize,
-) -> Sign
-    requires table_of { TableOf image.now table.now }
-    requires stops_of { StopsOf false stops.now }
-    requires from_in_bounds { from ≤ length text.now }
-    ensures { Sought image.now text.now from result }
-{
-    let mut before = from;
-    let mut at = from;
-    while at < text.len() {
-        let past = skip(stops, text, at);
-        if at < past {
-            before = past - 1;
-            at = past;
-            continue;
-        }
-        let len = utf8::measure(text, at);
-        if len == 0 {
-            return Sign { at, next: at };
-        }
-        let next = at + len;
-        if is_sign_at(text, at) {
-            if begins(image, table, text, before, Sign { at, next }) {
-                return Sign { at, next };
-            }
-        }
-        before = at;
-        at = next;
-    }
-    Sign { at, next: at }
+    b == NUMBER_SIGN as u8 || b == WIDE_SIGNS && is_sign((utf8::decode_packed(text, at) / 8) as u32)
 }
 
 // Where the character begins that ends at a place, not before another place; the same place where the two are the same.
@@ -328,56 +195,132 @@ fn step_back(text: &[u8], from: usize, to: usize) -> usize
     requires { (from ≤ to) × (to ≤ length text.now) }
     ensures { Backed text.now from to result }
 {
-    let mut at = to;
-    while from < at {
-        at -= 1;
+    for at in (from..to).rev() {
         if !utf8::is_trail(text[at]) {
             return at;
         }
     }
-    at
+    from
 }
 
-// As `seek`, in a text that is well-formed from the place on, which has this line: bytes at which it doesn't stop are passed over, whatever
-// character they are of.
-fn seek_known<'a>(
-    image: &ClassImage,
+// A text, and a class image that was accepted, with the traits of ASCII under it.
+#[derive(Clone, Copy)]
+struct Reader<'a> {
+    image: &'a ClassImage<'a>,
     table: &'a [u8; 128],
-    stops: &'a [u8; 256],
     text: &'a [u8],
-    from: usize,
-    mut line: u32,
-) -> FoundSign
-    requires table_of { TableOf image.now table.now }
-    requires stops_of { StopsOf true stops.now }
-    requires text_len_bound { length text.now ≤ max_text }
-    requires from_in_bounds { (from ≤ length text.now) × (text_of (drop from text.now) ≡ Ok tt) }
-    requires line_at { LineAt text.now from line }
-    ensures sought { Sought image.now text.now from result.sign }
-    ensures line_at_2 { LineAt text.now result.sign.at result.line × LineAt text.now result.sign.next result.line }
-{
-    let mut at = from;
-    while at < text.len() {
-        let near = pass_fours(stops, text, at, line);
-        let stop = pass_bytes(stops, text, near.at, near.line);
-        at = stop.at;
-        line = stop.line;
-        if text.len() <= at {
-            break;
+    ghost table_of: { TableOf image.now table.now },
+}
+
+impl<'a> Reader<'a> {
+    // Whether the character at a place is hashtag Continue; there may be none.
+    fn continues_at(self, at: usize) -> bool
+        ensures { result ≡ continues_first self.entry.image.now (characters_at self.entry.text.now at) }
+    {
+        self.image.recall();
+        if self.text.len() <= at {
+            return false;
         }
-        let next = at + utf8::measure_known(text[at]);
-        if is_sign_at(text, at) {
-            let before = step_back(text, from, at);
-            let sign = Sign { at, next };
-            if begins(image, table, text, before, sign) {
-                return FoundSign { sign, line };
-            }
-        }
-        line += line::count_at(text, at);
-        at = next;
+        let c = character::read(self.image, self.table, character::no_memo(), self.text, at);
+        c.len != 0 && continues(c.code, c.traits)
     }
-    let sign = Sign { at, next: at };
-    FoundSign { sign, line }
+
+    // One past the run of hashtag Continue that begins at a place.
+    fn find_run_end(self, from: usize) -> usize
+        requires from_in_bounds { from ≤ length self.text.now }
+        ensures { let r = self.entry in (result ≡ from + width_of (run_of r.image.now (characters_at r.text.now from))) × (result ≤ length r.text.now) }
+    {
+        self.image.recall();
+        let mut memo = character::no_memo();
+        let mut at = from;
+        // a `while`, since characters differ in length
+        while at < self.text.len() {
+            let c = character::read(self.image, self.table, memo, self.text, at);
+            if c.len == 0 || !continues(c.code, c.traits) {
+                break;
+            }
+            memo = c.memo;
+            at += c.len;
+        }
+        at
+    }
+
+    // Whether no hashtag Continue stands right before a place; the character there begins at `before`, or there is none and the two are the
+    // same.
+    fn is_free(self, before: usize, at: usize) -> bool
+        ensures { result ≡ free_at self.entry.image.now self.entry.text.now before at }
+    {
+        at <= before || !self.continues_at(before)
+    }
+
+    // Whether a sign begins a hashtag: no hashtag Continue stands right before it, and one right after it.
+    fn begins(self, before: usize, sign: Sign) -> bool
+        ensures { let r = self.entry in result ≡ (free_at r.image.now r.text.now before sign.at && continues_first r.image.now (characters_at r.text.now sign.next)) }
+    {
+        self.is_free(before, sign.at) && self.continues_at(sign.next)
+    }
+
+    // The sign of the next hashtag from a place on, where no hashtag Continue stands right before that place; else the place where the
+    // characters end. `before` is where the character right before `at` begins, or `at` itself where there is none.
+    fn seek(self, stops: &[u8; 256], from: usize) -> Result<Sign, usize>
+        requires stops_of { StopsOf false stops.now }
+        requires from_in_bounds { from ≤ length self.text.now }
+        ensures { Sought self.entry.image.now self.entry.text.now from result }
+    {
+        let mut before = from;
+        let mut at = from;
+        // a `while`, since characters differ in length
+        while at < self.text.len() {
+            let past = skip(stops, self.text, at);
+            if at < past {
+                before = past - 1;
+                at = past;
+                continue;
+            }
+            let len = utf8::measure(self.text, at);
+            if len == 0 {
+                return Err(at);
+            }
+            let sign = Sign { at, next: at + len };
+            if is_sign_at(self.text, at) && self.begins(before, sign) {
+                return Ok(sign);
+            }
+            before = at;
+            at = sign.next;
+        }
+        Err(at)
+    }
+
+    // As `seek`, in a text that is well-formed from the place on, which has this line; None where no hashtag is left. Bytes at which it
+    // doesn't stop are passed over, whatever character they are of.
+    fn seek_known(self, stops: &[u8; 256], from: usize, mut line: u32) -> Option<FoundSign>
+        requires stops_of { StopsOf true stops.now }
+        requires text_len_bound { length self.text.now ≤ max_text }
+        requires from_in_bounds { (from ≤ length self.text.now) × (text_of (drop from self.text.now) ≡ Ok tt) }
+        requires line_at { LineAt self.text.now from line }
+        ensures sought { let r = self.entry in MatchOption result (hashtags_at r.image.now r.text.now true from ≡ []) (λ f. SignFound r.image.now r.text.now from f.sign) }
+        ensures line_at_2 { let t = self.entry.text.now in IfSome result (λ f. LineAt t f.sign.at f.line × LineAt t f.sign.next f.line) }
+    {
+        let mut at = from;
+        // a `while`, since characters differ in length
+        while at < self.text.len() {
+            let near = pass_fours(stops, self.text, at, line);
+            let stop = pass_bytes(stops, self.text, near.at, near.line);
+            at = stop.at;
+            line = stop.line;
+            if self.text.len() <= at {
+                return None;
+            }
+            let len = utf8::measure_known(self.text[at]);
+            let sign = Sign { at, next: at + len };
+            if is_sign_at(self.text, at) && self.begins(step_back(self.text, from, at), sign) {
+                return Some(FoundSign { sign, line });
+            }
+            line += line::count_at(self.text, at);
+            at = sign.next;
+        }
+        None
+    }
 }
 
 // The answer where the characters end at a place: so many hashtags, or refusal 6 if the text goes on there.
@@ -398,17 +341,18 @@ fn count_hashtags<'a>(image: &ClassImage, table: &'a [u8; 128], text: &'a [u8]) 
     ensures { result ≡ counted_through image.now text.now }
 {
     let stops = fill_stops(false);
-    let mut count: usize = 0;
+    let reader = Reader { image, table, text };
+    let mut count = 0;
     let mut at = 0;
-    while at < text.len() {
-        let sign = seek(image, table, &stops, text, at);
-        if sign.next <= sign.at {
-            return close(text, sign.at, count);
+    loop {
+        match reader.seek(&stops, at) {
+            Ok(sign) => {
+                count += 1;
+                at = sign.next;
+            }
+            Err(end) => return close(text, end, count),
         }
-        count += 1;
-        at = sign.next;
     }
-    Ok(count)
 }
 
 // The words of all hashtags of a well-formed text.
@@ -420,16 +364,13 @@ fn write_hashtags<'a>(image: &ClassImage, table: &'a [u8; 128], text: &'a [u8], 
     ensures { out.new ≡ laid out.old 0 (spans_words text.now (hashtags_of image.now text.now)) }
 {
     let stops = fill_stops(true);
+    let reader = Reader { image, table, text };
     let mut w = 0;
     let mut at = 0;
     let mut line = 1;
-    while at < text.len() {
-        let found = seek_known(image, table, &stops, text, at, line);
+    while let Some(found) = reader.seek_known(&stops, at, line) {
         let sign = found.sign;
-        if sign.next <= sign.at {
-            return;
-        }
-        let end = find_run_end(image, table, text, sign.next);
+        let end = reader.find_run_end(sign.next);
         grammar::put_record(&mut out[w..], HASHTAG_KIND, sign.at, end, found.line);
         w += RECORD_WORDS;
         at = sign.next;
