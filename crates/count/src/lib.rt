@@ -363,6 +363,23 @@ fn run_count<'a>(
     let mut row = row;
     let mut count = run.count;
     let mut last = run.mid;
+    // A step over a character. Each length has its own: with one for all, where the length is a variable, counting Adlam takes 1.45 of the
+    // time and misses the goal of docs/SPEED.md.
+    macro_rules! step {
+        ($traits:expr, $len:expr) => {
+            let traits = $traits;
+            let step = rule(rules, row, traits);
+            if ODD <= step {
+                break;
+            }
+            count += step;
+            row = traits;
+            last = at;
+            at += $len;
+            continue;
+        };
+    }
+    // `while`: each round goes on by the length of a character, or of four.
     while at < end {
         let a = text[at];
         if a < 0x80 {
@@ -375,35 +392,18 @@ fn run_count<'a>(
                 at += 4;
                 continue;
             }
-            let traits = cells[a as usize] as usize;
-            let step = rule(rules, row, traits);
-            if ODD <= step {
-                break;
-            }
-            count += step;
-            row = traits;
-            last = at;
-            at += 1;
-            continue;
+            step!(cells[a as usize] as usize, 1);
         }
         if index.len() < BLOCKS {
             break;
         }
-        let (traits, len) = if a < 0xE0 {
-            (blocks::known::<2>(index, cells, text, at), 2)
-        } else if a < 0xF0 {
-            (blocks::known::<3>(index, cells, text, at), 3)
-        } else {
-            (blocks::known::<4>(index, cells, text, at), 4)
-        };
-        let step = rule(rules, row, traits);
-        if ODD <= step {
-            break;
+        if a < 0xE0 {
+            step!(blocks::known::<2>(index, cells, text, at), 2);
         }
-        count += step;
-        row = traits;
-        last = at;
-        at += len;
+        if a < 0xF0 {
+            step!(blocks::known::<3>(index, cells, text, at), 3);
+        }
+        step!(blocks::known::<4>(index, cells, text, at), 4);
     }
     Run {
         at,
@@ -445,6 +445,7 @@ pub fn count_on<'a>(
 {
     image.recall();
     let mut run = run;
+    // `while`: each round goes on as far as characters are known, and by one that is not.
     while run.at < text.len() {
         let row = row_of(rules, run.state);
         if row < NO_ROW {

@@ -11,7 +11,6 @@ use Rattle.lists.specs.Laid.{laid}
 use Rattle.lists.proofs.LaidLaws.{laid_none, laid_step, length-laid, lent}
 use Rattle.utf8.specs.Text.{characters_at, width_of, text_of, shift, Form}
 use Rattle.utf8.proofs.TextLaws.{shift_zero, end_here, characters_end}
-use Rattle.utf8.specs.declared.Text.{Text}
 use Rattle.line.specs.Line.{LineAt}
 use Rattle.line.proofs.LineLaws.{line_begins}
 use Rattle.grammar.specs.Record.{record_size, token_words}

@@ -87,6 +87,7 @@ fn run_mark<'a>(
     let mut at = run.at;
     let mut k = run.count - done;
     let mut last = run.mid;
+    // `while`: each round goes on by the length of a character, or of four.
     while at < end {
         if starts.len() <= k + 2 * MARGIN {
             break;
@@ -194,6 +195,7 @@ pub fn mark_on<'a>(
 {
     image.recall();
     let mut run = run;
+    // `while`: each round goes on as far as characters are known, and by one that is not.
     while run.at < text.len() {
         run = run_mark(image, index, cells, rules, text, starts, done, run);
         if text.len() <= run.at {

@@ -1,17 +1,18 @@
 -- `count::run_count` meets its contract. Assumes nothing.
-use Prim.Native.Nat.{◌+◌}
-use mathlib.Core.Path.{refl, sym, ◌∙◌}
+use Prim.Native.Nat.{ℕ, ◌+◌, ◌<◌}
+use mathlib.Core.Path.{◌≡◌, refl, sym, ◌∙◌}
 use native.Mathlib.Omega.{arith}
 use borrow.Author.Rules.{rules}
 use Rattle.turns.proofs.ReachLaws.{here_small}
 use Rattle.blocks.specs.Blocks.{FoundAt}
+use Rattle.count.specs.Rules.{rule_for}
 use Rattle.count.specs.Four.{cell_for, FourSteps}
 use Rattle.count.proofs.CountLaws.{counting_same}
 use Rattle.count.proofs.RuleLaws.{rule_state}
 use Rattle.count.proofs.KnownLaws.{four_bytes, here_ascii, Ran, ran, ran_known}
 use Rattle.count.proofs.FourLaws.{small_cells, RanFour, ran_four}
 use Rattle.count.proofs.run_count.Goals as goal
-use Rattle.count.proofs.run_count.Goals.{Else-step-ge-ODD, Else-step-ge-ODD-2, Joined-a-lt224, Then-four-lt-ODD, then-a-lt224, else-a-lt224+then-a-lt240, else-a-lt224+else-a-lt240}
+use Rattle.count.proofs.run_count.Goals.{Else-step-ge-ODD, In-loop-at, Then-four-lt-ODD}
 
 pub loop-at-init : goal.loop-at-init
 loop-at-init c = record { small = c.requires.row_bound.0; start = c.requires.counting_as.start; counting = counting_same c.requires.counting_as.counting (sym c.requires.row_bound.1) refl refl refl; on = omega arith }
@@ -87,37 +88,65 @@ pub loop-at-preserved-then-a-lt128 : goal.loop-at-preserved-then-a-lt128
 loop-at-preserved-then-a-lt128 c = (once c).next
 
 -- more
-found : (c : goal.Joined-a-lt224)
-    → let a = c.args in
-    FoundAt a.index.now a.cells.now a.text.now c.loop-at.at c.if-a-lt224.traits.1 c.if-a-lt224.traits.0
-found c =
-    elim c.if-a-lt224.branch [
-      | then-a-lt224 w ↦ rw w.traits-is w.known.ensures
-      | else-a-lt224+then-a-lt240 w ↦ rw w.traits-is w.known-then-a-lt240.ensures
-      | else-a-lt224+else-a-lt240 w ↦ rw w.traits-is w.known-else-a-lt240.ensures
-    ]
-
-pub rule-step-requires-in-loop-at : goal.rule-step-requires-in-loop-at
-rule-step-requires-in-loop-at c = record { rules_value = c.requires.rules_value; row_lt_rule_rows = (omega (arith, c.loop-at.invariant.small), (found c).small) }
-
-more : (c : goal.Else-step-ge-ODD-2)
+known : {t n len : ℕ} (c : goal.In-loop-at)
     → let a = c.args in
     let l = c.loop-at in
-    let t = c.if-a-lt224.traits in
-    FoundAt a.index.now a.cells.now a.text.now l.at t.1 t.0 → Ran a.image.now a.text.now a.run.mark a.run.refused a.run.at t.0 c.rule-step-in-loop-at.result l.count l.at t.1
-more c f = ran_known c.recall.ensures c.loop-at.invariant (omega (arith, four_bytes c.loop-at-test.true c.known_end-end.ensures)) c.requires.cached f c.rule-step-in-loop-at.ensures c.if-step-ge-ODD-2.false
+    FoundAt a.index.now a.cells.now a.text.now l.at len t → n ≡ rule_for l.row t → n < 128 → Ran a.image.now a.text.now a.run.mark a.run.refused a.run.at t n l.count l.at len
+known c f e l = ran_known c.recall.ensures c.loop-at.invariant (omega (arith, four_bytes c.loop-at-test.true c.known_end-end.ensures)) c.requires.cached f e l
+
+pub known-traits-requires : goal.known-traits-requires
+known-traits-requires c = record { fits = (c.requires.cached.fits, c.if-index-lt-BLOCKS.false); at_in_bounds = search rules }
+
+pub rule-step-requires-then-a-lt224 : goal.rule-step-requires-then-a-lt224
+rule-step-requires-then-a-lt224 c = record { rules_value = c.requires.rules_value; row_lt_rule_rows = (omega (arith, c.loop-at.invariant.small), c.known-traits.ensures.small) }
+
+pub overflow_add-count-then-a-lt224 : goal.overflow_add-count-then-a-lt224
+overflow_add-count-then-a-lt224 c = omega (arith, (known (goal.at.overflow_add-count-then-a-lt224 c).In-loop-at c.known-traits.ensures c.rule-step-then-a-lt224.ensures c.if-step-ge-ODD-2.false).few)
+
+pub overflow_add-at-then-a-lt224 : goal.overflow_add-at-then-a-lt224
+overflow_add-at-then-a-lt224 c = omega (arith, (known (goal.at.overflow_add-at-then-a-lt224 c).In-loop-at c.known-traits.ensures c.rule-step-then-a-lt224.ensures c.if-step-ge-ODD-2.false).within)
+
+pub loop-at-smaller-then-a-lt224 : goal.loop-at-smaller-then-a-lt224
+loop-at-smaller-then-a-lt224 c = let r = known (goal.at.loop-at-smaller-then-a-lt224 c).In-loop-at c.known-traits.ensures c.rule-step-then-a-lt224.ensures c.if-step-ge-ODD-2.false in omega arith
+
+pub loop-at-preserved-then-a-lt224 : goal.loop-at-preserved-then-a-lt224
+loop-at-preserved-then-a-lt224 c = (known (goal.at.loop-at-preserved-then-a-lt224 c).In-loop-at c.known-traits.ensures c.rule-step-then-a-lt224.ensures c.if-step-ge-ODD-2.false).next
+
+pub known-traits-requires-then-a-lt240 : goal.known-traits-requires-then-a-lt240
+known-traits-requires-then-a-lt240 c = record { fits = (c.requires.cached.fits, c.if-index-lt-BLOCKS.false); at_in_bounds = search rules }
+
+pub rule-step-requires-then-a-lt240 : goal.rule-step-requires-then-a-lt240
+rule-step-requires-then-a-lt240 c = record { rules_value = c.requires.rules_value; row_lt_rule_rows = (omega (arith, c.loop-at.invariant.small), c.known-traits-then-a-lt240.ensures.small) }
+
+pub overflow_add-count-then-a-lt240 : goal.overflow_add-count-then-a-lt240
+overflow_add-count-then-a-lt240 c = omega (arith, (known (goal.at.overflow_add-count-then-a-lt240 c).In-loop-at c.known-traits-then-a-lt240.ensures c.rule-step-then-a-lt240.ensures c.if-step-ge-ODD-3.false).few)
+
+pub overflow_add-at-then-a-lt240 : goal.overflow_add-at-then-a-lt240
+overflow_add-at-then-a-lt240 c = omega (arith, (known (goal.at.overflow_add-at-then-a-lt240 c).In-loop-at c.known-traits-then-a-lt240.ensures c.rule-step-then-a-lt240.ensures c.if-step-ge-ODD-3.false).within)
+
+pub loop-at-smaller-then-a-lt240 : goal.loop-at-smaller-then-a-lt240
+loop-at-smaller-then-a-lt240 c = let r = known (goal.at.loop-at-smaller-then-a-lt240 c).In-loop-at c.known-traits-then-a-lt240.ensures c.rule-step-then-a-lt240.ensures c.if-step-ge-ODD-3.false in omega arith
+
+pub loop-at-preserved-then-a-lt240 : goal.loop-at-preserved-then-a-lt240
+loop-at-preserved-then-a-lt240 c = (known (goal.at.loop-at-preserved-then-a-lt240 c).In-loop-at c.known-traits-then-a-lt240.ensures c.rule-step-then-a-lt240.ensures c.if-step-ge-ODD-3.false).next
+
+pub known-traits-requires-in-loop-at : goal.known-traits-requires-in-loop-at
+known-traits-requires-in-loop-at c = record { fits = (c.requires.cached.fits, c.if-index-lt-BLOCKS.false); at_in_bounds = search rules }
+
+pub rule-step-requires-in-loop-at : goal.rule-step-requires-in-loop-at
+rule-step-requires-in-loop-at c = record { rules_value = c.requires.rules_value; row_lt_rule_rows = (omega (arith, c.loop-at.invariant.small), c.known-traits-in-loop-at.ensures.small) }
 
 pub overflow_add-count-in-loop-at : goal.overflow_add-count-in-loop-at
-overflow_add-count-in-loop-at c = omega (arith, (more c (found (goal.at.overflow_add-count-in-loop-at c).Joined-a-lt224)).few)
+overflow_add-count-in-loop-at c = omega (arith, (known (goal.at.overflow_add-count-in-loop-at c).In-loop-at c.known-traits-in-loop-at.ensures c.rule-step-in-loop-at.ensures c.if-step-ge-ODD-4.false).few)
 
 pub overflow_add-at-in-loop-at : goal.overflow_add-at-in-loop-at
-overflow_add-at-in-loop-at c = omega (arith, (more c (found (goal.at.overflow_add-at-in-loop-at c).Joined-a-lt224)).within)
+overflow_add-at-in-loop-at c = omega (arith, (known (goal.at.overflow_add-at-in-loop-at c).In-loop-at c.known-traits-in-loop-at.ensures c.rule-step-in-loop-at.ensures c.if-step-ge-ODD-4.false).within)
 
 pub loop-at-smaller : goal.loop-at-smaller
-loop-at-smaller c = let r = more c (found (goal.at.loop-at-smaller c).Joined-a-lt224) in omega arith
+loop-at-smaller c = let r = known (goal.at.loop-at-smaller c).In-loop-at c.known-traits-in-loop-at.ensures c.rule-step-in-loop-at.ensures c.if-step-ge-ODD-4.false in omega arith
 
 pub loop-at-preserved : goal.loop-at-preserved
-loop-at-preserved c = (more c (found (goal.at.loop-at-preserved c).Joined-a-lt224)).next
+loop-at-preserved c = (known (goal.at.loop-at-preserved c).In-loop-at c.known-traits-in-loop-at.ensures c.rule-step-in-loop-at.ensures c.if-step-ge-ODD-4.false).next
 
 pub rule-requires : goal.rule-requires
 rule-requires c = record { rules_value = c.requires.rules_value; row_lt_rule_rows = (omega arith, c.loop-at.invariant.small) }
