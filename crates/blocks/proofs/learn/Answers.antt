@@ -1,11 +1,7 @@
 -- `blocks::learn` meets its contract. Assumes nothing.
 use mathlib.Core.Path.{refl}
-use native.Mathlib.Omega.{arith}
 use Rattle.blocks.proofs.LearnLaws.{learns_more, learns_start, learns_row}
 use Rattle.blocks.proofs.learn.Goals as goal
-
-pub put_row-requires : goal.put_row-requires
-put_row-requires c = record { block_size_in_bounds = omega (arith, c.requires.fits.rows c.args.block c.requires.block_in_bounds.0); meets = c.requires.block_in_bounds.4 }
 
 pub returns-then-row-ge-FIRST_ROW : goal.returns-then-row-ge-FIRST_ROW
 returns-then-row-ge-FIRST_ROW c = learns_more c.args.block c.requires.fits c.requires.block_in_bounds.0 c.requires.block_in_bounds.3 refl c.if-row-ge-FIRST_ROW.true c.cell_of-cell.ensures c.put_row.ensures
