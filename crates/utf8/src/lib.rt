@@ -58,6 +58,7 @@ pub fn is_scalar(x: u32) -> bool
 }
 
 impl Bounds {
+    // Whether a byte is in the range.
     fn has(self, b: u8) -> bool
         ensures { result ≡ inside self b }
     {
@@ -65,6 +66,7 @@ impl Bounds {
     }
 }
 
+// The range from one byte to another.
 fn to(low: u8, high: u8) -> Bounds
     ensures { result ≡ low to high }
 {
@@ -153,7 +155,8 @@ fn pack(s: &[u8]) -> usize
     join(join(join(a % 8, b), c), s[3]) * 8 + 4
 }
 
-// The sequence at a place of `s` as one number: 8 times its code point, and its length; 0 where none begins.
+// The sequence at a place of `s` as one number: 8 times its code point, and its length; 0 where none begins. 0 stands for None because callers
+// take the number apart as it is: of none the length and the code point are 0, and that is what they test.
 pub fn decode_packed(s: &[u8], at: usize) -> usize
     requires { at ≤ length s.now }
     ensures { result ≡ packed (step_of (drop at s.now)) }
@@ -263,7 +266,7 @@ pub fn check_text(s: &[u8]) -> Result<(), IllFormed>
     ensures { result ≡ text_of s.now }
 {
     let mut at = 0;
-    // A `while`: a step is as long as the sequence, and a chain over `decode_packed` shows no more plainly where it stops.
+    // A `while`, since a step is as long as the sequence there.
     while at < s.len() {
         if s[at] < 0x80 {
             at += 1;

@@ -8,7 +8,7 @@ use Rattle.lists.proofs.LaidLaws.{rest}
 use Rattle.utf8.specs.Subpart.{subpart_of}
 use Rattle.utf8.specs.Head.{IllHead}
 use Rattle.utf8.specs.Text.{ill}
-use Rattle.utf8.proofs.TextLaws.{shift_zero, Turn, turn, Unpacked, unpacked, ascii_turn, ill_here, end_here}
+use Rattle.utf8.proofs.TextLaws.{Turn, turn, Unpacked, unpacked, ascii_turn, ill_here, end_here}
 use Rattle.utf8.proofs.check_text.Goals as goal
 use Rattle.utf8.proofs.check_text.Goals.{After-decode_packed-len, Else-len-eq0, Then-len-eq0}
 
@@ -23,15 +23,6 @@ moves : (c : goal.Else-len-eq0)
     → Turn c.args.s.now c.loop-at.at
     (c.decode_packed-len.result % 8)
 moves c = turn _ _ _ _ c.loop-at.invariant.0 ((stands (record { before = c.before.before; type_inv = record { s = c.type_inv.s } })).some (omega (arith, c.if-len-eq0.false)))
-
-pub loop-at-init : goal.loop-at-init
-loop-at-init c = (omega arith, shift_zero _)
-
-pub overflow_add-at : goal.overflow_add-at
-overflow_add-at c = omega arith
-
-pub loop-at-smaller-then-s-at-lt128 : goal.loop-at-smaller-then-s-at-lt128
-loop-at-smaller-then-s-at-lt128 c = omega arith
 
 pub loop-at-preserved-then-s-at-lt128 : goal.loop-at-preserved-then-s-at-lt128
 loop-at-preserved-then-s-at-lt128 c =
@@ -50,12 +41,6 @@ pub returns-then-len-eq0 : goal.returns-then-len-eq0
 returns-then-len-eq0 c =
     ap (ill c.loop-at.at) (c.measure_subpart.ensures ∙ ap subpart_of (rest c.args.s.now c.loop-at.at))
     ∙ sym (ill_here _ _ (part (goal.at.returns-then-len-eq0 c).Then-len-eq0)) ∙ c.loop-at.invariant.1
-
-pub overflow_add-at-in-loop-at : goal.overflow_add-at-in-loop-at
-overflow_add-at-in-loop-at c = let t = moves c in omega arith
-
-pub loop-at-smaller : goal.loop-at-smaller
-loop-at-smaller c = let t = moves c in omega arith
 
 pub loop-at-preserved : goal.loop-at-preserved
 loop-at-preserved c = let t = moves c in (t.within, sym t.same ∙ c.loop-at.invariant.1)
