@@ -60,6 +60,7 @@ fn held(index: &[u8], cells: &[u8], block: usize, last: u8, len: usize) -> usize
 }
 
 // What is held of the sequence of LEN bytes at a place, 2, 3 or 4; 0: nothing. Of four, no block is held but of those that begin with F0.
+// No Option: 0 is what no cell of a sequence has, and the hot loops look it up as they do any other, with no test more.
 pub fn known<const LEN: usize>(index: &[u8], cells: &[u8], text: &[u8], at: usize) -> usize
     requires fits { Fits index.now cells.now × (block_count ≤ length index.now) }
     requires at_in_bounds { at + LEN ≤ length text.now }

@@ -1,6 +1,6 @@
--- Stretches of code points that have one kind of White: the line ends of ASCII, and any code point alone. Assumes nothing.
+-- The line ends of ASCII have one kind of White. Assumes nothing.
 use Prim.Native.Nat.{ℕ, ◌≤◌, ◌<◌}
-use mathlib.Core.Path.{◌≡◌, ap, ◌∙◌}
+use mathlib.Core.Path.{◌≡◌}
 use mathlib.Core.Bool.{true}
 use native.Mathlib.Omega.{arith}
 use native.Mathlib.Decide.{dec_lt}
@@ -10,11 +10,6 @@ use Rattle.line.proofs.LineLaws.{LineEnd, low, next, separator, no_line_end, is_
 use Rattle.grammar.specs.White.{white_of}
 use Rattle.character.specs.Traits.{white_part}
 use Rattle.character.specs.Stretch.{WhiteStretchOf}
-
--- x alone
-pub alone : (x k : ℕ) → white_part (white_of x) ≡ k → WhiteStretchOf x (record { first = x; last = x; class = k })
-alone x k e =
-    record { from = omega arith; to = omega arith; same = λ y l u. let z : y ≡ x = omega arith in ap (λ (n : ℕ). white_part (white_of n)) z ∙ e }
 
 line_end_part : (x : ℕ) → is_line_end x ≡ true → white_part (white_of x) ≡ 6
 unfolding white_of

@@ -1,6 +1,6 @@
 -- `character::white_stretch` meets its contract: the line ends of ASCII, or the code point alone. Assumes nothing.
 use mathlib.Core.Path.{sym, ◌∙◌}
-use Rattle.character.proofs.WhiteLaws.{line_ends, alone}
+use Rattle.character.proofs.WhiteLaws.{line_ends}
 use Rattle.character.proofs.white_stretch.Goals as goal
 
 pub returns-then-is_line_end : goal.returns-then-is_line_end
