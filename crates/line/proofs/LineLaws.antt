@@ -110,10 +110,6 @@ module _ (x : ℕ) (r : List Character) where
   unfolding ends_line
   return_before_feed e f = rw (is_line_end_lem x (low (omega arith) (omega arith)), eq-eqb x 0x0D e, f)
 
-  pub return_alone : x ≡ 0x0D → feed_first r ≡ false → one (ends_line x r) ≡ 1
-  unfolding ends_line
-  return_alone e f = rw (is_line_end_lem x (low (omega arith) (omega arith)), eq-eqb x 0x0D e, f)
-
 module _ (text : List ℕ) where
   -- LINE FEED is one byte
   pub feed_end : (at : ℕ) → length text ≤ at → feed_first (characters_at text at) ≡ false
