@@ -1,5 +1,5 @@
 -- The replies of the calls on images, and what the arrays lent for a profile then hold (docs/RULES.md, "The calls").
-use Rattle.std.specs.Prelude.{ℕ, ◌≡◌, List}
+use Rattle.std.specs.Prelude.{ℕ, ◌≡◌, List, Result, Ok, Err}
 use Rattle.image.specs.declared.Answer.{Answer}
 use Rattle.image.specs.declared.Answer.TheVariants as answer
 use Rattle.image.specs.declared.Checked.{Checked}
@@ -7,10 +7,9 @@ use Rattle.lookup.specs.declared.Found.{Found}
 use Rattle.lookup.specs.declared.Found.TheVariants as found
 use Rattle.writer.specs.declared.Written.{Written}
 use Rattle.writer.specs.declared.Written.TheVariants as written
-use Rattle.pair.specs.declared.Pair.{Pair}
-use Rattle.pair.specs.declared.Pair.TheVariants as pair
-use Rattle.changes.specs.declared.Changes.{Changes}
-use Rattle.changes.specs.declared.Changes.TheVariants as changes
+use Rattle.pair.specs.declared.PairRefusal.{PairRefusal}
+use Rattle.pair.specs.declared.PairRefusal.TheVariants as pair
+use Rattle.changes.specs.declared.Lists.{Lists}
 use Rattle.reply.specs.Reply.{Reply, Tells, gives, refuses_of, refuses}
 
 -- checking and reading an image: the version, and the numbers of ranges and of profile entries
@@ -42,16 +41,18 @@ abbrev pub written_reply : Written → Reply
 written_reply (written.Refused r) = refuses r
 written_reply (written.Image len) = gives len 0 0
 
--- the pair check: a refusal tells which image it is of, 1 the older, 2 the newer, 0 the pair
-abbrev pub pair_reply : Pair → Reply
-pair_reply (pair.Older r) = refuses_of 1 r
-pair_reply (pair.Newer r) = refuses_of 2 r
-pair_reply (pair.Refused r) = refuses r
-pair_reply pair.Permitted = gives 0 0 0
+-- a refusal of a call on two images tells which image it is of, 1 the older, 2 the newer, 0 neither
+abbrev pub refuses_pair : PairRefusal → Reply
+refuses_pair (pair.Older r) = refuses_of 1 r
+refuses_pair (pair.Newer r) = refuses_of 2 r
+refuses_pair (pair.Neither r) = refuses r
 
--- the list of changes: the numbers of runs and of entries; a refusal tells which image it is of, as the pair check's does
-abbrev pub changes_reply : Changes → Reply
-changes_reply (changes.Older r) = refuses_of 1 r
-changes_reply (changes.Newer r) = refuses_of 2 r
-changes_reply (changes.Refused r) = refuses r
-changes_reply (changes.Listed runs entries) = gives runs entries 0
+-- the pair check
+abbrev pub pair_reply : Result (Unit {0}) PairRefusal → Reply
+pair_reply (Err r) = refuses_pair r
+pair_reply (Ok _) = gives 0 0 0
+
+-- the list of changes: the numbers of runs and of entries
+abbrev pub changes_reply : Result Lists PairRefusal → Reply
+changes_reply (Err r) = refuses_pair r
+changes_reply (Ok l) = gives l.runs l.entries 0
