@@ -1,11 +1,12 @@
 // The pair check of two class images: whether the newer differs from the older only by permitted changes.
 #![tactic(auto)]
 
-ghost use Rattle.std.specs.Prelude.{◌≡◌};
+ghost use Rattle.std.specs.Prelude.{◌≡◌, ◌<◌, not};
 ghost use Rattle.std.proofs.Math.Option.{none};
 ghost use Rattle.image.specs.Check.{refusal_of};
 ghost use Rattle.pair.specs.Change.{is_continue_class, permitted};
-ghost use Rattle.pair.specs.Pair.{forbidden_change, same_profile, compared_of, pair_of};
+ghost use Rattle.image.specs.Header.{entry_count};
+ghost use Rattle.pair.specs.Pair.{forbidden_change, differs_at, same_profile, compared_of, pair_of};
 ghost use Rattle.pair.specs.Judged.{judged_by};
 
 use image::records::Section;
@@ -62,6 +63,19 @@ fn first_forbidden(older: &[u8], newer: &[u8]) -> Option<u32>
     None
 }
 
+// Whether entry i of the profile sections of two accepted images is the same.
+#[tactic(auto, unfolding(crate::specs::Pair::differs_at))]
+fn is_same_entry(older: &[u8], newer: &[u8], i: usize) -> bool
+    requires older_value { refusal_of older.now ≡ none }
+    requires newer_value { refusal_of newer.now ≡ none }
+    requires i_bound { (i < entry_count older.now) × (i < entry_count newer.now) }
+    ensures { result ≡ not (differs_at older.now newer.now i) }
+{
+    let p = image::records::record_at(older, Section::Entries, i);
+    let q = image::records::record_at(newer, Section::Entries, i);
+    p.first == q.first && p.class == q.class
+}
+
 // Whether the profile sections of two accepted images are the same.
 fn has_same_profile(older: &[u8], newer: &[u8]) -> bool
     requires older_value { refusal_of older.now ≡ none }
@@ -72,10 +86,9 @@ fn has_same_profile(older: &[u8], newer: &[u8]) -> bool
     if image::records::count_records(newer, Section::Entries) != count {
         return false;
     }
+    // Tried: `(0..count).all(..)`; the proof didn't close.
     for i in 0..count {
-        let p = image::records::record_at(older, Section::Entries, i);
-        let q = image::records::record_at(newer, Section::Entries, i);
-        if p.first != q.first || p.class != q.class {
+        if !is_same_entry(older, newer, i) {
             return false;
         }
     }
