@@ -27,7 +27,12 @@ pub fn list_input(input: &[u8], runs: &mut [u32], entries: &mut [u32]) -> Result
 }
 
 // The answer for the whole input, of which the first n bytes were read into a buffer: all, if they don't fill it.
-pub fn list_read(buffer: &[u8], n: usize, runs: &mut [u32], entries: &mut [u32]) -> Result<Lists, PairRefusal>
+pub fn list_read(
+    buffer: &[u8],
+    n: usize,
+    runs: &mut [u32],
+    entries: &mut [u32],
+) -> Result<Lists, PairRefusal>
     requires n_in_bounds { n ≤ length buffer.now }
     requires max_image_in_bounds { (2 * max_image < length buffer.now) × ((length runs.old ≡ max_run_words) × (length entries.old ≡ max_entry_words)) }
     ensures value { result ≡ answer_from (take n buffer.now) (length runs.old) (length entries.old) }
