@@ -1,6 +1,7 @@
 // What the two listers print, for answers of every sort.
-use changes::Changes;
+use changes::Lists;
 use grammar::Counted;
+use pair::PairRefusal;
 use printing::answers::{print_change_listing, print_listing};
 use refusal::Refusal;
 use std::io;
@@ -45,24 +46,27 @@ fn show_refusals(rt: &impl Print) -> io::Result<()> {
 
 // Runs and entries, none or some; refusals of the older image, of the newer and of neither.
 fn show_changes(rt: &impl Print) -> io::Result<()> {
-    let none = Changes::Listed {
+    let none = Lists {
         runs: 0,
         entries: 0,
     };
-    print_change_listing(rt, none, &[], &[])?;
-    let both = Changes::Listed {
+    print_change_listing(rt, Ok(none), &[], &[])?;
+    let both = Lists {
         runs: 2,
         entries: 1,
     };
-    print_change_listing(rt, both, &[65, 90, 0, 1, 233, 233, 1, 2], &[46, 3, 4])?;
-    let entries = Changes::Listed {
+    print_change_listing(rt, Ok(both), &[65, 90, 0, 1, 233, 233, 1, 2], &[46, 3, 4])?;
+    let entries = Lists {
         runs: 0,
         entries: 2,
     };
-    print_change_listing(rt, entries, &[], &[45, 0, 1, 1114111, 5, 0])?;
-    print_change_listing(rt, Changes::Older(Refusal::Header), &[], &[])?;
-    print_change_listing(rt, Changes::Newer(Refusal::Range(7)), &[], &[])?;
-    print_change_listing(rt, Changes::Refused(Refusal::Room(9)), &[], &[])
+    print_change_listing(rt, Ok(entries), &[], &[45, 0, 1, 1114111, 5, 0])?;
+    let older = PairRefusal::Older(Refusal::Header);
+    print_change_listing(rt, Err(older), &[], &[])?;
+    let newer = PairRefusal::Newer(Refusal::Range(7));
+    print_change_listing(rt, Err(newer), &[], &[])?;
+    let neither = PairRefusal::Neither(Refusal::Room(9));
+    print_change_listing(rt, Err(neither), &[], &[])
 }
 
 pub fn run(rt: &impl Print) -> io::Result<()> {

@@ -2,21 +2,21 @@
 ghost use Rattle.std.specs.Prelude.{◌<◌, ◌≤◌};
 
 use crate::build::{M, M2, ZERO};
-use pair::Pair;
+use pair::PairRefusal;
 use std::io;
 
-fn print_pair(rt: &impl Print, p: Pair) -> io::Result<()> {
+fn print_pair(rt: &impl Print, p: Result<(), PairRefusal>) -> io::Result<()> {
     match p {
-        Pair::Older(r) => {
+        Err(PairRefusal::Older(r)) => {
             printing::print_text(rt, b"older ")?;
             printing::print_refusal(rt, r)?;
         }
-        Pair::Newer(r) => {
+        Err(PairRefusal::Newer(r)) => {
             printing::print_text(rt, b"newer ")?;
             printing::print_refusal(rt, r)?;
         }
-        Pair::Refused(r) => printing::print_refusal(rt, r)?,
-        Pair::Permitted => {
+        Err(PairRefusal::Neither(r)) => printing::print_refusal(rt, r)?,
+        Ok(()) => {
             printing::print_text(rt, b"yes")?;
         }
     }

@@ -4,6 +4,7 @@ use mathlib.Core.Path.{◌≡◌, refl, sym, ap, ◌∙◌}
 use mathlib.Core.Bool.{Bool, true, false}
 use mathlib.Core.List.{List}
 use mathlib.Core.Option.{Option, none, some}
+use Rattle.std.specs.Prelude.{Result}
 use lib.Dec.{ltb}
 use lib.ListN.{length}
 use borrow.Author.Tests.{ltb-true, ltb-false}
@@ -13,21 +14,22 @@ use Rattle.image.specs.Check.{refusal_of}
 use Rattle.image.specs.Accepted.{Accepted}
 use Rattle.image.proofs.ImageLaws.{accepted, refused_none, refusal_means, means_refusal}
 use Rattle.image.specs.declared.records.Section.TheVariants.{Ranges, Entries}
+use Rattle.pair.specs.declared.PairRefusal.{PairRefusal}
 use Rattle.pair.specs.Judged.{judged_by}
 use Rattle.changes.specs.Change.{Change}
 use Rattle.changes.specs.ChangeList.{runs_of, entries_of}
 use Rattle.changes.specs.Answer.{change_size, list_words, listed_of, changes_by, answer_within, answer_of, buffer_after, runs_after_within, runs_after, entries_after_within, entries_after}
 use Rattle.changes.specs.Means.{BothLists, ChangesMeans, bad_older, bad_newer, few_runs, few_entries, both_listed}
-use Rattle.changes.specs.declared.Changes.{Changes}
+use Rattle.changes.specs.declared.Lists.{Lists}
 use Rattle.changes.proofs.RoomLaws.{lacks_runs, lacks_entries, lists_both, older_answer, newer_answer, accepted_answer, runs_by, entries_by}
 use Rattle.changes.proofs.ChangesLaws.{runs_are, entries_are, are_runs, are_entries}
 
 module _ (older newer out more : List ℕ) where
   -- an answer with what the buffers then hold
-  abbrev Means : Changes → Type 0
+  abbrev Means : Result Lists PairRefusal → Type 0
   Means c = ChangesMeans older newer out more c (buffer_after Ranges older newer c out) (buffer_after Entries older newer c more)
 
-  abbrev answer : Changes
+  abbrev answer : Result Lists PairRefusal
   answer = answer_of older newer (length out) (length more)
 
   module _ (a : Accepted older) (b : Accepted newer) where
@@ -35,7 +37,7 @@ module _ (older newer out more : List ℕ) where
     both =
         record { older_accepted = a; newer_accepted = b; class_runs = runs_are older newer a b; role_changes = entries_are older newer a b }
 
-    abbrev listed : Changes
+    abbrev listed : Result Lists PairRefusal
     listed = listed_of older newer (length out) (length more)
 
     means_listed :
@@ -58,19 +60,19 @@ module _ (older newer out more : List ℕ) where
 
   -- what an answer says
   pub changes_mean :
-      (c : Changes) (words others : List ℕ) → answer ≡ c → runs_after older newer out more ≡ words → entries_after older newer out more ≡ others
+      (c : Result Lists PairRefusal) (words others : List ℕ) → answer ≡ c → runs_after older newer out more ≡ words → entries_after older newer out more ≡ others
       → ChangesMeans older newer out more c words others
   unfolding answer_within runs_after_within entries_after_within
   changes_mean c words others e f g = rw (← e, ← f, ← g) (means_by _ _ refl refl)
 
   -- and back: where it is so, that is the answer, and the buffers hold this
-  pub record Answers (c : Changes) (words others : List ℕ) : Type 0 where
+  pub record Answers (c : Result Lists PairRefusal) (words others : List ℕ) : Type 0 where
     pub answered : answer ≡ c
     pub runs_after : runs_after older newer out more ≡ words
     pub entries_after : entries_after older newer out more ≡ others
 
   by_answer :
-      (c : Changes) → answer ≡ c → {words others : List ℕ} → buffer_after Ranges older newer c out ≡ words → buffer_after Entries older newer c more ≡ others
+      (c : Result Lists PairRefusal) → answer ≡ c → {words others : List ℕ} → buffer_after Ranges older newer c out ≡ words → buffer_after Entries older newer c more ≡ others
       → Answers c words others
   by_answer c e f g =
       record {
@@ -93,7 +95,7 @@ module _ (older newer out more : List ℕ) where
     the_entries : entries ≡ entries_of older newer
     the_entries = are_entries older newer a b l.role_changes
 
-  pub means_changes : (c : Changes) (words others : List ℕ) → ChangesMeans older newer out more c words others → Answers c words others
+  pub means_changes : (c : Result Lists PairRefusal) (words others : List ℕ) → ChangesMeans older newer out more c words others → Answers c words others
   means_changes _ _ _ (bad_older {r} m) = by_answer _ (older_answer older newer _ _ (means_refusal older (some r) m)) refl refl
   means_changes _ _ _ (bad_newer {r} a m) =
       by_answer _ (newer_answer older newer _ _ (refused_none older a) (means_refusal newer (some r) m)) refl refl

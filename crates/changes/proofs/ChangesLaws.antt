@@ -9,6 +9,7 @@ use native.Mathlib.Omega.{arith}
 use native.Mathlib.Decide.{dec_lt, ℕ_discrete}
 use lib.Dec.{leb}
 use borrow.Author.Tests.{leb-true, le-leb}
+use Rattle.std.specs.Prelude.{Result, Ok, Err}
 use Rattle.lists.proofs.BoolLaws.{and_left, and_right, and_in, impossible}
 use Rattle.utf8.specs.Scalar.{is_scalar}
 use Rattle.refusal.specs.declared.Refusal.TheVariants as refusal
@@ -22,8 +23,8 @@ use Rattle.image.proofs.ImageLaws.{refused_none, means_refusal}
 use Rattle.image.proofs.ClassLaws.{class_scalar}
 use Rattle.image.proofs.RisingLaws.{class_none}
 use Rattle.image.proofs.SectionLaws.{range_class_lem, entry_role_lem}
-use Rattle.pair.specs.declared.Pair.{Pair}
-use Rattle.pair.specs.declared.Pair.TheVariants as pair
+use Rattle.pair.specs.declared.PairRefusal.{PairRefusal}
+use Rattle.pair.specs.declared.PairRefusal.TheVariants.{Neither}
 use Rattle.pair.specs.Means.{OnlyPermitted, FirstChange, PermittedAt, PairMeans, bad_older, bad_newer, other_profile, bad_change, all_permitted}
 use Rattle.pair.specs.Pair.{pair_of}
 use Rattle.pair.proofs.PairLaws.{pair_means, means_pair, permitted_means}
@@ -193,7 +194,7 @@ module _ (older newer : List ℕ) (a : Accepted older) (b : Accepted newer) wher
 -- the answers of the pair check, yes and refusal 10, in the words of the two lists
 module _ (older newer : List ℕ) where
   pub pair_yes :
-      (pair_of older newer ≡ pair.Permitted)
+      (pair_of older newer ≡ Ok tt)
       ↔ (Accepted older × Accepted newer × (entries_of older newer ≡ []) × Each PermittedChange (runs_of older newer))
   pair_yes = (
     λ e. let (a, b, s, h) = permitted_means older newer e in (a, b, (no_entries older newer a b).1 s, runs_permitted older newer a b h),
@@ -203,27 +204,27 @@ module _ (older newer : List ℕ) where
   abbrev Ten : ℕ → Type 0
   Ten x = Accepted older × Accepted newer × (entries_of older newer ≡ []) × FirstNot PermittedChange (runs_of older newer) x
 
-  is_ten : {x : ℕ} (p : Pair) → PairMeans older newer p → Ten x → p ≡ pair.Refused (refusal.Change x)
+  is_ten : {x : ℕ} (p : Result (Unit {0}) PairRefusal) → PairMeans older newer p → Ten x → p ≡ Err (Neither (refusal.Change x))
   is_ten _ (bad_older m) (a, b, n, h) = let z = sym (refused_none older a) ∙ means_refusal older _ m in impossible (cc)
   is_ten _ (bad_newer c m) (a, b, n, h) = let z = sym (refused_none newer b) ∙ means_refusal newer _ m in impossible (cc)
   is_ten _ (other_profile c d f) (a, b, n, h) = absurd (f ((no_entries older newer a b).0 n))
   is_ten _ (bad_change c d s f) (a, b, n, h) =
-      ap (λ (y : ℕ). pair.Refused (refusal.Change y)) (first_one (at_change older newer a b f) h)
+      ap (λ (y : ℕ). Err (Neither (refusal.Change y))) (first_one (at_change older newer a b f) h)
   is_ten _ (all_permitted c d s f) (a, b, n, h) = absurd (not-each h (runs_permitted older newer a b f))
 
   pub pair_ten :
       (x : ℕ)
-      → (pair_of older newer ≡ pair.Refused (refusal.Change x))
+      → (pair_of older newer ≡ Err (Neither (refusal.Change x)))
       ↔ (Accepted older × Accepted newer × (entries_of older newer ≡ []) × FirstNot PermittedChange (runs_of older newer) x)
   pair_ten x = (λ e. go (pair_means older newer _ e), λ t. is_ten _ (pair_means older newer _ refl) t)
     where
-      go : PairMeans older newer (pair.Refused (refusal.Change x)) → Ten x
+      go : PairMeans older newer (Err (Neither (refusal.Change x))) → Ten x
       go (bad_change a b s h) = (a, b, (no_entries older newer a b).1 s, at_change older newer a b h)
 
   pub pair_eleven :
-      (pair_of older newer ≡ pair.Refused refusal.Profiles) ↔ (Accepted older × Accepted newer × (entries_of older newer ≡ [] → ⊥))
+      (pair_of older newer ≡ Err (Neither refusal.Profiles)) ↔ (Accepted older × Accepted newer × (entries_of older newer ≡ [] → ⊥))
   pair_eleven =
       (λ e. go (pair_means older newer _ e), λ (a, b, f). means_pair older newer _ (other_profile a b (λ s. f ((no_entries older newer a b).1 s))))
     where
-      go : PairMeans older newer (pair.Refused refusal.Profiles) → Accepted older × Accepted newer × (entries_of older newer ≡ [] → ⊥)
+      go : PairMeans older newer (Err (Neither refusal.Profiles)) → Accepted older × Accepted newer × (entries_of older newer ≡ [] → ⊥)
       go (other_profile a b f) = (a, b, λ e. f ((no_entries older newer a b).0 e))

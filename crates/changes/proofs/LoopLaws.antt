@@ -3,6 +3,7 @@ use Prim.Native.Nat.{ℕ, suc, ◌+◌, ◌-◌, ◌*◌, ◌≤◌, ◌<◌}
 use mathlib.Core.Path.{◌≡◌, refl, sym, ap, ◌∙◌}
 use mathlib.Core.List.{List, [], ◌∷◌, ◌++◌}
 use mathlib.Core.Option.{none}
+use Rattle.std.specs.Prelude.{Option, Some, None}
 use native.Mathlib.Nat.{mul-suc, mul-zero}
 use native.Mathlib.Omega.{arith}
 use lib.ListN.{length, take, drop, length-append, length-take}
@@ -15,7 +16,8 @@ use Rattle.image.specs.declared.records.Section.{Section}
 use Rattle.image.specs.declared.records.Section.TheVariants.{Ranges, Entries}
 use Rattle.image.proofs.SectionLaws.{few_records}
 use Rattle.pair.specs.declared.walk.Overlap.{Overlap}
-use Rattle.pair.specs.Walk.{code_points, OverlapAt}
+use Rattle.pair.specs.Walk.{OverlapOf, OverlapAt}
+use Rattle.pair.proofs.OverlapLaws.{stands_at, stands}
 use Rattle.changes.specs.Change.{Change}
 use Rattle.changes.specs.Answer.{changes_of, change_words, change_size, list_words}
 use Rattle.changes.specs.Walked.{change_of}
@@ -108,62 +110,61 @@ module _ (section : Section) (room : ℕ) (all : List Change) (before : List ℕ
                   ∙ w.written;
             }
 
--- a turn of the loop is at t: `count` changes begin before it
+-- a turn of the loop is at `next`: `count` changes begin before it
 module _ (older newer : List ℕ) (section : Section) (room : ℕ) where
-  pub record Turn (before out : List ℕ) (t : Overlap) (count at : ℕ) : Type 0 where
+  pub record Turn (before out : List ℕ) (next : Option Overlap) (count at : ℕ) : Type 0 where
     pub older_accepted : refusal_of older ≡ none
     pub newer_accepted : refusal_of newer ≡ none
-    pub here : OverlapAt older newer section t
-    pub listing : Listing section room (changes_of section older newer) before (rest_of section older newer t.first) out count at
+    pub here : OverlapAt older newer section (stands_at next) next
+    pub listing : Listing section room (changes_of section older newer) before (rest_of section older newer (stands_at next)) out count at
 
 module _ {older newer : List ℕ} {section : Section} {room : ℕ} {before : List ℕ} where
   pub turn_begins :
       {t : Overlap} → refusal_of older ≡ none → refusal_of newer ≡ none → change_size section * room ≤ length before → t.first ≡ 0
-      → OverlapAt older newer section t → Turn older newer section room before before t 0 0
+      → OverlapOf older newer section t → Turn older newer section room before before (Some t) 0 0
   turn_begins a b l e o =
       record {
         older_accepted = a;
         newer_accepted = b;
-        here = o;
+        here = (refl, o);
         listing = listing_begins section room _ before l (sym (whole_list section older newer) ∙ ap (rest_of section older newer) (sym e));
       }
 
-  module _ {out : List ℕ} {t : Overlap} {count at : ℕ} (w : Turn older newer section room before out t count at) where
-    pub turn_ends :
-        code_points ≤ t.first
-        → (count ≡ length (changes_of section older newer)) × (out ≡ laid before 0 (list_words section (take room (changes_of section older newer))))
-    turn_ends l = listing_ends _ _ _ _ w.listing (rest_none section older newer _ l)
+  pub turn_ends :
+      {out : List ℕ} {count at : ℕ} → Turn older newer section room before out None count at
+      → (count ≡ length (changes_of section older newer)) × (out ≡ laid before 0 (list_words section (take room (changes_of section older newer))))
+  turn_ends w = listing_ends _ _ _ _ w.listing (rest_none section older newer _ (omega arith))
 
-    module _ (h : t.first < code_points) where
-      -- the overlap after t
-      next : {u : Overlap} → u.first ≡ t.last + 1 → OverlapAt older newer section u → {words : List ℕ} {k at : ℕ}
-          → Listing section room (changes_of section older newer) before (rest_of section older newer (t.last + 1)) words k at
-          → Turn older newer section room before words u k at
-      next e o l = record { older_accepted = w.older_accepted; newer_accepted = w.newer_accepted; here = o; listing = rw e l }
+  module _ {out : List ℕ} {t : Overlap} {count at : ℕ} (w : Turn older newer section room before out (Some t) count at) where
+    -- the overlap after t
+    next : {u : Option Overlap} → OverlapAt older newer section (t.last + 1) u → {words : List ℕ} {k at : ℕ}
+        → Listing section room (changes_of section older newer) before (rest_of section older newer (t.last + 1)) words k at
+        → Turn older newer section room before words u k at
+    next {u} o l =
+        let e = stands older newer section u o in
+        record { older_accepted = w.older_accepted; newer_accepted = w.newer_accepted; here = rw e o; listing = rw e l }
 
-      pub turn_same :
-          t.older.class ≡ t.newer.class → {u : Overlap} → u.first ≡ t.last + 1 → OverlapAt older newer section u
-          → Turn older newer section room before out u count at
-      turn_same s e o = next e o (rw (rest_same section older newer w.older_accepted w.newer_accepted (w.here.found h) s) at w.listing)
+    pub turn_same : t.older.class ≡ t.newer.class → {u : Option Overlap} → OverlapAt older newer section (t.last + 1) u → Turn older newer section room before out u count at
+    turn_same s o = next o (rw (rest_same section older newer w.older_accepted w.newer_accepted w.here.1 s) at w.listing)
 
-      module _ (d : t.older.class ≡ t.newer.class → ⊥) where
-        first : rest_of section older newer t.first ≡ change_of t ∷ rest_of section older newer (t.last + 1)
-        first = rest_change section older newer w.older_accepted w.newer_accepted (w.here.found h) d
+    module _ (d : t.older.class ≡ t.newer.class → ⊥) where
+      first : rest_of section older newer t.first ≡ change_of t ∷ rest_of section older newer (t.last + 1)
+      first = rest_change section older newer w.older_accepted w.newer_accepted w.here.1 d
 
-        pub turn_few : count < 16384
-        turn_few =
-            let a = w.older_accepted in
-            let b = w.newer_accepted in
-            omega (arith, w.listing.number, ap length first, few_changes section older newer a b, few_records older a section, few_records newer b section)
+      pub turn_few : count < 16384
+      turn_few =
+          let a = w.older_accepted in
+          let b = w.newer_accepted in
+          omega (arith, w.listing.number, ap length first, few_changes section older newer a b, few_records older a section, few_records newer b section)
 
-        pub turn_fits : count < room → at + change_size section ≤ length out
-        turn_fits l = change_fits _ _ _ _ w.listing first l
+      pub turn_fits : count < room → at + change_size section ≤ length out
+      turn_fits l = change_fits _ _ _ _ w.listing first l
 
-        module _ {u : Overlap} (e : u.first ≡ t.last + 1) (o : OverlapAt older newer section u) where
-          pub turn_passed : room ≤ count → Turn older newer section room before out u (count + 1) at
-          turn_passed l = next e o (listing_passed _ _ _ _ w.listing first l)
+      module _ {u : Option Overlap} (o : OverlapAt older newer section (t.last + 1) u) where
+        pub turn_passed : room ≤ count → Turn older newer section room before out u (count + 1) at
+        turn_passed l = next o (listing_passed _ _ _ _ w.listing first l)
 
-          pub turn_written :
-              count < room → (ys : List ℕ) → ys ≡ laid (take (length out - at) (drop at out)) 0 (change_words section (change_of t))
-              → Turn older newer section room before (put_mid at (length out - at) out ys) u (count + 1) (at + change_size section)
-          turn_written l ys f = next e o (listing_next _ _ _ _ w.listing first l ys f)
+        pub turn_written :
+            count < room → (ys : List ℕ) → ys ≡ laid (take (length out - at) (drop at out)) 0 (change_words section (change_of t))
+            → Turn older newer section room before (put_mid at (length out - at) out ys) u (count + 1) (at + change_size section)
+        turn_written l ys f = next o (listing_next _ _ _ _ w.listing first l ys f)

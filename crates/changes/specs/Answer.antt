@@ -10,20 +10,19 @@
 --   words_by, buffer_after               what a buffer holds after an answer; that of a section
 --   runs_after_within, runs_after         the buffer for the runs after the call
 --   entries_after_within, entries_after   the buffer for the entries after the call
-use Rattle.std.specs.Prelude.{ℕ, ◌/◌, cond, List, [], ◌∷◌, ◌++◌, length, ltb}
+use Rattle.std.specs.Prelude.{ℕ, ◌/◌, cond, List, [], ◌∷◌, ◌++◌, length, ltb, Result, Ok, Err}
 use Rattle.lists.specs.Laid.{laid}
 use Rattle.refusal.specs.declared.Refusal.TheVariants as refusal
 use Rattle.image.specs.Limits.{max_entries}
 use Rattle.image.specs.Check.{refusal_within}
 use Rattle.image.specs.declared.records.Section.{Section}
 use Rattle.image.specs.declared.records.Section.TheVariants.{Ranges, Entries}
-use Rattle.pair.specs.declared.Judged.{Judged}
-use Rattle.pair.specs.declared.Judged.TheVariants as judged
+use Rattle.pair.specs.declared.PairRefusal.{PairRefusal}
+use Rattle.pair.specs.declared.PairRefusal.TheVariants.{Neither}
 use Rattle.pair.specs.Judged.{judged_by}
 use Rattle.changes.specs.Change.{Change}
 use Rattle.changes.specs.ChangeList.{runs_of, entries_of}
-use Rattle.changes.specs.declared.Changes.{Changes}
-use Rattle.changes.specs.declared.Changes.TheVariants as changes
+use Rattle.changes.specs.declared.Lists.{Lists}
 
 abbrev pub changes_of : Section → List ℕ → List ℕ → List Change
 changes_of Ranges = runs_of
@@ -42,34 +41,32 @@ abbrev pub list_words : Section → List Change → List ℕ
 list_words section [] = []
 list_words section (c ∷ l) = change_words section c ++ list_words section l
 
--- 8 carries the records needed; `Listed` holds the number of runs, then that of entries, as it is declared
-unfoldable pub listed_of : List ℕ → List ℕ → ℕ → ℕ → Changes
+-- 8 carries the records needed
+unfoldable pub listed_of : List ℕ → List ℕ → ℕ → ℕ → Result Lists PairRefusal
 listed_of older newer run_words entry_words =
     let runs = length (runs_of older newer) in
     let entries = length (entries_of older newer) in
-    cond (ltb (run_words / change_size Ranges) runs) (changes.Refused (refusal.Room runs))
-    (cond (ltb (entry_words / change_size Entries) entries) (changes.Refused (refusal.Room entries)) (changes.Listed runs entries))
+    cond (ltb (run_words / change_size Ranges) runs) (Err (Neither (refusal.Room runs)))
+    (cond (ltb (entry_words / change_size Entries) entries) (Err (Neither (refusal.Room entries)))
+    (Ok (record { runs = runs; entries = entries })))
 
-abbrev pub changes_by : Judged → Changes → Changes
-changes_by (judged.Older r) c = changes.Older r
-changes_by (judged.Newer r) c = changes.Newer r
-changes_by judged.Accepted c = c
+abbrev pub changes_by : Result (Unit {0}) PairRefusal → Result Lists PairRefusal → Result Lists PairRefusal
+changes_by (Err r) c = Err r
+changes_by (Ok _) c = c
 
-unfoldable pub answer_within : ℕ → List ℕ → List ℕ → ℕ → ℕ → Changes
+unfoldable pub answer_within : ℕ → List ℕ → List ℕ → ℕ → ℕ → Result Lists PairRefusal
 answer_within limit older newer run_words entry_words =
     changes_by (judged_by (refusal_within limit older) (refusal_within limit newer)) (listed_of older newer run_words entry_words)
 
-abbrev pub answer_of : List ℕ → List ℕ → ℕ → ℕ → Changes
+abbrev pub answer_of : List ℕ → List ℕ → ℕ → ℕ → Result Lists PairRefusal
 answer_of older newer run_words entry_words = answer_within max_entries older newer run_words entry_words
 
 -- the list at its front, and past it what was there; a refusal leaves it as it was
-abbrev pub words_by : Changes → List ℕ → List ℕ → List ℕ
-words_by (changes.Older r) out words = out
-words_by (changes.Newer r) out words = out
-words_by (changes.Refused r) out words = out
-words_by (changes.Listed n m) out words = laid out 0 words
+abbrev pub words_by : Result Lists PairRefusal → List ℕ → List ℕ → List ℕ
+words_by (Err _) out words = out
+words_by (Ok _) out words = laid out 0 words
 
-abbrev pub buffer_after : Section → List ℕ → List ℕ → Changes → List ℕ → List ℕ
+abbrev pub buffer_after : Section → List ℕ → List ℕ → Result Lists PairRefusal → List ℕ → List ℕ
 buffer_after section older newer answer out = words_by answer out (list_words section (changes_of section older newer))
 
 -- the buffer for the runs was `out`, that for the entries `more`

@@ -8,11 +8,11 @@ ghost use Rattle.lists.specs.Laid.{laid};
 ghost use Rattle.image.specs.Check.{refusal_of};
 ghost use Rattle.image.specs.declared.records.Section.TheVariants.{Ranges, Entries};
 ghost use Rattle.changes.specs.Answer.{changes_of, change_words, change_size, list_words, listed_of, buffer_after, answer_of, runs_after, entries_after};
-ghost use Rattle.changes.specs.Walked.{change_of, needed_of};
+ghost use Rattle.changes.specs.Walked.{change_of, room_by};
 
 use image::records::Section;
-use pair::Judged;
-use pair::walk::{CODE_POINTS, Overlap};
+use pair::PairRefusal;
+use pair::walk::Overlap;
 use refusal::Refusal;
 
 // The words of a run and of an entry in their lists.
@@ -20,13 +20,11 @@ pub const RUN_WORDS: usize = 4;
 
 pub const ENTRY_WORDS: usize = 3;
 
-// The answer: refusals 1 to 4 of the older image, or of the newer; refusal 8; or the lengths of the two lists.
-#[derive(Drop)]
-pub enum Changes {
-    Older(Refusal),
-    Newer(Refusal),
-    Refused(Refusal),
-    Listed { runs: usize, entries: usize },
+// How long the two lists are: the numbers of runs and of entries.
+#[derive(Clone, Copy)]
+pub struct Lists {
+    pub runs: usize,
+    pub entries: usize,
 }
 
 // The words of a change in the list of a section.
@@ -46,15 +44,12 @@ fn put_change(out: &mut [u32], section: Section, t: Overlap)
 {
     match section {
         Section::Ranges => {
-            out[0] = t.first;
-            out[1] = t.last;
-            out[2] = t.older.class;
-            out[3] = t.newer.class;
+            let words = [t.first, t.last, t.older.class, t.newer.class];
+            out[..RUN_WORDS].copy_from_slice(&words);
         }
         Section::Entries => {
-            out[0] = t.first;
-            out[1] = t.older.class;
-            out[2] = t.newer.class;
+            let words = [t.first, t.older.class, t.newer.class];
+            out[..ENTRY_WORDS].copy_from_slice(&words);
         }
     }
 }
@@ -68,10 +63,10 @@ fn list_section(older: &[u8], newer: &[u8], section: Section, room: usize, out: 
     ensures out_after { out.new ≡ laid out.old 0 (list_words section (take room (changes_of section older.now newer.now))) }
 {
     let size = size_of(section);
-    let mut t = pair::walk::first_overlap(older, newer, section);
     let mut count: usize = 0;
     let mut at: usize = 0;
-    while t.first < CODE_POINTS {
+    let mut next = Some(pair::walk::first_overlap(older, newer, section));
+    while let Some(t) = next {
         if t.older.class != t.newer.class {
             if count < room {
                 put_change(&mut out[at..], section, t);
@@ -79,72 +74,67 @@ fn list_section(older: &[u8], newer: &[u8], section: Section, room: usize, out: 
             }
             count += 1;
         }
-        t = pair::walk::next_overlap(older, newer, section, t);
+        next = pair::walk::next_overlap(older, newer, section, t);
     }
     count
 }
 
-// The number of changes in a section where there is room for fewer, else 0. Room for one less than twice the records is
-// always enough: then the changes are not counted.
-fn count_needed(older: &[u8], newer: &[u8], section: Section, room: usize) -> usize
+// Judges the room for the changes in a section. Room for one less than twice the records is always enough: then the changes
+// are not counted.
+fn judge_room(older: &[u8], newer: &[u8], section: Section, room: usize) -> Result<(), PairRefusal>
     requires older_value { refusal_of older.now ≡ none }
     requires newer_value { refusal_of newer.now ≡ none }
-    ensures { result ≡ needed_of room (length (changes_of section older.now newer.now)) }
+    ensures { result ≡ room_by room (length (changes_of section older.now newer.now)) }
 {
     let n = image::records::count_records(older, section);
     let m = image::records::count_records(newer, section);
     if n + m <= room / 2 + room % 2 {
-        return 0;
+        return Ok(());
     }
-    let mut none: [u32; 0] = [0; 0];
-    let count = list_section(older, newer, section, 0, &mut none);
+    let count = list_section(older, newer, section, 0, &mut []);
     if room < count {
-        return count;
+        return Err(PairRefusal::Neither(Refusal::Room(count)));
     }
-    0
+    Ok(())
 }
 
 // The lists of the changes between two accepted images. The room for both is judged before anything is written.
-fn list_accepted(older: &[u8], newer: &[u8], runs: &mut [u32], entries: &mut [u32]) -> Changes
+#[tactic(auto, unfolding(crate::specs::Answer::listed_of))]
+fn list_accepted(
+    older: &[u8],
+    newer: &[u8],
+    runs: &mut [u32],
+    entries: &mut [u32],
+) -> Result<Lists, PairRefusal>
     requires older_value { refusal_of older.now ≡ none }
     requires newer_value { refusal_of newer.now ≡ none }
     ensures value { result ≡ listed_of older.now newer.now (length runs.old) (length entries.old) }
     ensures runs_after { runs.new ≡ buffer_after Ranges older.now newer.now result runs.old }
     ensures entries_after { entries.new ≡ buffer_after Entries older.now newer.now result entries.old }
 {
-    let runs_needed = count_needed(older, newer, Section::Ranges, runs.len() / RUN_WORDS);
-    if runs_needed != 0 {
-        return Changes::Refused(Refusal::Room(runs_needed));
-    }
-    let entries_needed = count_needed(older, newer, Section::Entries, entries.len() / ENTRY_WORDS);
-    if entries_needed != 0 {
-        return Changes::Refused(Refusal::Room(entries_needed));
-    }
-    let r = list_section(older, newer, Section::Ranges, runs.len() / RUN_WORDS, runs);
-    let e = list_section(
-        older,
-        newer,
-        Section::Entries,
-        entries.len() / ENTRY_WORDS,
-        entries,
-    );
-    Changes::Listed {
-        runs: r,
-        entries: e,
-    }
+    let runs_room = runs.len() / RUN_WORDS;
+    let entries_room = entries.len() / ENTRY_WORDS;
+    judge_room(older, newer, Section::Ranges, runs_room)?;
+    judge_room(older, newer, Section::Entries, entries_room)?;
+    Ok(Lists {
+        runs: list_section(older, newer, Section::Ranges, runs_room, runs),
+        entries: list_section(older, newer, Section::Entries, entries_room, entries),
+    })
 }
 
 // The lists of the changes between two images: of runs first, last, older class, newer class; of profile entries code point,
 // older role, newer role, 0 for none. A refused call leaves both buffers as they were.
-pub fn list_changes(older: &[u8], newer: &[u8], runs: &mut [u32], entries: &mut [u32]) -> Changes
+#[tactic(auto, unfolding(crate::specs::Answer::answer_within, crate::specs::Answer::runs_after_within, crate::specs::Answer::entries_after_within))]
+pub fn list_changes(
+    older: &[u8],
+    newer: &[u8],
+    runs: &mut [u32],
+    entries: &mut [u32],
+) -> Result<Lists, PairRefusal>
     ensures value { result ≡ answer_of older.now newer.now (length runs.old) (length entries.old) }
     ensures runs_after { runs.new ≡ runs_after older.now newer.now runs.old entries.old }
     ensures entries_after { entries.new ≡ entries_after older.now newer.now runs.old entries.old }
 {
-    let judged = pair::judge_both(older, newer);
-    match judged {
-        Judged::Older(r) => Changes::Older(r),
-        Judged::Newer(r) => Changes::Newer(r),
-        Judged::Accepted => list_accepted(older, newer, runs, entries),
-    }
+    pair::judge_both(older, newer)?;
+    list_accepted(older, newer, runs, entries)
 }

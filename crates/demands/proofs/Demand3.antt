@@ -23,7 +23,7 @@ use Rattle.image.specs.Accepted.{Accepted}
 use Rattle.image.specs.Means.{RefusalMeans}
 use Rattle.image.proofs.ImageLaws.{refused_none, means_refusal}
 use Rattle.image.proofs.PermittedLaws.{permitted_after, medial_same}
-use Rattle.pair.specs.declared.Pair.TheVariants as pair
+use Rattle.std.specs.Prelude.{Ok}
 use Rattle.pair.specs.Means.{all_permitted}
 use Rattle.pair.proofs.PairLaws.{permitted_means, means_pair}
 use Rattle.grammar.specs.All.{All}
@@ -196,7 +196,7 @@ module _ (older newer : List ℕ) where
       record { older_accepted = a; newer_accepted = b; profiles = p; permitted = c }
 
   pub pair_of_later : Later older newer → SaysYes older newer
-  pair_of_later L = means_pair older newer pair.Permitted (all_permitted L.older_accepted L.newer_accepted L.profiles L.permitted)
+  pair_of_later L = means_pair older newer (Ok tt) (all_permitted L.older_accepted L.newer_accepted L.profiles L.permitted)
 
   -- then demand 3 holds for every text, whatever its bytes, and any two token buffers with the same room
   pub demand_3_of_pair : SaysYes older newer → (text out new_out : List ℕ) → room_of (length new_out) ≡ room_of (length out) → Demand3 older newer text out new_out

@@ -10,7 +10,7 @@
 --   Promise        what demand 3 says of the answers of a call under the older and under the newer image
 --   list_in         the words of n records in a buffer's front
 --   Demand3        demand 3 for a text, and for counting its tokens and writing their list
-use Rattle.std.specs.Prelude.{ℕ, ◌+◌, ◌*◌, ◌≡◌, true, List, [], ◌⊎◌, length, take, drop}
+use Rattle.std.specs.Prelude.{ℕ, ◌+◌, ◌*◌, ◌≡◌, true, List, [], ◌⊎◌, length, take, drop, Ok}
 use Rattle.refusal.specs.declared.Refusal.{Refusal}
 use Rattle.refusal.specs.declared.Refusal.TheVariants as refusal
 use Rattle.refusal.specs.Outcome.{Outcome, given, refused}
@@ -20,7 +20,6 @@ use Rattle.utf8.specs.Text.{Character}
 use Rattle.image.specs.Check.{class_of, medial_of}
 use Rattle.image.specs.Accepted.{Accepted}
 use Rattle.image.specs.Same.{SameProfile}
-use Rattle.pair.specs.declared.Pair.TheVariants as pair
 use Rattle.pair.specs.Pair.{pair_of}
 use Rattle.pair.specs.Means.{OnlyPermitted}
 use Rattle.grammar.specs.Scan.{Tok}
@@ -38,7 +37,7 @@ pub record Later (older newer : List ℕ) : Type 0 where
   pub permitted : OnlyPermitted older newer
 
 abbrev pub SaysYes : List ℕ → List ℕ → Type 0
-SaysYes older newer = pair_of older newer ≡ pair.Permitted
+SaysYes older newer = pair_of older newer ≡ Ok tt
 
 abbrev pub StandsAt : List ℕ → ℕ → ℕ → ℕ → Type 0
 StandsAt text p x n = StepMeans (drop p text) (Scalar x n)

@@ -5,6 +5,7 @@ use mathlib.Core.List.{List}
 use mathlib.Core.Option.{Option, none, some}
 use native.Mathlib.Omega.{arith}
 use lib.ListN.{length, take}
+use Rattle.std.specs.Prelude.{Result, Ok, Err}
 use Rattle.lists.proofs.BoolLaws.{impossible}
 use Rattle.refusal.specs.declared.Refusal.{Refusal}
 use Rattle.refusal.specs.declared.Refusal.TheVariants as refusal
@@ -13,10 +14,11 @@ use Rattle.image.specs.Check.{refusal_of}
 use Rattle.image.proofs.ImageLaws.{refusal_means}
 use Rattle.image.proofs.LimitLaws.{long_refused}
 use Rattle.image.specs.declared.records.Section.TheVariants.{Ranges, Entries}
+use Rattle.pair.specs.declared.PairRefusal.{PairRefusal}
+use Rattle.pair.specs.declared.PairRefusal.TheVariants.{Older, Neither}
 use Rattle.changes.specs.Answer.{change_size, answer_of}
 use Rattle.changes.specs.Means.{bad_older, both_listed}
-use Rattle.changes.specs.declared.Changes.{Changes}
-use Rattle.changes.specs.declared.Changes.TheVariants as changes
+use Rattle.changes.specs.declared.Lists.{Lists}
 use Rattle.changes.proofs.RoomLaws.{older_answer, newer_answer, accepted_answer, lists_both}
 use Rattle.changes.proofs.AnswerLaws.{changes_mean, Answers, means_changes}
 use Rattle.changes.proofs.BoundLaws.{runs_by_limits, entries_by_limits}
@@ -25,12 +27,12 @@ use Rattle.input.proofs.FrontLaws.{dec_whole, end_whole, cut_refused, looks_no_f
 use Rattle.input.specs.Images.{answer_from, runs_from, entries_from, max_run_words, max_entry_words, whole_answer_within, whole_answer, ChangeListingMeans, cut_off, whole}
 
 module _ (input out more : List ℕ) where
-  cut_answers : (ComesWhole input → ⊥) → Answers (older_in input) (newer_in input) out more (changes.Older refusal.Length) out more
+  cut_answers : (ComesWhole input → ⊥) → Answers (older_in input) (newer_in input) out more (Err (Older refusal.Length)) out more
   cut_answers f = means_changes _ _ out more _ _ _ (bad_older (refusal_means _ _ (cut_refused input f)))
 
   -- what an answer says
   pub change_listing_means :
-      {c : Changes} {words others : List ℕ} → answer_from input (length out) (length more) ≡ c → runs_from input out more ≡ words
+      {c : Result Lists PairRefusal} {words others : List ℕ} → answer_from input (length out) (length more) ≡ c → runs_from input out more ≡ words
       → entries_from input out more ≡ others → ChangeListingMeans input out more c words others
   change_listing_means e f g = rw (← e, ← f, ← g) (go (dec_whole input))
     where
@@ -43,29 +45,29 @@ module _ (input out more : List ℕ) where
 
   -- and back: where it is so, that is the answer, and the buffers hold this
   pub means_change_listing :
-      {c : Changes} {words others : List ℕ} → ChangeListingMeans input out more c words others
+      {c : Result Lists PairRefusal} {words others : List ℕ} → ChangeListingMeans input out more c words others
       → Answers (older_in input) (newer_in input) out more c words others
   means_change_listing (cut_off f) = cut_answers f
   means_change_listing (whole w m) = rw (end_whole input w) (means_changes _ _ out more _ _ _ m)
 
 -- changes that were listed have their words in the buffers
 pub listed_fits :
-    {input out more words others : List ℕ} {n m : ℕ} → ChangeListingMeans input out more (changes.Listed n m) words others
-    → (change_size Ranges * n ≤ length out) × (change_size Entries * m ≤ length more)
+    {input out more words others : List ℕ} {l : Lists} → ChangeListingMeans input out more (Ok l) words others
+    → (change_size Ranges * l.runs ≤ length out) × (change_size Entries * l.entries ≤ length more)
 listed_fits (whole w (both_listed l u v)) = (omega arith, omega arith)
 
 -- the program's answer for two images
-abbrev answer_at : List ℕ → List ℕ → Changes
+abbrev answer_at : List ℕ → List ℕ → Result Lists PairRefusal
 answer_at older newer = answer_of older newer max_run_words max_entry_words
 
 -- there is room for the most changes, so the program never answers 8
-pub never_room : (input : List ℕ) (r : Refusal) → whole_answer input ≡ changes.Refused r → ⊥
+pub never_room : (input : List ℕ) (r : Refusal) → whole_answer input ≡ Err (Neither r) → ⊥
 unfolding whole_answer_within
 never_room input r e = go (older_in input) (newer_in input) _ _ refl refl e
   where
     go :
         (older newer : List ℕ) (o p : Option Refusal) → refusal_of older ≡ o → refusal_of newer ≡ p
-        → answer_at older newer ≡ changes.Refused r → ⊥
+        → answer_at older newer ≡ Err (Neither r) → ⊥
     go older newer (some s) p f g t = let a = older_answer older newer max_run_words max_entry_words f in impossible (cc)
     go older newer none (some s) f g t = let a = newer_answer older newer max_run_words max_entry_words f g in impossible (cc)
     go older newer none none f g t =

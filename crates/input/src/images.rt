@@ -3,8 +3,9 @@ ghost use Rattle.std.specs.Prelude.{◌≡◌, List, ℕ, ◌*◌, ◌≤◌, �
 ghost use Rattle.image.specs.Limits.{max_image};
 ghost use Rattle.input.specs.Images.{answer_from, runs_from, entries_from, max_run_words, max_entry_words, whole_answer};
 
-use changes::{Changes, ENTRY_WORDS, RUN_WORDS};
+use changes::{ENTRY_WORDS, Lists, RUN_WORDS};
 use image::{MAX_ENTRIES, MAX_IMAGE, MAX_RANGES};
+use pair::PairRefusal;
 
 // The most bytes of the input that are looked at: two of the largest images and one byte more.
 pub const MAX_INPUT: usize = 2 * MAX_IMAGE + 1;
@@ -16,7 +17,7 @@ pub const MAX_ENTRY_WORDS: usize = ENTRY_WORDS * (MAX_ENTRIES + MAX_ENTRIES);
 
 // The lists of the changes between the older image at the front of the input and the newer, which is all that follows.
 // An older image that doesn't come whole is taken as empty, which refuses it with 1.
-pub fn list_input(input: &[u8], runs: &mut [u32], entries: &mut [u32]) -> Changes
+pub fn list_input(input: &[u8], runs: &mut [u32], entries: &mut [u32]) -> Result<Lists, PairRefusal>
     ensures value { result ≡ answer_from input.now (length runs.old) (length entries.old) }
     ensures runs_after { runs.new ≡ runs_from input.now runs.old entries.old }
     ensures entries_after { entries.new ≡ entries_from input.now runs.old entries.old }
@@ -26,7 +27,12 @@ pub fn list_input(input: &[u8], runs: &mut [u32], entries: &mut [u32]) -> Change
 }
 
 // The answer for the whole input, of which the first n bytes were read into a buffer: all, if they don't fill it.
-pub fn list_read(buffer: &[u8], n: usize, runs: &mut [u32], entries: &mut [u32]) -> Changes
+pub fn list_read(
+    buffer: &[u8],
+    n: usize,
+    runs: &mut [u32],
+    entries: &mut [u32],
+) -> Result<Lists, PairRefusal>
     requires n_in_bounds { n ≤ length buffer.now }
     requires max_image_in_bounds { (2 * max_image < length buffer.now) × ((length runs.old ≡ max_run_words) × (length entries.old ≡ max_entry_words)) }
     ensures value { result ≡ answer_from (take n buffer.now) (length runs.old) (length entries.old) }

@@ -6,6 +6,7 @@ use mathlib.Core.List.{List}
 use mathlib.Core.Option.{Option, none, some}
 use native.Mathlib.Omega.{arith}
 use lib.ListN.{length}
+use Rattle.std.specs.Prelude.{Result}
 use Rattle.refusal.specs.declared.Refusal.{Refusal}
 use Rattle.refusal.specs.Outcome.{outcome_map}
 use Rattle.image.specs.declared.Profile.{Profile}
@@ -19,7 +20,8 @@ use Rattle.writer.proofs.LimitLaws.{answer_by_limits, bytes_by_limits}
 use Rattle.pair.proofs.LimitLaws.{pair_by_lem}
 use Rattle.pair.specs.Judged.{judged_by}
 use Rattle.changes.specs.Answer.{answer_within, changes_by, listed_of}
-use Rattle.changes.specs.declared.Changes.{Changes}
+use Rattle.pair.specs.declared.PairRefusal.{PairRefusal}
+use Rattle.changes.specs.declared.Lists.{Lists}
 use Rattle.changes.proofs.LimitLaws.{answer_by, runs_are, entries_are}
 use Rattle.changes.proofs.RoomLaws.{lists_both}
 use Rattle.changes.proofs.BoundLaws.{runs_by_limits, entries_by_records}
@@ -132,7 +134,7 @@ module _ (k l : ℕ) (fewer : k ≤ l) where
           lists_both (image_in input) (rest_in input) max_run_words (max_entry_words_within k) (omega arith) (omega (arith, h.few_entries, g.few_entries))
           ∙ sym (lists_both (image_in input) (rest_in input) max_run_words (max_entry_words_within l) (omega arith) (omega (arith, h.few_entries, g.few_entries)))
 
-      abbrev changed : Option Refusal → Option Refusal → ℕ → Changes
+      abbrev changed : Option Refusal → Option Refusal → ℕ → Result Lists PairRefusal
       changed o p entries = changes_by (judged_by o p) (listed_of (image_in input) (rest_in input) max_run_words entries)
 
       room_by :

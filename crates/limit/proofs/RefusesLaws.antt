@@ -7,6 +7,7 @@ use native.Mathlib.Omega.{arith}
 use native.Mathlib.Decide.{dec_le, dec_lt}
 use lib.ListN.{length}
 use borrow.Author.Tests.{lt-ltb, le-ltb}
+use Rattle.std.specs.Prelude.{Result, Err}
 use Rattle.refusal.specs.declared.Refusal.{Refusal}
 use Rattle.refusal.specs.declared.Refusal.TheVariants as refusal
 use Rattle.refusal.specs.Outcome.{refused, outcome_map}
@@ -18,8 +19,9 @@ use Rattle.image.proofs.ImageLaws.{accepted}
 use Rattle.image.proofs.LimitLaws.{long_refused, many_refused, check_refused, read_refused, words_kept}
 use Rattle.lookup.proofs.LimitLaws.{lookup_by_lem}
 use Rattle.pair.proofs.LimitLaws.{pair_by_lem}
-use Rattle.changes.specs.declared.Changes.{Changes}
-use Rattle.changes.specs.declared.Changes.TheVariants as changes
+use Rattle.pair.specs.declared.PairRefusal.{PairRefusal}
+use Rattle.pair.specs.declared.PairRefusal.TheVariants.{Older, Newer}
+use Rattle.changes.specs.declared.Lists.{Lists}
 use Rattle.changes.proofs.LimitLaws.{answer_by, runs_are, entries_are}
 use Rattle.input.specs.Front.{image_in, rest_in, front_within, after_within, WholeWithin}
 use Rattle.input.proofs.FrontLaws.{dec_whole, end_whole, cut_refused, image_total, sized_whole}
@@ -66,7 +68,7 @@ module _ (limit : ℕ) (s : List ℕ) (r : Refusal) (e : refusal_within limit s 
   unfolding hashtags_written_within found_within before_within
   found_refused text words = rw e
 
-  older_refused : (newer : List ℕ) → RefusesChanges limit s newer (changes.Older r)
+  older_refused : (newer : List ℕ) → RefusesChanges limit s newer (Err (Older r))
   older_refused newer =
       record {
         answer = answer_by limit s newer (some r) _ e refl;
@@ -74,7 +76,7 @@ module _ (limit : ℕ) (s : List ℕ) (r : Refusal) (e : refusal_within limit s 
         entries = entries_are limit s newer (some r) _ e refl;
       }
 
-  newer_refused : (older : List ℕ) → refusal_within limit older ≡ none → RefusesChanges limit older s (changes.Newer r)
+  newer_refused : (older : List ℕ) → refusal_within limit older ≡ none → RefusesChanges limit older s (Err (Newer r))
   newer_refused older a =
       record {
         answer = answer_by limit older s none (some r) a e;
@@ -112,7 +114,7 @@ script_refuses limit input r f =
       whole = ap (λ o. counted_by (outcome_map length o)) (f (record_size * max_script));
     }
 
-input_refuses : (limit : ℕ) (input : List ℕ) (c : Changes) → RefusesChanges limit (front_within limit input) (after_within limit input) c → RefusesInput limit input c
+input_refuses : (limit : ℕ) (input : List ℕ) (c : Result Lists PairRefusal) → RefusesChanges limit (front_within limit input) (after_within limit input) c → RefusesInput limit input c
 unfolding whole_changes
 input_refuses limit input c h =
     record { answer = h.answer; runs = h.runs; entries = h.entries; whole = h.answer max_run_words (max_entry_words_within limit) }
@@ -148,14 +150,14 @@ refuses_above limit l s a many =
         script_refused_lem limit l input (subst (AcceptedWithin l) (sym f) a) (subst (λ t. limit < entry_count t) (sym f) many) words
         ∙ ap (λ t. refused (refusal_above limit t)) f
 
-    changes_front : (input : List ℕ) → image_in input ≡ s → RefusesChanges limit (front_within limit input) (after_within limit input) (changes.Older (refusal_above limit s))
+    changes_front : (input : List ℕ) → image_in input ≡ s → RefusesChanges limit (front_within limit input) (after_within limit input) (Err (Older (refusal_above limit s)))
     changes_front input f =
         older_refused limit (front_within limit input) (refusal_above limit s)
         (front_refused limit l input (subst (AcceptedWithin l) (sym f) a) (subst (λ t. limit < entry_count t) (sym f) many)
         ∙ ap (λ t. some (refusal_above limit t)) f)
         (after_within limit input)
 
-    changes_after : (input : List ℕ) → refusal_within limit (image_in input) ≡ none → rest_in input ≡ s → RefusesInput limit input (changes.Newer (refusal_above limit s))
+    changes_after : (input : List ℕ) → refusal_within limit (image_in input) ≡ none → rest_in input ≡ s → RefusesInput limit input (Err (Newer (refusal_above limit s)))
     changes_after input o f =
         let w = sized_whole {limit = limit} input (accepted (image_in input) o).header.sized in
         let e = ap (λ t. refusal_within limit t) f ∙ above limit s l a many in

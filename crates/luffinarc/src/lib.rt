@@ -22,11 +22,9 @@ ghost use Rattle.reply.specs.Reply.{Tells, refuses_of};
 ghost use Rattle.reply.specs.ImageReply.{TellsChecked, found_reply, written_reply, pair_reply, changes_reply};
 ghost use Rattle.reply.specs.TokenReply.{counted_reply, taken_reply, part_reply, told_part};
 
-use changes::Changes;
 use grammar::Counted;
 use image::{Answer, MAX_ENTRIES};
 use lookup::Found;
-use pair::Pair;
 use refusal::Refusal;
 use token::Taken;
 use writer::Written;

@@ -1,5 +1,4 @@
 pub mod WalkLaws
-pub mod JudgedLaws
 pub mod ChangeLaws
 pub mod OverlapLaws
 pub mod ProfileLaws

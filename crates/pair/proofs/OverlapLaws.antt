@@ -1,10 +1,12 @@
 -- Two images side by side: what begins at a code point in both, and the first change that is forbidden. Assumes nothing.
-use Prim.Native.Nat.{ℕ, ◌+◌, ◌≤◌, ◌<◌}
+use Prim.Native.Nat.{ℕ, ◌+◌, ◌≤◌, ◌<◌, min}
 use mathlib.Core.Path.{◌≡◌, refl, sym, ap, ◌∙◌}
 use mathlib.Core.Bool.{Bool, true, false, not, ◌&&◌, true≢false}
 use mathlib.Core.List.{List}
 use mathlib.Core.Logic.{◌⊎◌, inl, inr, ⊎_elim}
 use mathlib.Core.Option.{none}
+use Rattle.std.specs.Prelude.{Option, Some, None}
+use borrow.Author.Tests.{lt-ltb}
 use native.Mathlib.Omega.{arith}
 use native.Mathlib.Decide.{dec_lt}
 use Rattle.lists.proofs.FirstLaws.{first_is, first_none}
@@ -23,7 +25,7 @@ use Rattle.pair.specs.Change.{permitted}
 use Rattle.pair.specs.declared.walk.Ahead.{Ahead}
 use Rattle.pair.specs.declared.walk.Overlap.{Overlap}
 use Rattle.pair.specs.Walk.{code_points, Stops, AheadOf, StopsBoth, OverlapOf, OverlapAt}
-use Rattle.pair.specs.Pair.{forbidden_at, first_forbidden}
+use Rattle.pair.specs.Pair.{forbidden_at, first_forbidden, forbidden_change}
 
 and_false : (b : Bool) → (b && false) ≡ false
 and_false true = refl
@@ -38,10 +40,10 @@ none_scalar s a Entries x e =
 -- an overlap ends where the first of the two does
 module _ {older newer : List ℕ} {section : Section} {x : ℕ} {a b : Ahead} (f : AheadOf older section x a) (g : AheadOf newer section x b) where
   -- e is the last code point of the one or of the other
-  pub record Least (e : ℕ) : Type 0 where
-    pub older_to : e ≤ a.last
-    pub newer_to : e ≤ b.last
-    pub one : (e ≡ a.last) ⊎ (e ≡ b.last)
+  record Least (e : ℕ) : Type 0 where
+    older_to : e ≤ a.last
+    newer_to : e ≤ b.last
+    one : (e ≡ a.last) ⊎ (e ≡ b.last)
 
   abbrev both : ℕ → Overlap
   both e = record { first = x; last = e; older = a; newer = b }
@@ -66,61 +68,68 @@ module _ {older newer : List ℕ} {section : Section} {x : ℕ} {a b : Ahead} (f
       go (no v) (yes c) = omega (arith, t (λ y. omega arith), l.newer_to)
       go (no v) (no c) = absurd (d (omega arith))
 
-  pub both_ahead : (e : ℕ) → Least e → OverlapAt older newer section (both e)
-  both_ahead e l = record { within = omega (arith, f.from, f.to); found = λ h. overlap }
+  least : (e : ℕ) → e ≡ min a.last b.last → Least e
+  least e z = record { older_to = omega (arith, z); newer_to = omega (arith, z); one = go (dec_lt a.last b.last) }
     where
-      after : x ≤ e
-      after = ⊎_elim (λ z. omega (arith, f.from)) (λ z. omega (arith, g.from)) l.one
+      go : Dec (a.last < b.last) → (e ≡ a.last) ⊎ (e ≡ b.last)
+      go (yes l) = inl (omega (arith, z))
+      go (no l) = inr (omega (arith, z))
 
-      overlap : OverlapOf older newer section (both e)
-      overlap =
-          let k = after in
-          record {
-            from = k;
-            to = omega (arith, f.to, l.older_to);
-            older_same = λ y r h. f.same y r (omega (arith, l.older_to));
-            newer_same = λ y r h. g.same y r (omega (arith, l.newer_to));
-            stops = stops_both section f.next.accepted g.next.accepted f.stops g.stops e l k;
-            older_next = record { begun = x; ahead = f; from = omega arith; to = omega (arith, l.older_to) };
-            newer_next = record { begun = x; ahead = g; from = omega arith; to = omega (arith, l.newer_to) };
-          }
+  pub both_ahead : (e : ℕ) → e ≡ min a.last b.last → OverlapOf older newer section (both e)
+  both_ahead e z =
+      let l = least e z in
+      let k : x ≤ e = ⊎_elim (λ z. omega (arith, f.from)) (λ z. omega (arith, g.from)) l.one in
+      record {
+        from = k;
+        to = omega (arith, f.to, l.older_to);
+        older_same = λ y r h. f.same y r (omega (arith, l.older_to));
+        newer_same = λ y r h. g.same y r (omega (arith, l.newer_to));
+        stops = stops_both section f.next.accepted g.next.accepted f.stops g.stops e l k;
+        older_next = record { begun = x; ahead = f; from = omega arith; to = omega (arith, l.older_to) };
+        newer_next = record { begun = x; ahead = g; from = omega arith; to = omega (arith, l.newer_to) };
+      }
 
--- no code point before the overlap has a forbidden change
-pub record Clear (older newer : List ℕ) (t : Overlap) : Type 0 where
-  pub here : OverlapAt older newer Ranges t
-  pub clear : (y : ℕ) → y < t.first → forbidden_at older newer y ≡ false
+-- where a walk stands: at an overlap, or past the last code point
+abbrev pub stands_at : Option Overlap → ℕ
+stands_at (Some t) = t.first
+stands_at None = code_points
 
-module _ {older newer : List ℕ} {t : Overlap} (c : Clear older newer t) where
-  pub clear_ends : code_points ≤ t.first → t.first ≡ first_forbidden older newer
-  unfolding first_forbidden
-  clear_ends l =
-      let z : t.first ≡ code_points = omega (arith, c.here.within) in
-      z ∙ sym (first_none (forbidden_at older newer) code_points (λ y u. c.clear y (omega arith)))
+pub stands : (older newer : List ℕ) (section : Section) {x : ℕ} (o : Option Overlap) → OverlapAt older newer section x o → stands_at o ≡ x
+stands older newer section (Some t) h = h.0
+stands older newer section None h = sym h
 
-  module _ (l : t.first < code_points) where
+-- no code point before a place has a forbidden change
+abbrev pub Clear : List ℕ → List ℕ → ℕ → Type 0
+Clear older newer x = (y : ℕ) → y < x → forbidden_at older newer y ≡ false
+
+module _ (older newer : List ℕ) where
+  pub clear_ends : Clear older newer code_points → None ≡ forbidden_change older newer
+  unfolding forbidden_change first_forbidden
+  clear_ends c = rw (first_none (forbidden_at older newer) code_points c) refl
+
+  module _ {t : Overlap} (c : Clear older newer t.first) (o : OverlapOf older newer Ranges t) where
     -- the change of each code point of the overlap
     changes : (y : ℕ) → t.first ≤ y → y ≤ t.last → permitted (range_class older y) (range_class newer y) ≡ permitted t.older.class t.newer.class
     unfolding range_class
-    changes y u v = let o = c.here.found l in rw (o.older_same y u v, o.newer_same y u v)
+    changes y u v = rw (o.older_same y u v, o.newer_same y u v)
 
-    pub clear_next :
-        permitted t.older.class t.newer.class ≡ true → {u : Overlap} → u.first ≡ t.last + 1 → OverlapAt older newer Ranges u
-        → Clear older newer u
+    pub clear_next : permitted t.older.class t.newer.class ≡ true → Clear older newer (t.last + 1)
     unfolding forbidden_at
-    clear_next e {u} n o = record { here = o; clear = λ y k. go y k (dec_lt y t.first) }
+    clear_next e = λ y k. go y k (dec_lt y t.first)
       where
-        go : (y : ℕ) → y < u.first → Dec (y < t.first) → forbidden_at older newer y ≡ false
-        go y k (yes v) = c.clear y v
+        go : (y : ℕ) → y < t.last + 1 → Dec (y < t.first) → forbidden_at older newer y ≡ false
+        go y k (yes v) = c y v
         go y k (no v) = rw (changes y (omega arith) (omega arith), e) (and_false (is_scalar y))
 
     -- only scalar values have classes in the ranges, so the change is one of a scalar value
     pub clear_here :
         refusal_of older ≡ none → refusal_of newer ≡ none → permitted t.older.class t.newer.class ≡ false
-        → t.first ≡ first_forbidden older newer
-    unfolding first_forbidden forbidden_at range_class permitted
+        → Some t.first ≡ forbidden_change older newer
+    unfolding forbidden_change first_forbidden forbidden_at range_class permitted
     clear_here p q e =
-        let f = (c.here.found l).from in
-        sym (first_is (forbidden_at older newer) code_points t.first l (go (is_scalar t.first) refl (changes t.first (omega arith) f ∙ e)) c.clear)
+        let l : t.first < code_points = omega (arith, o.from, o.to) in
+        let z = first_is (forbidden_at older newer) code_points t.first l (go (is_scalar t.first) refl (changes t.first (omega arith) o.from ∙ e)) c in
+        rw (z, lt-ltb _ _ l) refl
       where
         go : (b : Bool) → is_scalar t.first ≡ b → permitted (range_class older t.first) (range_class newer t.first) ≡ false
             → (b && not (permitted (range_class older t.first) (range_class newer t.first))) ≡ true

@@ -6,6 +6,7 @@ use mathlib.Core.Bool.{Bool, true, false, true≢false, cond}
 use mathlib.Core.Option.{Option, none, some}
 use native.Mathlib.Omega.{arith}
 use lib.Dec.{ltb, eqb}
+use Rattle.std.specs.Prelude.{Result, Ok, Err}
 use borrow.Author.Tests.{lt-ltb, eq-eqb, eqb-true, ltb-true, ltb-false, not-true, not-false}
 use Rattle.lists.specs.First.{first_where}
 use Rattle.lists.proofs.BoolLaws.{and_left, and_right, or_false}
@@ -38,8 +39,8 @@ use Rattle.pair.specs.Means.{
 }
 use Rattle.pair.specs.Pair.{forbidden_at, first_forbidden, differs_at, same_entries, same_profile, compared_of, pair_by, pair_within, pair_of}
 use Rattle.pair.specs.Walk.{code_points}
-use Rattle.pair.specs.declared.Pair.{Pair}
-use Rattle.pair.specs.declared.Pair.TheVariants as pair
+use Rattle.pair.specs.declared.PairRefusal.{PairRefusal}
+use Rattle.pair.specs.declared.PairRefusal.TheVariants.{Neither}
 use Rattle.pair.proofs.ChangeLaws.{permitted_is, is_permitted}
 
 module _ (older newer : List ℕ) where
@@ -129,14 +130,14 @@ module _ (older newer : List ℕ) where
     abbrev first : ℕ
     first = first_forbidden older newer
 
-    abbrev changed : Bool → Pair
-    changed t = cond t (pair.Refused (refusal.Change first)) pair.Permitted
+    abbrev changed : Bool → Result (Unit {0}) PairRefusal
+    changed t = cond t (Err (Neither (refusal.Change first))) (Ok tt)
 
     means_change : SameProfile older newer → (t : Bool) → ltb first code_points ≡ t → PairMeans older newer (changed t)
     means_change s true e = bad_change a b s (first_change a b (ltb-true _ _ e))
     means_change s false e = all_permitted a b s (only_permitted a b (ltb-false _ _ e))
 
-    means_compared : (t : Bool) → same_profile older newer ≡ t → PairMeans older newer (cond t (changed (ltb first code_points)) (pair.Refused refusal.Profiles))
+    means_compared : (t : Bool) → same_profile older newer ≡ t → PairMeans older newer (cond t (changed (ltb first code_points)) (Err (Neither refusal.Profiles)))
     means_compared true e = means_change (same_profile_lem e) _ refl
     means_compared false e = other_profile a b (λ s. true≢false (sym (profile_same s) ∙ e))
 
@@ -151,12 +152,12 @@ module _ (older newer : List ℕ) where
   means_by none none e f = means_compared (accepted older e) (accepted newer f) _ refl
 
   -- what an answer says
-  pub pair_means : (p : Pair) → pair_of older newer ≡ p → PairMeans older newer p
+  pub pair_means : (p : Result (Unit {0}) PairRefusal) → pair_of older newer ≡ p → PairMeans older newer p
   unfolding pair_within
   pair_means p e = subst (PairMeans older newer) e (means_by _ _ refl refl)
 
   -- and back: where it is so, that is the answer
-  pub means_pair : (p : Pair) → PairMeans older newer p → pair_of older newer ≡ p
+  pub means_pair : (p : Result (Unit {0}) PairRefusal) → PairMeans older newer p → pair_of older newer ≡ p
   unfolding pair_within compared_of
   means_pair _ (bad_older {r} m) = simp (means_refusal older (some r) m)
   means_pair _ (bad_newer {r} a m) = simp (refused_none older a, means_refusal newer (some r) m)
@@ -167,8 +168,8 @@ module _ (older newer : List ℕ) where
   means_pair _ (all_permitted a b s f) = compared a b ∙ simp (profile_same s, none_forbidden a b f)
 
   -- the answer yes
-  pub permitted_means : pair_of older newer ≡ pair.Permitted → Accepted older × Accepted newer × SameProfile older newer × OnlyPermitted older newer
-  permitted_means e = go (pair_means pair.Permitted e)
+  pub permitted_means : pair_of older newer ≡ Ok tt → Accepted older × Accepted newer × SameProfile older newer × OnlyPermitted older newer
+  permitted_means e = go (pair_means (Ok tt) e)
     where
-      go : PairMeans older newer pair.Permitted → Accepted older × Accepted newer × SameProfile older newer × OnlyPermitted older newer
+      go : PairMeans older newer (Ok tt) → Accepted older × Accepted newer × SameProfile older newer × OnlyPermitted older newer
       go (all_permitted a b s f) = (a, b, s, f)

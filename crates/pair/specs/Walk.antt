@@ -7,8 +7,8 @@
 --   Ready        a walk at a code point, and what was ahead of it last
 --   StopsBoth    why a walk over two images stops at a code point where their classes differ
 --   OverlapOf    an overlap: code points that have one class in each of two images
---   OverlapAt    an overlap, or the end of the code points
-use Rattle.std.specs.Prelude.{ℕ, ◌+◌, ◌≤◌, ◌<◌, ◌≡◌, List}
+--   OverlapAt    the overlap at a code point, or the end of the code points
+use Rattle.std.specs.Prelude.{ℕ, ◌+◌, ◌≤◌, ◌<◌, ◌≡◌, List, Option, Some, None}
 use Rattle.std.proofs.Math.Option.{none}
 use Rattle.image.specs.Limits.{last_code_point}
 use Rattle.image.specs.Check.{refusal_of}
@@ -63,6 +63,7 @@ pub record OverlapOf (older newer : List ℕ) (section : Section) (r : Overlap) 
   pub older_next : Ready older section (r.last + 1) r.older
   pub newer_next : Ready newer section (r.last + 1) r.newer
 
-pub record OverlapAt (older newer : List ℕ) (section : Section) (r : Overlap) : Type 0 where
-  pub within : r.first ≤ code_points
-  pub found : r.first < code_points → OverlapOf older newer section r
+-- an overlap begins at x; or x is past the last code point, and there is none
+abbrev pub OverlapAt : List ℕ → List ℕ → Section → ℕ → Option Overlap → Type 0
+OverlapAt older newer section x (Some r) = (r.first ≡ x) × OverlapOf older newer section r
+OverlapAt older newer section x None = x ≡ code_points

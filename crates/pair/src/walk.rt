@@ -4,13 +4,10 @@ ghost use Rattle.std.proofs.Math.Option.{none};
 ghost use Rattle.image.specs.Limits.{last_code_point};
 ghost use Rattle.image.specs.Check.{refusal_of};
 ghost use Rattle.image.specs.Records.{record_count};
-ghost use Rattle.pair.specs.Walk.{code_points, Walk, AheadOf, Ready, OverlapOf, OverlapAt};
+ghost use Rattle.pair.specs.Walk.{Walk, AheadOf, Ready, OverlapOf, OverlapAt};
 
 use image::records::Section;
 use image::{LAST_CODE_POINT, UNASSIGNED};
-
-// How many code points there are.
-pub const CODE_POINTS: u32 = LAST_CODE_POINT + 1;
 
 // Code points from a given one to `last` that have one class in the ranges of an image, or one role in its entries; the place
 // of what follows them, and the number of the section's records.
@@ -22,7 +19,7 @@ pub struct Ahead {
     pub records: usize,
 }
 
-// Code points from `first` to `last`, with what each of two images has there. One that begins at `CODE_POINTS` has none.
+// Code points from `first` to `last`, with what each of two images has there.
 #[derive(Clone, Copy)]
 pub struct Overlap {
     pub first: u32,
@@ -38,21 +35,20 @@ fn look_ahead(image: &[u8], section: Section, n: usize, i: usize, x: u32) -> Ahe
     requires x_le_last_code_point { x ≤ last_code_point }
     ensures { AheadOf image.now section x result }
 {
+    let rest = Ahead {
+        last: LAST_CODE_POINT,
+        class: UNASSIGNED,
+        next: i,
+        records: n,
+    };
     if n <= i {
-        return Ahead {
-            last: LAST_CODE_POINT,
-            class: UNASSIGNED,
-            next: i,
-            records: n,
-        };
+        return rest;
     }
     let r = image::records::record_at(image, section, i);
     if x < r.first {
         return Ahead {
             last: r.first - 1,
-            class: UNASSIGNED,
-            next: i,
-            records: n,
+            ..rest
         };
     }
     Ahead {
@@ -88,27 +84,15 @@ fn advance(image: &[u8], section: Section, a: Ahead, x: u32) -> Ahead
 fn overlap_at(older: &[u8], newer: &[u8], section: Section, a: Ahead, b: Ahead, x: u32) -> Overlap
     requires ready { Ready older.now section x a }
     requires ready_2 { Ready newer.now section x b }
-    requires x_le_code_points { x ≤ code_points }
+    requires x_le_last_code_point { x ≤ last_code_point }
     ensures first_value { result.first ≡ x }
-    ensures overlap_at { OverlapAt older.now newer.now section result }
+    ensures overlap { OverlapOf older.now newer.now section result }
 {
-    if CODE_POINTS <= x {
-        return Overlap {
-            first: x,
-            last: x,
-            older: a,
-            newer: b,
-        };
-    }
     let c = advance(older, section, a, x);
     let d = advance(newer, section, b, x);
-    let mut last = c.last;
-    if d.last < last {
-        last = d.last;
-    }
     Overlap {
         first: x,
-        last,
+        last: c.last.min(d.last),
         older: c,
         newer: d,
     }
@@ -119,18 +103,20 @@ pub fn first_overlap(older: &[u8], newer: &[u8], section: Section) -> Overlap
     requires older_value { refusal_of older.now ≡ none }
     requires newer_value { refusal_of newer.now ≡ none }
     ensures first_value { result.first ≡ 0 }
-    ensures overlap_at { OverlapAt older.now newer.now section result }
+    ensures overlap { OverlapOf older.now newer.now section result }
 {
     let a = first_ahead(older, section);
     let b = first_ahead(newer, section);
     overlap_at(older, newer, section, a, b, 0)
 }
 
-// The overlap after another.
-pub fn next_overlap(older: &[u8], newer: &[u8], section: Section, t: Overlap) -> Overlap
+// The overlap after another, or none past the last code point.
+pub fn next_overlap(older: &[u8], newer: &[u8], section: Section, t: Overlap) -> Option<Overlap>
     requires { OverlapOf older.now newer.now section t }
-    ensures first_value { result.first ≡ t.last + 1 }
-    ensures overlap_at { OverlapAt older.now newer.now section result }
+    ensures { OverlapAt older.now newer.now section (t.last + 1) result }
 {
-    overlap_at(older, newer, section, t.older, t.newer, t.last + 1)
+    if t.last < LAST_CODE_POINT {
+        return Some(overlap_at(older, newer, section, t.older, t.newer, t.last + 1));
+    }
+    None
 }

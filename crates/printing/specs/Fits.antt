@@ -5,15 +5,13 @@ use Rattle.std.specs.Prelude.{ℕ, ◌*◌, ◌≤◌, List, length, Result, Ok,
 use Rattle.image.specs.declared.records.Section.TheVariants.{Ranges, Entries}
 use Rattle.grammar.specs.Record.{record_size}
 use Rattle.changes.specs.Answer.{change_size}
-use Rattle.changes.specs.declared.Changes.{Changes}
-use Rattle.changes.specs.declared.Changes.TheVariants as changes
+use Rattle.pair.specs.declared.PairRefusal.{PairRefusal}
+use Rattle.changes.specs.declared.Lists.{Lists}
 
 abbrev pub TokensFit : Result ℕ Refusal → List ℕ → Type 0
 TokensFit (Err r) words = Unit {0}
 TokensFit (Ok n) words = record_size * n ≤ length words
 
-abbrev pub ChangesFit : Changes → List ℕ → List ℕ → Type 0
-ChangesFit (changes.Older r) runs entries = Unit {0}
-ChangesFit (changes.Newer r) runs entries = Unit {0}
-ChangesFit (changes.Refused r) runs entries = Unit {0}
-ChangesFit (changes.Listed n m) runs entries = (change_size Ranges * n ≤ length runs) × (change_size Entries * m ≤ length entries)
+abbrev pub ChangesFit : Result Lists PairRefusal → List ℕ → List ℕ → Type 0
+ChangesFit (Err r) runs entries = Unit {0}
+ChangesFit (Ok l) runs entries = (change_size Ranges * l.runs ≤ length runs) × (change_size Entries * l.entries ≤ length entries)

@@ -5,8 +5,9 @@ ghost use Rattle.image.specs.declared.records.Section.TheVariants.{Ranges, Entri
 ghost use Rattle.changes.specs.Answer.{change_size};
 ghost use Rattle.printing.specs.Fits.{TokensFit, ChangesFit};
 
-use changes::{Changes, ENTRY_WORDS, RUN_WORDS};
+use changes::{ENTRY_WORDS, Lists, RUN_WORDS};
 use grammar::{Counted, RECORD_WORDS};
+use pair::PairRefusal;
 use refusal::Refusal;
 use std::io;
 
@@ -113,19 +114,16 @@ fn print_changes(
 // The change lister's answer.
 pub fn print_change_listing(
     rt: &impl Print,
-    answer: Changes,
+    answer: Result<Lists, PairRefusal>,
     runs: &[u32],
     entries: &[u32],
 ) -> io::Result<()>
     requires { ChangesFit answer runs.now entries.now }
 {
     match answer {
-        Changes::Older(r) => print_refused(rt, b" older", r),
-        Changes::Newer(r) => print_refused(rt, b" newer", r),
-        Changes::Refused(r) => print_refused(rt, b"", r),
-        Changes::Listed {
-            runs: n,
-            entries: m,
-        } => print_changes(rt, runs, n, entries, m),
+        Err(PairRefusal::Older(r)) => print_refused(rt, b" older", r),
+        Err(PairRefusal::Newer(r)) => print_refused(rt, b" newer", r),
+        Err(PairRefusal::Neither(r)) => print_refused(rt, b"", r),
+        Ok(lists) => print_changes(rt, runs, lists.runs, entries, lists.entries),
     }
 }

@@ -4,10 +4,9 @@ use Rattle.lookup.specs.declared.Probe.{Probe}
 use Rattle.std.specs.Prelude.{ℕ, ◌≡◌, List, Result, Err, Ok}
 use Rattle.image.specs.declared.Summary.{Summary}
 use Rattle.image.specs.declared.Checked.{Checked}
-use Rattle.pair.specs.declared.Pair.{Pair}
-use Rattle.pair.specs.declared.Pair.TheVariants as pair
-use Rattle.changes.specs.declared.Changes.{Changes}
-use Rattle.changes.specs.declared.Changes.TheVariants as changes
+use Rattle.pair.specs.declared.PairRefusal.{PairRefusal}
+use Rattle.pair.specs.declared.PairRefusal.TheVariants as pair
+use Rattle.changes.specs.declared.Lists.{Lists}
 use Rattle.reply.specs.Reply.{Reply, Tells, gives, refuses_of, refuses}
 
 -- checking and reading an image: the version, and the numbers of ranges and of profile entries
@@ -39,16 +38,18 @@ abbrev pub written_reply : Result ℕ Refusal → Reply
 written_reply (Err r) = refuses r
 written_reply (Ok len) = gives len 0 0
 
--- the pair check: a refusal tells which image it is of, 1 the older, 2 the newer, 0 the pair
-abbrev pub pair_reply : Pair → Reply
-pair_reply (pair.Older r) = refuses_of 1 r
-pair_reply (pair.Newer r) = refuses_of 2 r
-pair_reply (pair.Refused r) = refuses r
-pair_reply pair.Permitted = gives 0 0 0
+-- a refusal of a call on two images tells which image it is of, 1 the older, 2 the newer, 0 neither
+abbrev pub refuses_pair : PairRefusal → Reply
+refuses_pair (pair.Older r) = refuses_of 1 r
+refuses_pair (pair.Newer r) = refuses_of 2 r
+refuses_pair (pair.Neither r) = refuses r
 
--- the list of changes: the numbers of runs and of entries; a refusal tells which image it is of, as the pair check's does
-abbrev pub changes_reply : Changes → Reply
-changes_reply (changes.Older r) = refuses_of 1 r
-changes_reply (changes.Newer r) = refuses_of 2 r
-changes_reply (changes.Refused r) = refuses r
-changes_reply (changes.Listed runs entries) = gives runs entries 0
+-- the pair check
+abbrev pub pair_reply : Result (Unit {0}) PairRefusal → Reply
+pair_reply (Err r) = refuses_pair r
+pair_reply (Ok _) = gives 0 0 0
+
+-- the list of changes: the numbers of runs and of entries
+abbrev pub changes_reply : Result Lists PairRefusal → Reply
+changes_reply (Err r) = refuses_pair r
+changes_reply (Ok l) = gives l.runs l.entries 0

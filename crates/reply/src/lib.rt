@@ -9,14 +9,14 @@ ghost use Rattle.image.specs.Header.{version_of, range_count};
 ghost use Rattle.image.specs.Check.{refusal_of, accepted_of};
 ghost use Rattle.part.specs.Part.{part_of, part_bytes};
 ghost use Rattle.reply.specs.Reply.{Tells, gives, refuses_of};
-ghost use Rattle.reply.specs.ImageReply.{TellsChecked, found_reply, written_reply, pair_reply, changes_reply};
+ghost use Rattle.reply.specs.ImageReply.{TellsChecked, found_reply, written_reply, refuses_pair, pair_reply, changes_reply};
 ghost use Rattle.reply.specs.TokenReply.{counted_reply, taken_reply, part_reply, told_part};
 
-use changes::Changes;
+use changes::Lists;
 use grammar::Counted;
 use image::{Answer, MAX_ENTRIES};
 use lookup::Found;
-use pair::Pair;
+use pair::PairRefusal;
 use refusal::Refusal;
 use token::Taken;
 use writer::Written;
@@ -84,27 +84,34 @@ pub fn tell_written(w: Written, answer: &mut [u64; 4]) -> u32
     }
 }
 
+// Tells a refusal of a call on two images.
+fn refuse_pair(refusal: PairRefusal, answer: &mut [u64; 4]) -> u32
+    ensures { Tells (refuses_pair refusal) result answer.new }
+{
+    match refusal {
+        PairRefusal::Older(r) => refuse(r, 1, answer),
+        PairRefusal::Newer(r) => refuse(r, 2, answer),
+        PairRefusal::Neither(r) => refuse(r, 0, answer),
+    }
+}
+
 // Tells what the pair check gave.
-pub fn tell_pair(p: Pair, answer: &mut [u64; 4]) -> u32
+pub fn tell_pair(p: Result<(), PairRefusal>, answer: &mut [u64; 4]) -> u32
     ensures { Tells (pair_reply p) result answer.new }
 {
     match p {
-        Pair::Older(r) => refuse(r, 1, answer),
-        Pair::Newer(r) => refuse(r, 2, answer),
-        Pair::Refused(r) => refuse(r, 0, answer),
-        Pair::Permitted => give(0, 0, 0, answer),
+        Err(r) => refuse_pair(r, answer),
+        Ok(()) => give(0, 0, 0, answer),
     }
 }
 
 // Tells what the list of changes gave.
-pub fn tell_changes(c: Changes, answer: &mut [u64; 4]) -> u32
+pub fn tell_changes(c: Result<Lists, PairRefusal>, answer: &mut [u64; 4]) -> u32
     ensures { Tells (changes_reply c) result answer.new }
 {
     match c {
-        Changes::Older(r) => refuse(r, 1, answer),
-        Changes::Newer(r) => refuse(r, 2, answer),
-        Changes::Refused(r) => refuse(r, 0, answer),
-        Changes::Listed { runs, entries } => give(runs as u64, entries as u64, 0, answer),
+        Err(r) => refuse_pair(r, answer),
+        Ok(lists) => give(lists.runs as u64, lists.entries as u64, 0, answer),
     }
 }
 

@@ -70,9 +70,8 @@ use Rattle.lookup.specs.Halving.{seek_of}
 use Rattle.lookup.specs.Lookup.{lookup_of, found_with}
 use Rattle.writer.specs.Write.{write_of}
 use Rattle.pair.specs.Walk.{code_points}
-use Rattle.pair.specs.declared.Pair.TheVariants as pair
+use Rattle.pair.specs.declared.PairRefusal.TheVariants as pair
 use Rattle.pair.specs.Change.{permitted}
-use Rattle.changes.specs.declared.Changes.TheVariants as changes
 use Rattle.changes.specs.Answer.{change_words, change_size}
 use Rattle.grammar.specs.White.{WhiteKind, blank, line_end, mark, is_mark, white_of}
 use Rattle.grammar.specs.Meaning.{Meaning}
@@ -381,14 +380,14 @@ ImageReplies a b c =
     × (reply_row (found_reply (Err (refusal.NotScalar a))) ≡ 9 ∷ a ∷ 0 ∷ 0 ∷ 0 ∷ [])
     × (reply_row (written_reply (Ok a)) ≡ 0 ∷ a ∷ 0 ∷ 0 ∷ 0 ∷ [])
     × (reply_row (written_reply (Err (refusal.Buffer a))) ≡ 12 ∷ a ∷ 0 ∷ 0 ∷ 0 ∷ [])
-    × (reply_row (pair_reply pair.Permitted) ≡ 0 ∷ 0 ∷ 0 ∷ 0 ∷ 0 ∷ [])
-    × (reply_row (pair_reply (pair.Older (refusal.Entry a))) ≡ 4 ∷ a ∷ 0 ∷ 1 ∷ 0 ∷ [])
-    × (reply_row (pair_reply (pair.Newer (refusal.Entry a))) ≡ 4 ∷ a ∷ 0 ∷ 2 ∷ 0 ∷ [])
-    × (reply_row (pair_reply (pair.Refused (refusal.Change a))) ≡ 10 ∷ a ∷ 0 ∷ 0 ∷ 0 ∷ [])
-    × (reply_row (changes_reply (changes.Listed a b)) ≡ 0 ∷ a ∷ b ∷ 0 ∷ 0 ∷ [])
-    × (reply_row (changes_reply (changes.Older (refusal.Entry a))) ≡ 4 ∷ a ∷ 0 ∷ 1 ∷ 0 ∷ [])
-    × (reply_row (changes_reply (changes.Newer (refusal.Entry a))) ≡ 4 ∷ a ∷ 0 ∷ 2 ∷ 0 ∷ [])
-    × (reply_row (changes_reply (changes.Refused (refusal.Room a))) ≡ 8 ∷ a ∷ 0 ∷ 0 ∷ 0 ∷ [])
+    × (reply_row (pair_reply (Ok tt)) ≡ 0 ∷ 0 ∷ 0 ∷ 0 ∷ 0 ∷ [])
+    × (reply_row (pair_reply (Err (pair.Older (refusal.Entry a)))) ≡ 4 ∷ a ∷ 0 ∷ 1 ∷ 0 ∷ [])
+    × (reply_row (pair_reply (Err (pair.Newer (refusal.Entry a)))) ≡ 4 ∷ a ∷ 0 ∷ 2 ∷ 0 ∷ [])
+    × (reply_row (pair_reply (Err (pair.Neither (refusal.Change a)))) ≡ 10 ∷ a ∷ 0 ∷ 0 ∷ 0 ∷ [])
+    × (reply_row (changes_reply (Ok (record { runs = a; entries = b }))) ≡ 0 ∷ a ∷ b ∷ 0 ∷ 0 ∷ [])
+    × (reply_row (changes_reply (Err (pair.Older (refusal.Entry a)))) ≡ 4 ∷ a ∷ 0 ∷ 1 ∷ 0 ∷ [])
+    × (reply_row (changes_reply (Err (pair.Newer (refusal.Entry a)))) ≡ 4 ∷ a ∷ 0 ∷ 2 ∷ 0 ∷ [])
+    × (reply_row (changes_reply (Err (pair.Neither (refusal.Room a)))) ≡ 8 ∷ a ∷ 0 ∷ 0 ∷ 0 ∷ [])
 
 abbrev pub TokenReplies : ℕ → ℕ → ℕ → Type 0
 TokenReplies a b c =

@@ -8,6 +8,6 @@ pub print_change_listing-requires : goal.print_change_listing-requires
 print_change_listing-requires c =
     let l = c.list_read-answer.ensures in
     changes_fit _ _ _
-    (λ n m e.
+    (λ k e.
     let f = listed_fits (change_listing_means _ _ _ (sym l.value ∙ e) (sym l.runs_after) (sym l.entries_after)) in
     (omega arith, omega arith))

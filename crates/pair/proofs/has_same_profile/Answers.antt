@@ -1,38 +1,22 @@
 -- `pair::has_same_profile` meets its contract. Assumes nothing.
 use mathlib.Core.Path.{sym, ◌∙◌}
 use native.Mathlib.Omega.{arith}
-use borrow.Author.Tests.{ne_eqb}
-use Rattle.pair.specs.Pair.{same_profile}
-use Rattle.pair.proofs.ProfileLaws.{all_same, point_differs, role_differs, same_next}
+use Rattle.pair.proofs.ProfileLaws.{other_count, all_same, here_differs, same_next}
 use Rattle.pair.proofs.has_same_profile.Goals as goal
 
 pub returns-then-count_records-count : goal.returns-then-count_records-count
-unfolding same_profile
-returns-then-count_records-count c = sym (simp (← c.count_records-count.ensures, ← c.count_records.ensures, ne_eqb _ _ c.if-count_records-count.true))
+returns-then-count_records-count c = other_count _ _ (λ z. c.if-count_records-count.true (c.count_records.ensures ∙ z ∙ sym c.count_records-count.ensures))
 
-pub loop-i-init : goal.loop-i-init
-loop-i-init c =
-    record {
-      older_count = c.count_records-count.ensures;
-      newer_count = sym c.if-count_records-count.false ∙ c.count_records.ensures;
-      within = omega arith;
-      same = λ k l. absurd (omega arith);
-    }
-
-pub record_at-p-requires : goal.record_at-p-requires
-record_at-p-requires c = record { image_value = c.requires.older_value; i_bound = omega arith }
-
-pub record_at-q-requires : goal.record_at-q-requires
-record_at-q-requires c = record { image_value = c.requires.newer_value; i_bound = omega arith }
-
-pub returns-then-p-q : goal.returns-then-p-q
-returns-then-p-q c = point_differs c.loop-i.invariant c.record_at-p.ensures c.record_at-q.ensures c.loop-i-test.true c.if-p-q.true
-
-pub returns-then-p-q-2 : goal.returns-then-p-q-2
-returns-then-p-q-2 c = role_differs c.loop-i.invariant c.record_at-p.ensures c.record_at-q.ensures c.loop-i-test.true c.if-p-q-2.true
+pub returns-then-not-is_same_entry : goal.returns-then-not-is_same_entry
+returns-then-not-is_same_entry c =
+    here_differs _ _ (omega (arith, c.count_records.ensures, c.count_records-count.ensures, c.if-count_records-count.false)) c.loop-i.i
+    (omega (arith, c.count_records-count.ensures, c.loop-i-test.true)) c.loop-i.invariant
+    (sym c.is_same_entry.ensures ∙ c.if-not-is_same_entry.true)
 
 pub loop-i-preserved : goal.loop-i-preserved
-loop-i-preserved c = same_next c.loop-i.invariant c.record_at-p.ensures c.record_at-q.ensures c.loop-i-test.true c.if-p-q.false c.if-p-q-2.false
+loop-i-preserved c = same_next _ _ _ c.loop-i.invariant (sym c.is_same_entry.ensures ∙ c.if-not-is_same_entry.false)
 
 pub returns : goal.returns
-returns c = all_same c.loop-i.invariant c.loop-i-test.false
+returns c =
+    all_same _ _ (omega (arith, c.count_records.ensures, c.count_records-count.ensures, c.if-count_records-count.false))
+    (λ k l. c.loop-i.invariant k (omega (arith, c.count_records-count.ensures, c.loop-i-test.false)))

@@ -1,7 +1,6 @@
 -- `token::list_judged` meets its contract. Assumes nothing.
 use mathlib.Core.Path.{◌≡◌, refl}
 use mathlib.Core.Option.{none}
-use Rattle.given.proofs.JudgementLaws.{is_refused, is_accepted}
 use Rattle.blocks.proofs.BlankLaws.{blank}
 use Rattle.grammar.specs.Before.{max_text, before_text}
 use Rattle.grammar.proofs.BeforeLaws.{nothing_refused}

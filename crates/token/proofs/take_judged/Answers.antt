@@ -1,5 +1,4 @@
 -- `token::take_judged` meets its contract. Assumes nothing.
-use Rattle.given.proofs.JudgementLaws.{is_refused, is_accepted}
 use Rattle.token.proofs.TakenLaws.{taken_refused}
 use Rattle.token.proofs.take_judged.Goals as goal
 

@@ -1,5 +1,4 @@
 -- `input::script::list_script` meets its contract. Assumes nothing.
-use Rattle.given.proofs.JudgementLaws.{is_refused, is_accepted}
 use Rattle.grammar.proofs.BeforeLaws.{nothing_refused}
 use Rattle.input.proofs.ScriptLaws.{script_refused_lem, script_listed, gives_refused, gives_listed}
 use Rattle.input.proofs.script.list_script.Goals as goal
