@@ -9,19 +9,13 @@ use std::io;
 fn show(rt: &impl Print, at: usize, byte: u8, x: u32) -> io::Result<()>
     requires { at < 100 }
 {
-    printing::print_hex(rt, x, 4)?;
-    printing::print_text(rt, b": ")?;
     let image = crate::build::changed(at, byte);
     match lookup::lookup(&image, x) {
-        Found::Refused(r) => printing::print_refusal(rt, r)?,
+        Found::Refused(r) => println!(rt; "{x:04x}: refused {r}"),
         Found::Class { class, count } => {
-            printing::print_text(rt, b"class")?;
-            printing::print_word(rt, class)?;
-            printing::print_text(rt, b" looked at")?;
-            printing::print_next(rt, count)?;
+            println!(rt; "{x:04x}: class {class} looked at {count}")
         }
     }
-    printing::print_text(rt, b"\n")
 }
 
 pub fn run(rt: &impl Print) -> io::Result<()> {

@@ -7,20 +7,11 @@ use std::io;
 
 fn print_pair(rt: &impl Print, p: Pair) -> io::Result<()> {
     match p {
-        Pair::Older(r) => {
-            printing::print_text(rt, b"older ")?;
-            printing::print_refusal(rt, r)?;
-        }
-        Pair::Newer(r) => {
-            printing::print_text(rt, b"newer ")?;
-            printing::print_refusal(rt, r)?;
-        }
-        Pair::Refused(r) => printing::print_refusal(rt, r)?,
-        Pair::Permitted => {
-            printing::print_text(rt, b"yes")?;
-        }
+        Pair::Older(r) => println!(rt; "older refused {r}"),
+        Pair::Newer(r) => println!(rt; "newer refused {r}"),
+        Pair::Refused(r) => println!(rt; "refused {r}"),
+        Pair::Permitted => println!(rt; "yes"),
     }
-    printing::print_text(rt, b"\n")
 }
 
 // The answer for the first `size` bytes of M or M2 with a byte at a place, and those of another such image.
