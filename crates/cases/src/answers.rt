@@ -17,30 +17,31 @@ fn show_tokens(rt: &impl Print) -> io::Result<()> {
     )
 }
 
-fn show(rt: &impl Print, r: Refusal) -> io::Result<()> {
-    print_listing(rt, Counted::Refused(r), &[])
-}
-
 // Each refusal with what it carries, a number past 32 bits among them.
 fn show_refusals(rt: &impl Print) -> io::Result<()> {
-    show(rt, Refusal::Length)?;
-    show(rt, Refusal::Header)?;
-    show(rt, Refusal::Range(4095))?;
-    show(rt, Refusal::Entry(511))?;
-    show(rt, Refusal::TextLength)?;
-    let ill_formed = Refusal::IllFormed {
-        place: 8191,
-        len: 3,
-    };
-    show(rt, ill_formed)?;
-    show(rt, Refusal::Characters(0))?;
-    show(rt, Refusal::Room(4294967297))?;
-    show(rt, Refusal::NotScalar(0xD800))?;
-    show(rt, Refusal::Change(0x10FFFF))?;
-    show(rt, Refusal::Profiles)?;
-    show(rt, Refusal::Buffer(53280))?;
-    show(rt, Refusal::Shape)?;
-    show(rt, Refusal::Mark(7))
+    let refusals = [
+        Refusal::Length,
+        Refusal::Header,
+        Refusal::Range(4095),
+        Refusal::Entry(511),
+        Refusal::TextLength,
+        Refusal::IllFormed {
+            place: 8191,
+            len: 3,
+        },
+        Refusal::Characters(0),
+        Refusal::Room(4294967297),
+        Refusal::NotScalar(0xD800),
+        Refusal::Change(0x10FFFF),
+        Refusal::Profiles,
+        Refusal::Buffer(53280),
+        Refusal::Shape,
+        Refusal::Mark(7),
+    ];
+    for r in refusals {
+        print_listing(rt, Counted::Refused(r), &[])?;
+    }
+    Ok(())
 }
 
 // Runs and entries, none or some; refusals of the older image, of the newer and of neither.

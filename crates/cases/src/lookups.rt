@@ -19,14 +19,9 @@ fn show(rt: &impl Print, at: usize, byte: u8, x: u32) -> io::Result<()>
 }
 
 pub fn run(rt: &impl Print) -> io::Result<()> {
-    show(rt, ZERO, 0, 0x20)?;
-    show(rt, ZERO, 0, 0x2E)?;
-    show(rt, ZERO, 0, 0x7A)?;
-    show(rt, ZERO, 0, 0x35)?;
-    show(rt, ZERO, 0, 0x2F)?;
-    show(rt, ZERO, 0, 0xE9)?;
-    show(rt, ZERO, 0, 0xD800)?;
-    show(rt, ZERO, 0, 0x110000)?;
+    for x in [0x20, 0x2E, 0x7A, 0x35, 0x2F, 0xE9, 0xD800, 0x110000] {
+        show(rt, ZERO, 0, x)?;
+    }
     // A bad length, header, range and entry; the other roles of 2E.
     show(rt, 8, 99, 0x20)?;
     show(rt, 0, 2, 0x20)?;
