@@ -1,6 +1,5 @@
 // What the two listers print, for answers of every sort.
 use changes::Lists;
-use grammar::Counted;
 use pair::PairRefusal;
 use printing::answers::{print_change_listing, print_listing};
 use refusal::Refusal;
@@ -8,40 +7,41 @@ use std::io;
 
 // Tokens of each kind, with the largest places and line.
 fn show_tokens(rt: &impl Print) -> io::Result<()> {
-    print_listing(rt, Counted::Records(0), &[])?;
-    print_listing(rt, Counted::Records(2), &[1, 0, 5, 1, 2, 5, 6, 1])?;
-    print_listing(rt, Counted::Records(2), &[3, 6, 8, 1, 4, 8, 10, 1])?;
+    print_listing(rt, Ok(0), &[])?;
+    print_listing(rt, Ok(2), &[1, 0, 5, 1, 2, 5, 6, 1])?;
+    print_listing(rt, Ok(2), &[3, 6, 8, 1, 4, 8, 10, 1])?;
     print_listing(
         rt,
-        Counted::Records(1),
+        Ok(1),
         &[5, 4294967293, 4294967294, 4294967295],
     )
 }
 
-fn show(rt: &impl Print, r: Refusal) -> io::Result<()> {
-    print_listing(rt, Counted::Refused(r), &[])
-}
-
 // Each refusal with what it carries, a number past 32 bits among them.
 fn show_refusals(rt: &impl Print) -> io::Result<()> {
-    show(rt, Refusal::Length)?;
-    show(rt, Refusal::Header)?;
-    show(rt, Refusal::Range(4095))?;
-    show(rt, Refusal::Entry(511))?;
-    show(rt, Refusal::TextLength)?;
-    let ill_formed = Refusal::IllFormed {
-        place: 8191,
-        len: 3,
-    };
-    show(rt, ill_formed)?;
-    show(rt, Refusal::Characters(0))?;
-    show(rt, Refusal::Room(4294967297))?;
-    show(rt, Refusal::NotScalar(0xD800))?;
-    show(rt, Refusal::Change(0x10FFFF))?;
-    show(rt, Refusal::Profiles)?;
-    show(rt, Refusal::Buffer(53280))?;
-    show(rt, Refusal::Shape)?;
-    show(rt, Refusal::Mark(7))
+    let refusals = [
+        Refusal::Length,
+        Refusal::Header,
+        Refusal::Range(4095),
+        Refusal::Entry(511),
+        Refusal::TextLength,
+        Refusal::IllFormed {
+            place: 8191,
+            len: 3,
+        },
+        Refusal::Characters(0),
+        Refusal::Room(4294967297),
+        Refusal::NotScalar(0xD800),
+        Refusal::Change(0x10FFFF),
+        Refusal::Profiles,
+        Refusal::Buffer(53280),
+        Refusal::Shape,
+        Refusal::Mark(7),
+    ];
+    for r in refusals {
+        print_listing(rt, Err(r), &[])?;
+    }
+    Ok(())
 }
 
 // Runs and entries, none or some; refusals of the older image, of the newer and of neither.

@@ -10,30 +10,21 @@ pub const M2: usize = 112;
 
 pub const ZERO: usize = 31;
 
-// Puts a byte at a place of an image, if the image has that place.
-fn put_byte(image: &mut [u8], at: usize, b: u8) {
-    if at < image.len() {
-        image[at] = b;
-    }
-}
-
-// Puts x into the word k of an image.
+// Puts x into the word k of an image, if the image has that word.
 pub fn put(image: &mut [u8], k: usize, x: u32)
     requires { k < 0x100000 }
 {
-    let at = 4 * k;
-    put_byte(image, at, (x % 0x100) as u8);
-    put_byte(image, at + 1, (x / 0x100 % 0x100) as u8);
-    put_byte(image, at + 2, (x / 0x10000 % 0x100) as u8);
-    put_byte(image, at + 3, (x / 0x1000000) as u8);
+    if let Some(word) = image.get_mut(4 * k..4 * k + 4) {
+        word.copy_from_slice(&x.to_le_bytes());
+    }
 }
 
 // Puts words into an image from its word k on.
 fn put_words(image: &mut [u8], k: usize, words: &[u32])
     requires { k + length words.now ≤ 0x100000 }
 {
-    for i in 0..words.len() {
-        put(image, k + i, words[i]);
+    for (i, x) in words.iter().enumerate() {
+        put(image, k + i, *x);
     }
 }
 
@@ -75,10 +66,10 @@ pub fn made(size: usize, at: usize, byte: u8) -> [u8; M2]
 
 // An image with n good ranges of one code point each, a gap between them, and no profile entries.
 pub fn put_many(image: &mut [u8], n: u16) {
-    let size = 32 + 12 * (n as u32);
-    put_words(image, 0, &[1, 7, size, n as u32, 32, 0, size]);
+    let size = 32 + 12 * u32::from(n);
+    put_words(image, 0, &[1, 7, size, u32::from(n), 32, 0, size]);
     for i in 0..n {
-        let point = 2 * (i as u32) + 1;
-        put_words(image, 8 + 3 * (i as usize), &[point, point, 1]);
+        let point = 2 * u32::from(i) + 1;
+        put_words(image, 8 + 3 * usize::from(i), &[point, point, 1]);
     }
 }

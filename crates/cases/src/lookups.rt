@@ -2,37 +2,26 @@
 ghost use Rattle.std.specs.Prelude.{◌<◌};
 
 use crate::build::ZERO;
-use lookup::Found;
+use lookup::Probe;
 use std::io;
 
 // The answer of a lookup of x in M with a byte at a place.
 fn show(rt: &impl Print, at: usize, byte: u8, x: u32) -> io::Result<()>
     requires { at < 100 }
 {
-    printing::print_hex(rt, x, 4)?;
-    printing::print_text(rt, b": ")?;
     let image = crate::build::changed(at, byte);
     match lookup::lookup(&image, x) {
-        Found::Refused(r) => printing::print_refusal(rt, r)?,
-        Found::Class { class, count } => {
-            printing::print_text(rt, b"class")?;
-            printing::print_word(rt, class)?;
-            printing::print_text(rt, b" looked at")?;
-            printing::print_next(rt, count)?;
+        Err(r) => println!(rt; "{x:04x}: refused {r}"),
+        Ok(Probe { class, count }) => {
+            println!(rt; "{x:04x}: class {class} looked at {count}")
         }
     }
-    printing::print_text(rt, b"\n")
 }
 
 pub fn run(rt: &impl Print) -> io::Result<()> {
-    show(rt, ZERO, 0, 0x20)?;
-    show(rt, ZERO, 0, 0x2E)?;
-    show(rt, ZERO, 0, 0x7A)?;
-    show(rt, ZERO, 0, 0x35)?;
-    show(rt, ZERO, 0, 0x2F)?;
-    show(rt, ZERO, 0, 0xE9)?;
-    show(rt, ZERO, 0, 0xD800)?;
-    show(rt, ZERO, 0, 0x110000)?;
+    for x in [0x20, 0x2E, 0x7A, 0x35, 0x2F, 0xE9, 0xD800, 0x110000] {
+        show(rt, ZERO, 0, x)?;
+    }
     // A bad length, header, range and entry; the other roles of 2E.
     show(rt, 8, 99, 0x20)?;
     show(rt, 0, 2, 0x20)?;

@@ -7,20 +7,11 @@ use std::io;
 
 fn print_pair(rt: &impl Print, p: Result<(), PairRefusal>) -> io::Result<()> {
     match p {
-        Err(PairRefusal::Older(r)) => {
-            printing::print_text(rt, b"older ")?;
-            printing::print_refusal(rt, r)?;
-        }
-        Err(PairRefusal::Newer(r)) => {
-            printing::print_text(rt, b"newer ")?;
-            printing::print_refusal(rt, r)?;
-        }
-        Err(PairRefusal::Neither(r)) => printing::print_refusal(rt, r)?,
-        Ok(()) => {
-            printing::print_text(rt, b"yes")?;
-        }
+        Err(PairRefusal::Older(r)) => println!(rt; "older refused {r}"),
+        Err(PairRefusal::Newer(r)) => println!(rt; "newer refused {r}"),
+        Err(PairRefusal::Neither(r)) => println!(rt; "refused {r}"),
+        Ok(()) => println!(rt; "yes"),
     }
-    printing::print_text(rt, b"\n")
 }
 
 // The answer for the first `size` bytes of M or M2 with a byte at a place, and those of another such image.

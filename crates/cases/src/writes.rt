@@ -1,10 +1,10 @@
 // Writes image M of docs/CASES.md, reads it back, and gives the writer what it refuses.
-ghost use Rattle.std.specs.Prelude.{◌<◌};
+ghost use Rattle.std.specs.Prelude.{◌<◌, ◌≤◌};
 
 use crate::build::{VERSION, ZERO};
-use image::{Answer, MAX_ENTRIES, Profile};
+use image::{MAX_ENTRIES, Profile, Summary};
+use refusal::Refusal;
 use std::io;
-use writer::Written;
 
 // What a buffer holds before the writer gets it.
 const BEFORE: u8 = 0xAA;
@@ -33,96 +33,49 @@ fn profile(used: usize, point: u32, role: u32) -> Profile {
     }
 }
 
-fn print_answer(rt: &impl Print, a: Written) -> io::Result<()> {
+fn print_answer(rt: &impl Print, a: Result<usize, Refusal>) -> io::Result<()> {
     match a {
-        Written::Refused(r) => printing::print_refusal(rt, r),
-        Written::Image { len } => {
-            printing::print_text(rt, b"image of")?;
-            printing::print_next(rt, len)?;
-            printing::print_text(rt, b" bytes")
-        }
+        Err(r) => print!(rt; "refused {r}"),
+        Ok(len) => print!(rt; "image of {len} bytes"),
     }
 }
 
-// What the writer answers with a buffer, and whether the buffer is still as it was before.
-fn try_write(
-    rt: &impl Print,
-    what: &[u8],
-    words: &[u32],
-    p: Profile,
-    out: &mut [u8],
-    before: &[u8],
-) -> io::Result<()> {
-    let a = writer::write(VERSION, words, p, out);
-    printing::print_text(rt, what)?;
-    printing::print_text(rt, b": ")?;
+// What the writer answers with a buffer of so many bytes, and whether the buffer is still as it was before.
+fn show<const ROOM: usize>(rt: &impl Print, what: &str, words: &[u32], p: Profile) -> io::Result<()>
+    requires { ROOM ≤ 104 }
+{
+    let mut out = [BEFORE; ROOM];
+    let a = writer::write(VERSION, words, p, &mut out);
+    print!(rt; "{what}: ")?;
     print_answer(rt, a)?;
-    if &*out == before {
-        printing::print_text(rt, b", buffer unchanged")?;
+    if out.iter().all(|b| *b == BEFORE) {
+        print!(rt; ", buffer unchanged")?;
     }
-    printing::print_text(rt, b"\n")
-}
-
-// The same with a buffer that is long enough for M, and with one that is a byte too short.
-fn show(rt: &impl Print, what: &[u8], words: &[u32], p: Profile) -> io::Result<()> {
-    try_write(rt, what, words, p, &mut [BEFORE; 104], &[BEFORE; 104])
-}
-
-fn show_short(rt: &impl Print, what: &[u8], words: &[u32], p: Profile) -> io::Result<()> {
-    try_write(rt, what, words, p, &mut [BEFORE; 99], &[BEFORE; 99])
-}
-
-// The same for M's words with another one at a place, and a profile of so many entries by its first.
-fn show_m(
-    rt: &impl Print,
-    what: &[u8],
-    at: usize,
-    word: u32,
-    used: usize,
-    point: u32,
-    role: u32,
-) -> io::Result<()>
-    requires { at < 15 }
-{
-    show(rt, what, &changed(at, word), profile(used, point, role))
-}
-
-fn show_short_m(
-    rt: &impl Print,
-    what: &[u8],
-    at: usize,
-    word: u32,
-    used: usize,
-    role: u32,
-) -> io::Result<()>
-    requires { at < 15 }
-{
-    show_short(rt, what, &changed(at, word), profile(used, 0x2E, role))
+    println!(rt; "")
 }
 
 // What is read from an image: the version, the numbers of ranges and entries, the first entry and the ranges.
 fn show_read(rt: &impl Print, image: &[u8]) -> io::Result<()> {
     let mut words = [0u32; 18];
     let k = image::read(image, &mut words);
-    let a = k.answer;
-    let p = k.profile;
-    match a {
-        Answer::Refused(r) => printing::print_refusal(rt, r)?,
-        Answer::Accepted { version, ranges } => {
-            printing::print_text(rt, b"version")?;
-            printing::print_word(rt, version)?;
-            printing::print_text(rt, b", ranges")?;
-            printing::print_next(rt, ranges)?;
+    match k.answer {
+        Err(r) => print!(rt; "refused {r}")?,
+        Ok(Summary { version, ranges }) => {
+            print!(rt; "version {version}, ranges {ranges}")?;
         }
     }
-    printing::print_text(rt, b", entries")?;
-    printing::print_next(rt, p.used)?;
-    printing::print_text(rt, b": ")?;
-    printing::print_hex(rt, p.points[0], 4)?;
-    printing::print_text(rt, b" role")?;
-    printing::print_word(rt, p.roles[0])?;
-    printing::print_text(rt, b"\n")?;
-    crate::print_words(rt, &words, 3)
+    let Profile {
+        points,
+        roles,
+        used,
+    } = k.profile;
+    let (point, role) = (points[0], roles[0]);
+    println!(rt; ", entries {used}: {point:04x} role {role}")?;
+    let (ranges, _) = words.as_chunks::<3>();
+    for [first, last, class] in ranges {
+        println!(rt; "{first:04x} {last:04x} {class:04x}")?;
+    }
+    Ok(())
 }
 
 // M in a longer buffer, and what is read from M.
@@ -130,61 +83,59 @@ fn show_written(rt: &impl Print) -> io::Result<()> {
     let mut out = [BEFORE; 104];
     let a = writer::write(VERSION, &changed(0, 0x20), profile(1, 0x2E, 3), &mut out);
     print_answer(rt, a)?;
-    printing::print_text(rt, b"\n")?;
-    crate::print_bytes(rt, &out, 4)?;
+    println!(rt; "")?;
+    let (words, _) = out.as_chunks::<4>();
+    for [a, b, c, d] in words {
+        println!(rt; "{a:02x} {b:02x} {c:02x} {d:02x}")?;
+    }
     let mut image = [BEFORE; 100];
     writer::write(VERSION, &changed(0, 0x20), profile(1, 0x2E, 3), &mut image);
     show_read(rt, &image)
 }
 
+// What is refused with a buffer that is long enough for M, and with one that is a byte too short.
 fn show_refused(rt: &impl Print) -> io::Result<()> {
-    show(rt, b"14 words", &[0u32; 14], profile(1, 0x2E, 3))?;
-    show_m(rt, b"513 entries", 0, 0x20, 513, 0x2E, 3)?;
-    show(rt, b"4097 ranges", &[0u32; 12291], profile(1, 0x2E, 3))?;
-    show_m(rt, b"class 6", 5, 6, 1, 0x2E, 3)?;
-    show_m(rt, b"a range inside the one before", 3, 0x20, 1, 0x2E, 3)?;
-    show_m(rt, b"role 6", 0, 0x20, 1, 0x2E, 6)?;
-    show_m(rt, b"no scalar value", 0, 0x20, 1, 0xD800, 3)?;
-    show_short_m(rt, b"99 bytes", 0, 0x20, 1, 3)
+    let m = changed(0, 0x20);
+    show::<104>(rt, "14 words", &[0u32; 14], profile(1, 0x2E, 3))?;
+    show::<104>(rt, "513 entries", &m, profile(513, 0x2E, 3))?;
+    show::<104>(rt, "4097 ranges", &[0u32; 12291], profile(1, 0x2E, 3))?;
+    show::<104>(rt, "class 6", &changed(5, 6), profile(1, 0x2E, 3))?;
+    let inside = changed(3, 0x20);
+    show::<104>(
+        rt,
+        "a range inside the one before",
+        &inside,
+        profile(1, 0x2E, 3),
+    )?;
+    show::<104>(rt, "role 6", &m, profile(1, 0x2E, 6))?;
+    show::<104>(rt, "no scalar value", &m, profile(1, 0xD800, 3))?;
+    show::<99>(rt, "99 bytes", &m, profile(1, 0x2E, 3))
 }
 
 // Which refusal comes first, and what is not looked at.
 fn show_order(rt: &impl Print) -> io::Result<()> {
-    show_short(
+    let m = changed(0, 0x20);
+    show::<99>(
         rt,
-        b"14 words and 513 entries",
+        "14 words and 513 entries",
         &[0u32; 14],
         profile(513, 0x2E, 3),
     )?;
-    show_short_m(rt, b"513 entries and class 6", 5, 6, 513, 3)?;
-    show_short_m(rt, b"class 6 and role 6", 5, 6, 1, 6)?;
-    let words = changed(0, 0x20);
-    try_write(
+    show::<99>(
         rt,
-        b"role 6 and no bytes",
-        &words,
+        "513 entries and class 6",
+        &changed(5, 6),
+        profile(513, 0x2E, 3),
+    )?;
+    show::<99>(
+        rt,
+        "class 6 and role 6",
+        &changed(5, 6),
         profile(1, 0x2E, 6),
-        &mut [],
-        &[],
     )?;
-    let past = b"role 9 past the used length";
-    try_write(
-        rt,
-        past,
-        &words,
-        profile(1, 0x2E, 3),
-        &mut [BEFORE; 100],
-        &[BEFORE; 100],
-    )?;
-    let none = b"no ranges and no entries";
-    try_write(
-        rt,
-        none,
-        &[],
-        profile(0, 0x2E, 3),
-        &mut [BEFORE; 32],
-        &[BEFORE; 32],
-    )
+    show::<0>(rt, "role 6 and no bytes", &m, profile(1, 0x2E, 6))?;
+    show::<100>(rt, "role 9 past the used length", &m, profile(1, 0x2E, 3))?;
+    show::<32>(rt, "no ranges and no entries", &[], profile(0, 0x2E, 3))
 }
 
 pub fn run(rt: &impl Print) -> io::Result<()> {

@@ -1,25 +1,25 @@
 -- Where an image at the front of an input ends, and that no more of the input matters than the programs read. Assumes nothing.
-use Prim.Native.Nat.{ℕ, ◌+◌, ◌-◌, ◌≤◌, ◌<◌}
+use Prim.Native.Nat.{ℕ, ◌+◌, ◌≤◌, ◌<◌}
 use mathlib.Core.Path.{◌≡◌, refl, sym, ◌∙◌}
 use mathlib.Core.Bool.{Bool, true, false, true≢false, cond, ◌&&◌}
 use mathlib.Core.List.{List, [], ◌∷◌}
 use mathlib.Core.Option.{some}
 use native.Mathlib.Omega.{arith}
 use native.Mathlib.Decide.{dec_le}
-use lib.ListN.{length, take, drop, length-drop}
+use lib.ListN.{length, take, length-drop}
 use lib.Seq.{take_all, take-take, length-take-le}
 use lib.Dec.{leb}
 use borrow.Author.Tests.{le-leb, leb-true}
+use Rattle.std.specs.Prelude.{if◌then◌else◌, Some, None, unwrap_or}
 use Rattle.lists.proofs.BoolLaws.{split}
-use Rattle.lists.proofs.LaidLaws.{rest}
 use Rattle.refusal.specs.declared.Refusal.TheVariants as refusal
-use Rattle.image.specs.Limits.{header_bytes, largest_within, max_image}
+use Rattle.image.specs.Limits.{header_bytes, largest_within, max_image, max_entries}
 use Rattle.image.specs.Header.{total_of}
 use Rattle.image.specs.Accepted.{SizedWithin}
 use Rattle.image.specs.Check.{refusal_within}
 use Rattle.image.specs.Means.{bad_length}
 use Rattle.image.proofs.ImageLaws.{word_take, means_refusal}
-use Rattle.input.specs.Front.{image_in, comes_within, end_within, end_in, front_within, front_in, after_in, WholeWithin, ComesWhole}
+use Rattle.input.specs.Front.{image_in, comes_within, whole_end_within, whole_end, end_within, end_in, front_within, front_in, after_in, WholeWithin, ComesWhole}
 
 -- the test of whether the image comes whole, and where it ends
 module _ {limit : ℕ} (input : List ℕ) where
@@ -54,23 +54,37 @@ module _ {limit : ℕ} (input : List ℕ) where
       go true e = absurd (f (whole_means e))
       go false e = refl
 
+  -- the same of a call
+  pub found_whole : WholeWithin limit input → whole_end_within limit input ≡ Some (total_of input)
+  found_whole w = simp (means_whole w)
+
+  pub found_cut : (WholeWithin limit input → ⊥) → whole_end_within limit input ≡ None
+  found_cut f = go (comes_within limit input) refl
+    where
+      go : (b : Bool) → comes_within limit input ≡ b → (if b then Some (total_of input) else None) ≡ None
+      go true e = absurd (f (whole_means e))
+      go false e = refl
+
   -- an image that doesn't come whole is refused with 1
   pub cut_refused : (WholeWithin limit input → ⊥) → refusal_within limit (front_within limit input) ≡ some refusal.Length
   cut_refused f = rw (end_cut f) (means_refusal {limit = limit} _ (some refusal.Length) (bad_length (λ z. omega (arith, z.long))))
 
 -- the code's two parts of an input
 module _ (input : List ℕ) where
+  pub found_or_zero : unwrap_or (whole_end input) 0 ≡ end_in input
+  unfolding end_within
+  found_or_zero = go (comes_within max_entries input)
+    where
+      go : (b : Bool) → unwrap_or (if b then Some (total_of input) else None) 0 ≡ cond b (total_of input) 0
+      go true = refl
+      go false = refl
+
   pub end_within_lem : {end : ℕ} → end ≡ end_in input → (end ≤ length input) × (end ≤ max_image)
   end_within_lem {end} e = rw e (go (dec_whole input))
     where
       go : Dec (ComesWhole input) → (end_in input ≤ length input) × (end_in input ≤ max_image)
       go (yes w) = rw (end_whole input w) (w.comes, w.short)
       go (no f) = rw (end_cut input f) (omega arith, omega arith)
-
-  pub parts :
-      {end : ℕ} → end ≡ end_in input
-      → (front_in input ≡ take end input) × (after_in input ≡ take (length input - end) (drop end input))
-  parts {end} e = rw (← e) (refl, sym (rest input end))
 
 -- an image at the front that has its own total length comes whole
 module _ {limit : ℕ} (input : List ℕ) (z : SizedWithin limit (image_in input)) where

@@ -1,6 +1,6 @@
 -- An image at the front of a program's input, and what follows it (docs/RULES.md, "The programs").
 -- `limit` is how many profile entries an image may have; the names without `_within` have the limit in force.
-use Rattle.std.specs.Prelude.{ℕ, ◌≤◌, Bool, cond, ◌&&◌, List, length, take, drop, leb}
+use Rattle.std.specs.Prelude.{ℕ, ◌≤◌, Bool, cond, ◌&&◌, List, length, take, drop, leb, if◌then◌else◌, Option, Some, None}
 use Rattle.image.specs.Limits.{max_entries, header_bytes, largest_within}
 use Rattle.image.specs.Header.{total_of}
 
@@ -23,6 +23,13 @@ end_within limit input = cond (comes_within limit input) (total_of input) 0
 
 abbrev pub end_in : List ℕ → ℕ
 end_in input = end_within max_entries input
+
+-- the same of a call: no place where it doesn't come whole
+abbrev pub whole_end_within : ℕ → List ℕ → Option ℕ
+whole_end_within limit input = if comes_within limit input then Some (total_of input) else None
+
+abbrev pub whole_end : List ℕ → Option ℕ
+whole_end input = whole_end_within max_entries input
 
 -- the image at the front, empty where it doesn't come whole, so that 1 refuses it; and all that follows
 abbrev pub front_within : ℕ → List ℕ → List ℕ

@@ -16,17 +16,17 @@ pub const MAX_RUN_WORDS: usize = RUN_WORDS * (2 * (MAX_RANGES + MAX_RANGES) - 1)
 pub const MAX_ENTRY_WORDS: usize = ENTRY_WORDS * (MAX_ENTRIES + MAX_ENTRIES);
 
 // The lists of the changes between the older image at the front of the input and the newer, which is all that follows.
-// An older image that doesn't come whole is taken as empty, which refuses it with 1.
 pub fn list_input(input: &[u8], runs: &mut [u32], entries: &mut [u32]) -> Result<Lists, PairRefusal>
     ensures value { result ≡ answer_from input.now (length runs.old) (length entries.old) }
     ensures runs_after { runs.new ≡ runs_from input.now runs.old entries.old }
     ensures entries_after { entries.new ≡ entries_from input.now runs.old entries.old }
 {
-    let end = crate::find_end(input);
-    changes::list_changes(&input[..end], &input[end..], runs, entries)
+    let (older, newer) = crate::split_front(input);
+    changes::list_changes(older, newer, runs, entries)
 }
 
 // The answer for the whole input, of which the first n bytes were read into a buffer: all, if they don't fill it.
+// The buffer comes beside n, and not as the slice of what was read: the clause `by_index` speaks of the room in it.
 pub fn list_read(
     buffer: &[u8],
     n: usize,

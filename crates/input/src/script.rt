@@ -33,16 +33,16 @@ fn list_script<'a>(image: &'a [u8], text: &'a [u8], out: &mut [u32]) -> Counted
 }
 
 // The list of the tokens of the text that follows the image in the input.
-// An image that doesn't come whole is taken as empty, which refuses it with 1.
 pub fn list_input(input: &[u8], out: &mut [u32]) -> Counted
     ensures value { result ≡ counted_by (listed_from input.now (length out.old)) }
     ensures out_after { out.new ≡ script_words input.now out.old }
 {
-    let end = crate::find_end(input);
-    list_script(&input[..end], &input[end..], out)
+    let (image, text) = crate::split_front(input);
+    list_script(image, text, out)
 }
 
 // The answer for the whole input, of which the first n bytes were read into a buffer: all, if they don't fill it.
+// The buffer comes beside n, and not as the slice of what was read: the clause `by_index` speaks of the room in it.
 pub fn list_read(buffer: &[u8], n: usize, out: &mut [u32]) -> Counted
     requires n_in_bounds { n ≤ length buffer.now }
     requires max_script_in_bounds { (max_image + max_script < length buffer.now) × (length out.old ≡ record_size * max_script) }
