@@ -23,9 +23,6 @@ looked c h = record { accepted = c.recall.ensures; here = h; known = c.find_turn
 pub loop-at-init : goal.loop-at-init
 loop-at-init c = (searching_begins _ _, c.no_memo-memo.ensures _)
 
-pub read_for_tokens-c-requires : goal.read_for_tokens-c-requires
-read_for_tokens-c-requires c = record { token_table_of = c.requires.token_table_of; memo_of = c.loop-at.invariant.1; at_in_bounds = c.loop-at-test.true }
-
 pub returns-then-at-eq0 : goal.returns-then-at-eq0
 returns-then-at-eq0 c = first_ill c.loop-at.invariant.0 (c.read_for_tokens-c.ensures.none c.if-c-eq0.true) c.if-at-eq0.true
 
@@ -52,9 +49,6 @@ returns-in_default c =
 
 pub overflow_add-at : goal.overflow_add-at
 overflow_add-at c = let t = stands (goal.at.overflow_add-at c).Else-c-eq0 in omega (arith, t.within)
-
-pub loop-at-smaller : goal.loop-at-smaller
-loop-at-smaller c = let t = stands (goal.at.loop-at-smaller c).Else-c-eq0 in omega (arith, t.some_bytes, t.within)
 
 pub loop-at-preserved : goal.loop-at-preserved
 loop-at-preserved c =

@@ -7,9 +7,6 @@ use Rattle.write.proofs.SpanLaws.{span_rises, span_some, span_step, span_feed}
 use Rattle.line.proofs.LineLaws.{line_few}
 use Rattle.write.proofs.line_after.Goals as goal
 
-pub overflow_sub-end : goal.overflow_sub-end
-overflow_sub-end c = span_rises c.requires.line_at c.requires.spans
-
 pub bounds-text-start : goal.bounds-text-start
 bounds-text-start c = span_some c.requires.line_at c.requires.spans (omega (arith, span_rises c.requires.line_at c.requires.spans))
 
@@ -20,9 +17,6 @@ pub returns-then-text-start-eq-LINE_FEED : goal.returns-then-text-start-eq-LINE_
 returns-then-text-start-eq-LINE_FEED c =
     let e : c.args.start + 1 ≡ c.args.end = omega (arith, span_rises c.requires.line_at c.requires.spans) in
     subst (λ (n : ℕ). LineAt c.args.text.now n (c.args.line + 1)) e (span_feed c.requires.line_at c.requires.spans (omega arith) c.if-text-start-eq-LINE_FEED.true)
-
-pub loop-at-init : goal.loop-at-init
-loop-at-init c = (c.requires.line_at, c.requires.spans)
 
 pub count_at-now-requires : goal.count_at-now-requires
 count_at-now-requires c = span_some c.loop-at.invariant.0 c.loop-at.invariant.1 c.loop-at-test.true
@@ -49,8 +43,3 @@ pub loop-at-preserved : goal.loop-at-preserved
 loop-at-preserved c =
     let t = span_step c.loop-at.invariant.0 c.loop-at.invariant.1 c.loop-at-test.true _ _ c.measure_known-at.ensures c.count_at-now.ensures in
     (t.lined, t.spans)
-
-pub returns : goal.returns
-returns c =
-    let e : c.loop-at.at ≡ c.args.end = omega (arith, span_rises c.loop-at.invariant.0 c.loop-at.invariant.1) in
-    subst (λ (n : ℕ). LineAt c.args.text.now n c.loop-at.now) e c.loop-at.invariant.0

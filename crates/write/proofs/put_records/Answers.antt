@@ -1,33 +1,15 @@
 -- `write::put_records` meets its contract. Assumes nothing.
-use Prim.Native.Nat.{◌+◌, ◌<◌}
-use mathlib.Core.Path.{◌≡◌, sym, ◌∙◌}
+use Prim.Native.Nat.{◌<◌}
+use mathlib.Core.Path.{sym, ◌∙◌}
 use native.Mathlib.Omega.{arith}
 use lib.ListN.{length-take, length-drop}
 use Rattle.turns.proofs.TableLaws.{after_at}
-use Rattle.write.proofs.WriteLaws.{going_begins, going_ends, going_next, turn_lined, turn_spans, turn_short, turn_room, turn_stays}
+use Rattle.write.proofs.WriteLaws.{going_next, turn_lined, turn_spans, turn_short, turn_room, turn_stays}
 use Rattle.write.proofs.put_records.Goals as goal
 use Rattle.write.proofs.put_records.Goals.{then-may_end_lines, else-may_end_lines}
 
-pub loop-k-init : goal.loop-k-init
-loop-k-init c = going_begins c.requires.written_to
-
-pub overflow_cast-code : goal.overflow_cast-code
-overflow_cast-code c = omega (arith, c.type_inv.starts c.loop-k.k)
-
-pub overflow_cast-end : goal.overflow_cast-end
-overflow_cast-end c = omega (arith, c.type_inv.starts (c.loop-k.k + 1))
-
-pub slice_bounds-put_record-count : goal.slice_bounds-put_record-count
-slice_bounds-put_record-count c = omega (arith, turn_room c.requires.listing c.requires.piece c.loop-k.invariant c.loop-k-test.true)
-
-pub slice_bounds-put_record-start : goal.slice_bounds-put_record-start
-slice_bounds-put_record-start c = omega (arith, turn_room c.requires.listing c.requires.piece c.loop-k.invariant c.loop-k-test.true)
-
 pub put_record-requires : goal.put_record-requires
 put_record-requires c = record { start_le_max_text = turn_short c.requires.listing c.requires.piece c.loop-k.invariant c.loop-k-test.true; record_size_in_bounds = simp (length-take, length-drop) (omega (arith, turn_room c.requires.listing c.requires.piece c.loop-k.invariant c.loop-k-test.true)) }
-
-pub overflow_add-w : goal.overflow_add-w
-overflow_add-w c = omega (arith, turn_room c.requires.listing c.requires.piece c.loop-k.invariant c.loop-k-test.true)
 
 pub line_after-line-requires : goal.line_after-line-requires
 line_after-line-requires c = record { text_len_bound = c.requires.listing.short; line_at = turn_lined c.requires.listing c.requires.piece c.loop-k.invariant c.loop-k-test.true; spans = turn_spans c.requires.listing c.requires.piece c.loop-k.invariant c.loop-k-test.true }
@@ -41,9 +23,3 @@ loop-k-preserved c =
           let l = turn_stays c.requires.listing c.requires.piece c.loop-k.invariant t c.recall.ensures c.requires.plain (after_at _ (omega arith)) (sym c.may_end_lines.ensures ∙ w.if-may_end_lines.false) in
           rw w.line-is (going_next c.requires.listing c.requires.piece c.loop-k.invariant t (after_at _ (omega arith)) l _ c.put_record.ensures)
     ]
-
-pub shape_of-out : goal.shape_of-out
-shape_of-out c = c.loop-k.invariant.size
-
-pub returns : goal.returns
-returns c = let e : c.loop-k.k ≡ c.args.n = omega arith in let t = going_ends c.loop-k.invariant e in record { written_to_2 = t.0; wrote = t.1 }
