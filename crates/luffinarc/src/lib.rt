@@ -4,11 +4,10 @@
 // `luffinarc_check` or `luffinarc_read` accepted, with the same bytes.
 #![tactic(auto)]
 
-ghost use Rattle.std.specs.Prelude.{◌≡◌, [], ◌∷◌, length};
+ghost use Rattle.std.specs.Prelude.{◌≡◌, length};
 ghost use Rattle.std.proofs.Math.Option.{none};
 ghost use Rattle.image.specs.Profile.{profile_by};
-ghost use Rattle.image.specs.Header.{version_of, range_count};
-ghost use Rattle.image.specs.Check.{refusal_of, accepted_of, check_of, read_of, words_after};
+ghost use Rattle.image.specs.Check.{refusal_of, check_of, read_of, words_after};
 ghost use Rattle.writer.specs.Write.{write_of, bytes_after};
 ghost use Rattle.lookup.specs.Lookup.{lookup_of};
 ghost use Rattle.pair.specs.Pair.{pair_of};
@@ -18,16 +17,12 @@ ghost use Rattle.grammar.specs.Counted.{counted_by};
 ghost use Rattle.token.specs.Taken.{taken_of};
 ghost use Rattle.hashtag.specs.Listed.{hashtag_list_of, hashtag_list_words};
 ghost use Rattle.part.specs.Part.{part_of, part_bytes};
-ghost use Rattle.reply.specs.Reply.{Tells, refuses_of};
+ghost use Rattle.reply.specs.Reply.{Tells};
 ghost use Rattle.reply.specs.ImageReply.{TellsChecked, found_reply, written_reply, pair_reply, changes_reply};
 ghost use Rattle.reply.specs.TokenReply.{counted_reply, taken_reply, part_reply, told_part};
 
-use grammar::Counted;
-use image::{Answer, MAX_ENTRIES};
-use lookup::Found;
-use refusal::Refusal;
-use token::Taken;
-use writer::Written;
+use image::{ClassImage, MAX_ENTRIES};
+use reply::Told;
 
 // Checks an image. Answer: version, number of ranges, number of profile entries.
 #[unsafe(no_mangle)]
@@ -39,12 +34,9 @@ pub extern "C" fn luffinarc_check(
 ) -> u32
     ensures { TellsChecked (check_of image.now) points.old roles.old result answer.new points.new roles.new }
 {
-    let a = image::judge(image);
-    match a {
-        Answer::Refused(r) => reply::refuse(r, 0, answer),
-        Answer::Accepted { version, ranges } => {
-            reply::tell_profile(image, version, ranges, points, roles, answer)
-        }
+    match ClassImage::open(image) {
+        Err(r) => r.tell(answer),
+        Ok(image) => reply::tell_profile(&image, points, roles, answer),
     }
 }
 
@@ -60,12 +52,9 @@ pub extern "C" fn luffinarc_read(
     ensures tells_checked { TellsChecked (read_of image.now (length words.old)) points.old roles.old result answer.new points.new roles.new }
     ensures words_after { words.new ≡ words_after image.now words.old }
 {
-    let a = image::read_ranges(image, words);
-    match a {
-        Answer::Refused(r) => reply::refuse(r, 0, answer),
-        Answer::Accepted { version, ranges } => {
-            reply::tell_profile(image, version, ranges, points, roles, answer)
-        }
+    match image::read_ranges(image, words) {
+        Err(r) => r.tell(answer),
+        Ok(_) => reply::tell_profile(&ClassImage::of_accepted(image), points, roles, answer),
     }
 }
 
@@ -83,8 +72,7 @@ pub extern "C" fn luffinarc_write<'a>(
     ensures tells { Tells (written_reply (write_of words.now (profile_by points.now roles.now used) (length out.old))) result answer.new }
     ensures out_after { out.new ≡ bytes_after version words.now (profile_by points.now roles.now used) out.old }
 {
-    let written = writer::write_arrays(version, words, points, roles, used, out);
-    reply::tell_written(written, answer)
+    writer::write_arrays(version, words, points, roles, used, out).tell(answer)
 }
 
 // The class of a number after the profile of an image. Answer: class, number of ranges looked at.
@@ -92,8 +80,7 @@ pub extern "C" fn luffinarc_write<'a>(
 pub extern "C" fn luffinarc_lookup(image: &[u8], number: u32, answer: &mut [u64; 4]) -> u32
     ensures { Tells (found_reply (lookup_of image.now number)) result answer.new }
 {
-    let found = lookup::lookup(image, number);
-    reply::tell_found(found, answer)
+    lookup::lookup(image, number).tell(answer)
 }
 
 // As `luffinarc_lookup`, in an image that was checked.
@@ -106,8 +93,8 @@ pub extern "C" fn luffinarc_lookup_checked<'a>(
     requires { refusal_of image.now ≡ none }
     ensures { Tells (found_reply (lookup_of image.now number)) result answer.new }
 {
-    let found = lookup::lookup_checked(image, number);
-    reply::tell_found(found, answer)
+    let image = ClassImage::of_accepted(image);
+    lookup::lookup_checked(&image, number).tell(answer)
 }
 
 // Whether the newer image differs from the older only by permitted changes. Answer: zeros. A refusal tells at index 2
@@ -116,8 +103,7 @@ pub extern "C" fn luffinarc_lookup_checked<'a>(
 pub extern "C" fn luffinarc_pair(older: &[u8], newer: &[u8], answer: &mut [u64; 4]) -> u32
     ensures { Tells (pair_reply (pair_of older.now newer.now)) result answer.new }
 {
-    let pair = pair::check_pair(older, newer);
-    reply::tell_pair(pair, answer)
+    pair::check_pair(older, newer).tell(answer)
 }
 
 // Lists what changed between two images: runs of scalar values with another class in the ranges, four words each, and
@@ -135,8 +121,7 @@ pub extern "C" fn luffinarc_changes(
     ensures runs_after { runs.new ≡ runs_after older.now newer.now runs.old entries.old }
     ensures entries_after { entries.new ≡ entries_after older.now newer.now runs.old entries.old }
 {
-    let listed = changes::list_changes(older, newer, runs, entries);
-    reply::tell_changes(listed, answer)
+    changes::list_changes(older, newer, runs, entries).tell(answer)
 }
 
 // Counts the tokens of a text. Answer: their number.
@@ -144,8 +129,7 @@ pub extern "C" fn luffinarc_changes(
 pub extern "C" fn luffinarc_count<'a>(image: &'a [u8], text: &'a [u8], answer: &mut [u64; 4]) -> u32
     ensures { Tells (counted_reply (counted_by (count_of image.now text.now))) result answer.new }
 {
-    let counted = token::count(image, text);
-    reply::tell_counted(counted, answer)
+    token::count(image, text).tell(answer)
 }
 
 // As `luffinarc_count`, under an image that was checked.
@@ -158,8 +142,8 @@ pub extern "C" fn luffinarc_count_checked<'a>(
     requires { refusal_of image.now ≡ none }
     ensures { Tells (counted_reply (counted_by (count_of image.now text.now))) result answer.new }
 {
-    let counted = token::count_checked(image, text);
-    reply::tell_counted(counted, answer)
+    let image = ClassImage::of_accepted(image);
+    token::count_checked(&image, text).tell(answer)
 }
 
 // Writes the list of a text's tokens. Answer: their number.
@@ -173,8 +157,7 @@ pub extern "C" fn luffinarc_list<'a>(
     ensures tells { Tells (counted_reply (counted_by (list_of image.now text.now (length words.old)))) result answer.new }
     ensures words_after { words.new ≡ list_words image.now text.now words.old }
 {
-    let counted = token::list(image, text, words);
-    reply::tell_counted(counted, answer)
+    token::list(image, text, words).tell(answer)
 }
 
 // As `luffinarc_list`, under an image that was checked.
@@ -189,8 +172,8 @@ pub extern "C" fn luffinarc_list_checked<'a>(
     ensures tells { Tells (counted_reply (counted_by (list_of image.now text.now (length words.old)))) result answer.new }
     ensures words_after { words.new ≡ list_words image.now text.now words.old }
 {
-    let counted = token::list_checked(image, text, words);
-    reply::tell_counted(counted, answer)
+    let image = ClassImage::of_accepted(image);
+    token::list_checked(&image, text, words).tell(answer)
 }
 
 // Takes one token at a place of a text. Answer: kind, first byte, one past the last byte. The result is 255 where the
@@ -204,8 +187,7 @@ pub extern "C" fn luffinarc_token<'a>(
 ) -> u32
     ensures { Tells (taken_reply (taken_of image.now text.now place)) result answer.new }
 {
-    let taken = token::take_token(image, text, place);
-    reply::tell_taken(taken, answer)
+    token::take_token(image, text, place).tell(answer)
 }
 
 // As `luffinarc_token`, under an image that was checked.
@@ -219,8 +201,8 @@ pub extern "C" fn luffinarc_token_checked<'a>(
     requires { refusal_of image.now ≡ none }
     ensures { Tells (taken_reply (taken_of image.now text.now place)) result answer.new }
 {
-    let taken = token::take_checked(image, text, place);
-    reply::tell_taken(taken, answer)
+    let image = ClassImage::of_accepted(image);
+    token::take_checked(&image, text, place).tell(answer)
 }
 
 // Writes the list of a text's hashtags. Answer: their number.
@@ -234,8 +216,7 @@ pub extern "C" fn luffinarc_hashtags<'a>(
     ensures tells { Tells (counted_reply (counted_by (hashtag_list_of image.now text.now (length words.old)))) result answer.new }
     ensures words_after { words.new ≡ hashtag_list_words image.now text.now words.old }
 {
-    let listed = hashtag::list(image, text, words);
-    reply::tell_counted(listed, answer)
+    hashtag::list(image, text, words).tell(answer)
 }
 
 // As `luffinarc_hashtags`, under an image that was checked.
@@ -250,8 +231,8 @@ pub extern "C" fn luffinarc_hashtags_checked<'a>(
     ensures tells { Tells (counted_reply (counted_by (hashtag_list_of image.now text.now (length words.old)))) result answer.new }
     ensures words_after { words.new ≡ hashtag_list_words image.now text.now words.old }
 {
-    let listed = hashtag::list_checked(image, text, words);
-    reply::tell_counted(listed, answer)
+    let image = ClassImage::of_accepted(image);
+    hashtag::list_checked(&image, text, words).tell(answer)
 }
 
 // Hands back the part of a text from `start` to `end`. Answer: its first byte and its number of bytes.

@@ -7,6 +7,7 @@ use mathlib.Core.Logic.{◌↔◌}
 use lib.ListN.{length}
 use Rattle.std.specs.Prelude.{Result, Ok, Err}
 use Rattle.lists.proofs.BoolLaws.{impossible}
+use Rattle.refusal.specs.declared.Refusal.{Refusal}
 use Rattle.image.specs.Limits.{words_per_range}
 use Rattle.image.specs.Header.{range_count}
 use Rattle.image.specs.Check.{refusal_of, check_of, read_of, accepted_with}
@@ -22,9 +23,9 @@ module _ {ps rs : List ℕ} {n : ℕ} {a new_ps new_rs : List ℕ} where
   zero_iff : (k : Checked) → TellsChecked k ps rs n a new_ps new_rs → (n ≡ 0) ↔ ((v m : ℕ) × (k.answer ≡ accepted_with v m))
   zero_iff k t = go k.answer refl t.told.number
     where
-      go : (x : Answer) → k.answer ≡ x → n ≡ (checked_by x k.profile.used).number → (n ≡ 0) ↔ ((v m : ℕ) × (k.answer ≡ accepted_with v m))
+      go : (x : Result Summary Refusal) → k.answer ≡ x → n ≡ (checked_by x k.profile.used).number → (n ≡ 0) ↔ ((v m : ℕ) × (k.answer ≡ accepted_with v m))
       go (Err r) f e = (λ z. absurd ((apart r).0 (sym e ∙ z)), λ (v, m, g). impossible (cc))
-      go (accepted_with v m) f e = (λ z. (v, m, f), λ g. e)
+      go (Ok x) f e = (λ z. (x.version, x.ranges, f), λ g. e)
 
   pub zero_checked : (s : List ℕ) → TellsChecked (check_of s) ps rs n a new_ps new_rs → (n ≡ 0) ↔ (refusal_of s ≡ none)
   zero_checked s t = (

@@ -56,9 +56,9 @@ apart r = (λ e. omega (arith, known r), λ e. omega (arith, known r))
 module _ (k : Checked) {ps rs a : List ℕ} where
   pub told_refused : {r : Refusal} {n : ℕ} → k.answer ≡ Err r → Tells (refuses r) n a → TellsChecked k ps rs n a ps rs
   told_refused e h = record {
-    told = told (λ (x : Answer). checked_by x k.profile.used) e h;
-    points_kept = ap (λ (x : Answer). array_by x k.profile.points ps) (sym e);
-    roles_kept = ap (λ (x : Answer). array_by x k.profile.roles rs) (sym e);
+    told = told (λ (x : Result Summary Refusal). checked_by x k.profile.used) e h;
+    points_kept = ap (λ (x : Result Summary Refusal). array_by x k.profile.points ps) (sym e);
+    roles_kept = ap (λ (x : Result Summary Refusal). array_by x k.profile.roles rs) (sym e);
   }
 
 pub told_checked : {k l : Checked} {ps rs : List ℕ} {n : ℕ} {a ps' rs' : List ℕ} → k ≡ l → TellsChecked k ps rs n a ps' rs' → TellsChecked l ps rs n a ps' rs'

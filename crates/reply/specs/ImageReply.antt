@@ -7,7 +7,7 @@ use Rattle.image.specs.declared.Checked.{Checked}
 use Rattle.pair.specs.declared.PairRefusal.{PairRefusal}
 use Rattle.pair.specs.declared.PairRefusal.TheVariants as pair
 use Rattle.changes.specs.declared.Lists.{Lists}
-use Rattle.reply.specs.Reply.{Reply, Tells, gives, refuses_of, refuses}
+use Rattle.reply.specs.Reply.{Reply, Tells, gives, refuses_of, refuses, reply_by, number_reply, unit_reply}
 
 -- checking and reading an image: the version, and the numbers of ranges and of profile entries
 abbrev pub checked_by : Result Summary Refusal → ℕ → Reply
@@ -29,14 +29,15 @@ pub record TellsChecked (k : Checked) (points roles : List ℕ) (n : ℕ) (answe
   pub roles_kept : new_roles ≡ array_by k.answer k.profile.roles roles
 
 -- looking up: the class after the profile, and how many ranges were looked at
+abbrev pub probe_reply : Probe → Reply
+probe_reply p = gives p.class p.count 0
+
 abbrev pub found_reply : Result Probe Refusal → Reply
-found_reply (Err r) = refuses r
-found_reply (Ok p) = gives p.class p.count 0
+found_reply r = reply_by probe_reply refuses r
 
 -- writing: the bytes of the image
 abbrev pub written_reply : Result ℕ Refusal → Reply
-written_reply (Err r) = refuses r
-written_reply (Ok len) = gives len 0 0
+written_reply r = reply_by number_reply refuses r
 
 -- a refusal of a call on two images tells which image it is of, 1 the older, 2 the newer, 0 neither
 abbrev pub refuses_pair : PairRefusal → Reply
@@ -46,10 +47,11 @@ refuses_pair (pair.Neither r) = refuses r
 
 -- the pair check
 abbrev pub pair_reply : Result (Unit {0}) PairRefusal → Reply
-pair_reply (Err r) = refuses_pair r
-pair_reply (Ok _) = gives 0 0 0
+pair_reply r = reply_by unit_reply refuses_pair r
 
 -- the list of changes: the numbers of runs and of entries
+abbrev pub lists_reply : Lists → Reply
+lists_reply l = gives l.runs l.entries 0
+
 abbrev pub changes_reply : Result Lists PairRefusal → Reply
-changes_reply (Err r) = refuses_pair r
-changes_reply (Ok l) = gives l.runs l.entries 0
+changes_reply r = reply_by lists_reply refuses_pair r

@@ -1,5 +1,5 @@
 -- What an exported call hands over: its result, and the numbers of the lent answer array (docs/RULES.md, "The calls").
-use Rattle.std.specs.Prelude.{ℕ, ◌≡◌, List, [], ◌∷◌, get_or}
+use Rattle.std.specs.Prelude.{ℕ, ◌≡◌, List, [], ◌∷◌, get_or, Result, Ok, Err}
 use Rattle.refusal.specs.declared.Refusal.{Refusal}
 use Rattle.refusal.specs.Refusal.{number_of, carried_by}
 
@@ -25,3 +25,15 @@ refuses_of which r = record { number = number_of r; values = carried_of which r 
 
 abbrev pub refuses : Refusal → Reply
 refuses r = refuses_of 0 r
+
+-- a call's result: the reply of what it gives, or of the refusal
+abbrev pub reply_by : {T E : Type 0} → (T → Reply) → (E → Reply) → Result T E → Reply
+reply_by given refused (Ok x) = given x
+reply_by given refused (Err e) = refused e
+
+-- a number alone, of bytes or of records; and nothing
+abbrev pub number_reply : ℕ → Reply
+number_reply n = gives n 0 0
+
+abbrev pub unit_reply : Unit {0} → Reply
+unit_reply u = gives 0 0 0

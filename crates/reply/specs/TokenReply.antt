@@ -1,24 +1,25 @@
 -- The replies of the calls on tokens and hashtags (docs/RULES.md, "The calls").
-use Rattle.token.specs.Taken.{Taken}
+use Rattle.token.specs.declared.Token.{Token}
 use Rattle.refusal.specs.declared.Refusal.{Refusal}
-use Rattle.std.specs.Prelude.{ℕ, List, [], ◌∷◌, length, get_or, take, drop, Result, Ok, Err, Some, None}
+use Rattle.std.specs.Prelude.{ℕ, List, [], ◌∷◌, length, get_or, take, drop, Result, Option, Some, None}
 use Rattle.refusal.specs.Outcome.{Outcome, given, refused}
-use Rattle.reply.specs.Reply.{Reply, gives, refuses}
+use Rattle.reply.specs.Reply.{Reply, gives, refuses, reply_by, number_reply}
 
 -- counting and writing a list: the number of tokens, or of hashtags
 abbrev pub counted_reply : Result ℕ Refusal → Reply
-counted_reply (Err r) = refuses r
-counted_reply (Ok n) = gives n 0 0
+counted_reply r = reply_by number_reply refuses r
 
 -- the result where a place is the text's end; no refusal has it
 abbrev pub done : ℕ
 done = 255
 
 -- taking one token: its kind, its first byte, and one past its last
-abbrev pub taken_reply : Taken → Reply
-taken_reply (Err r) = refuses r
-taken_reply (Ok None) = record { number = done; values = 0 ∷ 0 ∷ 0 ∷ 0 ∷ [] }
-taken_reply (Ok (Some t)) = gives t.kind t.start t.end
+abbrev pub token_reply : Option Token → Reply
+token_reply None = record { number = done; values = 0 ∷ 0 ∷ 0 ∷ 0 ∷ [] }
+token_reply (Some t) = gives t.kind t.start t.end
+
+abbrev pub taken_reply : Result (Option Token) Refusal → Reply
+taken_reply r = reply_by token_reply refuses r
 
 -- handing back a part: its first byte and its number of bytes
 abbrev pub part_reply : Outcome (List ℕ) → ℕ → Reply

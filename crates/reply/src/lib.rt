@@ -4,35 +4,31 @@
 #![tactic(auto)]
 
 ghost use Rattle.std.specs.Prelude.{◌≡◌, [], ◌∷◌};
-ghost use Rattle.std.proofs.Math.Option.{none};
-ghost use Rattle.image.specs.Header.{version_of, range_count};
-ghost use Rattle.image.specs.Check.{refusal_of, accepted_of};
+ghost use Rattle.image.specs.Check.{accepted_of};
 ghost use Rattle.part.specs.Part.{part_of, part_bytes};
-ghost use Rattle.reply.specs.Reply.{Tells, gives, refuses_of};
-ghost use Rattle.reply.specs.ImageReply.{TellsChecked, found_reply, written_reply, refuses_pair, pair_reply, changes_reply};
-ghost use Rattle.reply.specs.TokenReply.{counted_reply, taken_reply, part_reply, told_part};
+ghost use Rattle.reply.specs.Reply.{Reply, Tells, gives, refuses_of, refuses, reply_by, number_reply, unit_reply};
+ghost use Rattle.reply.specs.ImageReply.{TellsChecked, probe_reply, refuses_pair, lists_reply};
+ghost use Rattle.reply.specs.TokenReply.{token_reply, part_reply, told_part};
 
 use changes::Lists;
-use grammar::Counted;
-use image::{Answer, MAX_ENTRIES};
-use lookup::Found;
+use image::{ClassImage, MAX_ENTRIES, Summary};
+use lookup::Probe;
 use pair::PairRefusal;
 use refusal::Refusal;
-use token::Taken;
-use writer::Written;
+use token::Token;
 
 // The result where a place is the text's end.
 const DONE: u32 = 255;
 
 // Fills the answer array.
-pub fn put(answer: &mut [u64; 4], a: u64, b: u64, c: u64, d: u64)
+fn put(answer: &mut [u64; 4], a: u64, b: u64, c: u64, d: u64)
     ensures { answer.new ≡ a ∷ b ∷ c ∷ d ∷ [] }
 {
     *answer = [a, b, c, d];
 }
 
 // Tells an answer of these values, 0 where there is none.
-pub fn give(a: u64, b: u64, c: u64, answer: &mut [u64; 4]) -> u32
+fn give(a: u64, b: u64, c: u64, answer: &mut [u64; 4]) -> u32
     ensures { Tells (gives a b c) result answer.new }
 {
     put(answer, a, b, c, 0);
@@ -40,7 +36,7 @@ pub fn give(a: u64, b: u64, c: u64, answer: &mut [u64; 4]) -> u32
 }
 
 // Tells a refusal, and which image it is of, where a call has two.
-pub fn refuse(r: Refusal, which: u64, answer: &mut [u64; 4]) -> u32
+fn refuse(r: Refusal, which: u64, answer: &mut [u64; 4]) -> u32
     ensures { Tells (refuses_of which r) result answer.new }
 {
     let [first, second] = r.carried().map(|n| n.unwrap_or(0) as u64);
@@ -48,95 +44,111 @@ pub fn refuse(r: Refusal, which: u64, answer: &mut [u64; 4]) -> u32
     r.number()
 }
 
+// What a call can give or refuse with, told by a result and the answer array.
+pub trait Told {
+    ghost reply: { Self → Reply };
+
+    fn tell(self, answer: &mut [u64; 4]) -> u32
+        ensures { Tells (reply self) result answer.new };
+}
+
+// What a call gives, or its refusal.
+impl<T: Told, E: Told> Told for Result<T, E> {
+    ghost reply = { reply_by T.reply E.reply };
+
+    fn tell(self, answer: &mut [u64; 4]) -> u32 {
+        match self {
+            Ok(given) => given.tell(answer),
+            Err(refused) => refused.tell(answer),
+        }
+    }
+}
+
+// A refusal of a call on one image.
+impl Told for Refusal {
+    ghost reply = { refuses };
+
+    fn tell(self, answer: &mut [u64; 4]) -> u32 {
+        refuse(self, 0, answer)
+    }
+}
+
+// A refusal of a call on two images, with which of them it is of.
+impl Told for PairRefusal {
+    ghost reply = { refuses_pair };
+
+    fn tell(self, answer: &mut [u64; 4]) -> u32 {
+        match self {
+            PairRefusal::Older(r) => refuse(r, 1, answer),
+            PairRefusal::Newer(r) => refuse(r, 2, answer),
+            PairRefusal::Neither(r) => refuse(r, 0, answer),
+        }
+    }
+}
+
+// What the pair check permits.
+impl Told for () {
+    ghost reply = { unit_reply };
+
+    fn tell(self, answer: &mut [u64; 4]) -> u32 {
+        give(0, 0, 0, answer)
+    }
+}
+
+// The bytes of an image that was written, or how many tokens or hashtags there are.
+impl Told for usize {
+    ghost reply = { number_reply };
+
+    fn tell(self, answer: &mut [u64; 4]) -> u32 {
+        give(self as u64, 0, 0, answer)
+    }
+}
+
+// What a lookup found.
+impl Told for Probe {
+    ghost reply = { probe_reply };
+
+    fn tell(self, answer: &mut [u64; 4]) -> u32 {
+        give(self.class as u64, self.count as u64, 0, answer)
+    }
+}
+
+// How many runs and entries changed.
+impl Told for Lists {
+    ghost reply = { lists_reply };
+
+    fn tell(self, answer: &mut [u64; 4]) -> u32 {
+        give(self.runs as u64, self.entries as u64, 0, answer)
+    }
+}
+
+// The token at a place, or none at the text's end.
+impl Told for Option<Token> {
+    ghost reply = { token_reply };
+
+    fn tell(self, answer: &mut [u64; 4]) -> u32 {
+        match self {
+            Some(t) => give(t.kind as u64, t.start as u64, t.end as u64, answer),
+            None => {
+                put(answer, 0, 0, 0, 0);
+                DONE
+            }
+        }
+    }
+}
+
 // Tells the version, the number of ranges and the profile of an accepted image.
 pub fn tell_profile(
-    image: &[u8],
-    version: u32,
-    ranges: usize,
+    image: &ClassImage,
     points: &mut [u32; MAX_ENTRIES],
     roles: &mut [u32; MAX_ENTRIES],
     answer: &mut [u64; 4],
 ) -> u32
-    requires { (refusal_of image.now ≡ none) × (version ≡ version_of image.now) × (ranges ≡ range_count image.now) }
     ensures { TellsChecked (accepted_of image.now) points.old roles.old result answer.new points.new roles.new }
 {
-    let used = image::put_profile(image, points, roles);
+    let Summary { version, ranges } = image.summary();
+    let used = image.put_profile(points, roles);
     give(version as u64, ranges as u64, used as u64, answer)
-}
-
-// Tells what a lookup gave.
-pub fn tell_found(f: Found, answer: &mut [u64; 4]) -> u32
-    ensures { Tells (found_reply f) result answer.new }
-{
-    match f {
-        Found::Refused(r) => refuse(r, 0, answer),
-        Found::Class { class, count } => give(class as u64, count as u64, 0, answer),
-    }
-}
-
-// Tells what the writer gave.
-pub fn tell_written(w: Written, answer: &mut [u64; 4]) -> u32
-    ensures { Tells (written_reply w) result answer.new }
-{
-    match w {
-        Written::Refused(r) => refuse(r, 0, answer),
-        Written::Image { len } => give(len as u64, 0, 0, answer),
-    }
-}
-
-// Tells a refusal of a call on two images.
-fn refuse_pair(refusal: PairRefusal, answer: &mut [u64; 4]) -> u32
-    ensures { Tells (refuses_pair refusal) result answer.new }
-{
-    match refusal {
-        PairRefusal::Older(r) => refuse(r, 1, answer),
-        PairRefusal::Newer(r) => refuse(r, 2, answer),
-        PairRefusal::Neither(r) => refuse(r, 0, answer),
-    }
-}
-
-// Tells what the pair check gave.
-pub fn tell_pair(p: Result<(), PairRefusal>, answer: &mut [u64; 4]) -> u32
-    ensures { Tells (pair_reply p) result answer.new }
-{
-    match p {
-        Err(r) => refuse_pair(r, answer),
-        Ok(()) => give(0, 0, 0, answer),
-    }
-}
-
-// Tells what the list of changes gave.
-pub fn tell_changes(c: Result<Lists, PairRefusal>, answer: &mut [u64; 4]) -> u32
-    ensures { Tells (changes_reply c) result answer.new }
-{
-    match c {
-        Err(r) => refuse_pair(r, answer),
-        Ok(lists) => give(lists.runs as u64, lists.entries as u64, 0, answer),
-    }
-}
-
-// Tells what counting or writing a list gave, of tokens or of hashtags.
-pub fn tell_counted(counted: Counted, answer: &mut [u64; 4]) -> u32
-    ensures { Tells (counted_reply counted) result answer.new }
-{
-    match counted {
-        Counted::Refused(r) => refuse(r, 0, answer),
-        Counted::Records(count) => give(count as u64, 0, 0, answer),
-    }
-}
-
-// Tells what taking one token gave.
-pub fn tell_taken(taken: Taken, answer: &mut [u64; 4]) -> u32
-    ensures { Tells (taken_reply taken) result answer.new }
-{
-    match taken {
-        Taken::Refused(r) => refuse(r, 0, answer),
-        Taken::Done => {
-            put(answer, 0, 0, 0, 0);
-            DONE
-        }
-        Taken::Token { kind, start, end } => give(kind as u64, start as u64, end as u64, answer),
-    }
 }
 
 // Tells the part of a text from `start` to `end`: its first byte, and its number of bytes.
@@ -146,6 +158,6 @@ pub fn tell_part(text: &[u8], start: usize, end: usize, answer: &mut [u64; 4]) -
 {
     match part::part_of(text, start, end) {
         Ok(part) => give(start as u64, part.len() as u64, 0, answer),
-        Err(r) => refuse(r, 0, answer),
+        Err(r) => r.tell(answer),
     }
 }
