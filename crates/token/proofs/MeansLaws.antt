@@ -27,7 +27,7 @@ use Rattle.grammar.proofs.GrammarLaws.{fits, tokens_divide, tokens_unique}
 use Rattle.turns.specs.declared.First.{First}
 use Rattle.turns.specs.declared.First.TheVariants as first
 use Rattle.turns.specs.First.{first_in, first_by, first_of}
-use Rattle.token.specs.Taken.{taken_of}
+use Rattle.token.specs.Taken.{Taken, taken_of}
 use Rattle.token.specs.Means.{PlaceAllowed, TakenMeans, refused_before, past_end, ill_formed, no_token, done, token}
 use Rattle.token.proofs.TakenLaws.{taken_by, taken_refused, taken_past, taken_first}
 

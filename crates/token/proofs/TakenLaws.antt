@@ -28,7 +28,7 @@ use Rattle.turns.specs.declared.First.{First}
 use Rattle.turns.specs.declared.First.TheVariants as first
 use Rattle.grammar.specs.Counted.{stop_refusal}
 use Rattle.turns.specs.First.{first_in, first_by, first_of}
-use Rattle.token.specs.Taken.{place_refusal, stop_by, stop_of, first_at, token_at, taken_within, taken_of, at_end, token_with}
+use Rattle.token.specs.Taken.{Taken, place_refusal, stop_by, stop_of, first_at, token_at, taken_within, taken_of, at_end, token_with}
 
 -- the first token of a part that begins at a place, at its places in the whole text
 abbrev pub taken_by : List ℕ → ℕ → First → Taken

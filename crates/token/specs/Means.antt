@@ -1,6 +1,6 @@
 -- What each answer of taking one token at a place says: one constructor for each that can be
 -- (docs/RULES.md, "Tokens", one token at a place, and "Named refusals"; demands 1 and 2). `proofs/MeansLaws.antt` joins this to the call's answer, both ways.
-use Rattle.token.specs.Taken.{at_end, token_with}
+use Rattle.token.specs.Taken.{Taken, at_end, token_with}
 use Rattle.std.specs.Prelude.{ℕ, ◌+◌, ◌≤◌, ◌<◌, ◌≡◌, List, ◌∷◌, length, drop, Err}
 use Rattle.std.proofs.Math.Option.{some}
 use Rattle.refusal.specs.declared.Refusal.{Refusal}

@@ -20,8 +20,6 @@ use blocks::BLOCKS;
 use count::{Run, WAITING};
 use grammar::{MAX_TEXT, RECORD_WORDS};
 use image::ClassImage;
-use given::Judgement;
-use grammar::{MAX_TEXT, RECORD_WORDS};
 use refusal::Refusal;
 use turns::First;
 use write::Written;

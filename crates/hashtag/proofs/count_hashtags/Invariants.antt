@@ -4,7 +4,7 @@ use Rattle.hashtag.proofs.ListLaws.{Counting}
 use Rattle.hashtag.proofs.count_hashtags.Given as goal
 
 abbrev pub invariant-loop-sign : goal.invariant-loop-sign
-invariant-loop-sign l = Counting l.image l.text l.count l.at
+invariant-loop-sign l = Counting l.fn.image l.text l.count l.at
 
 abbrev pub decreases-loop-sign : goal.decreases-loop-sign
 decreases-loop-sign l = length l.text - l.at

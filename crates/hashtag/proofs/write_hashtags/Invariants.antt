@@ -4,7 +4,7 @@ use Rattle.hashtag.proofs.ListLaws.{Writing}
 use Rattle.hashtag.proofs.write_hashtags.Given as goal
 
 abbrev pub invariant-loop-found : goal.invariant-loop-found
-invariant-loop-found l = Writing l.image l.text l.initial.out l.out l.w l.at l.line
+invariant-loop-found l = Writing l.fn.image l.text l.initial.out l.out l.w l.at l.line
 
 abbrev pub decreases-loop-found : goal.decreases-loop-found
 decreases-loop-found l = length l.text - l.at

@@ -30,9 +30,6 @@ bounds-starts-0 c = omega (arith, c.loop-run.invariant.0.long)
 pub mark_on-requires : goal.mark_on-requires
 mark_on-requires c = record { learning = c.loop-run.invariant.0.learning; rules_value = refl; text_len_bound = c.requires.listing.short; marking = filling_moved c.loop-run.invariant.0 _ _ c.put_records-from.ensures.wrote.0 c.put_records-from.ensures.wrote.1 c.put_records-from.ensures.written_to_2 }
 
-pub returns-in-Err : goal.returns-in-Err
-returns-in-Err c = never_refused _ _ _ _ c.in-Err.ensures.marked.0 c.loop-run.invariant.0.counted
-
 pub loop-run-smaller : goal.loop-run-smaller
 loop-run-smaller c =
     let m = c.in-Ok.ensures.marked.0 in
