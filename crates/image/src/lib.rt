@@ -159,7 +159,7 @@ impl<'a> ClassImage<'a> {
         ensures bytes { result.now ≡ self.now }
         ensures accepted { refusal_of self.now ≡ none }
     {
-        self.bytes
+        self.bytes // all of them
     }
 
     // Writes the profile into two arrays, with zeros past its entries, and gives their number.
