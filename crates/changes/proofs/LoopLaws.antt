@@ -17,7 +17,7 @@ use Rattle.image.specs.declared.records.Section.TheVariants.{Ranges, Entries}
 use Rattle.image.proofs.SectionLaws.{few_records}
 use Rattle.pair.specs.declared.walk.Overlap.{Overlap}
 use Rattle.pair.specs.Walk.{OverlapOf, OverlapAt}
-use Rattle.pair.proofs.OverlapLaws.{stands_at, stands}
+use Rattle.pair.proofs.OverlapLaws.{stands_at, stands, older_accepted, newer_accepted}
 use Rattle.changes.specs.Change.{Change}
 use Rattle.changes.specs.Answer.{changes_of, change_words, change_size, list_words}
 use Rattle.changes.specs.Walked.{change_of}
@@ -113,19 +113,15 @@ module _ (section : Section) (room : ℕ) (all : List Change) (before : List ℕ
 -- a turn of the loop is at `next`: `count` changes begin before it
 module _ (older newer : List ℕ) (section : Section) (room : ℕ) where
   pub record Turn (before out : List ℕ) (next : Option Overlap) (count at : ℕ) : Type 0 where
-    pub older_accepted : refusal_of older ≡ none
-    pub newer_accepted : refusal_of newer ≡ none
     pub here : OverlapAt older newer section (stands_at next) next
     pub listing : Listing section room (changes_of section older newer) before (rest_of section older newer (stands_at next)) out count at
 
 module _ {older newer : List ℕ} {section : Section} {room : ℕ} {before : List ℕ} where
   pub turn_begins :
-      {t : Overlap} → refusal_of older ≡ none → refusal_of newer ≡ none → change_size section * room ≤ length before → t.first ≡ 0
-      → OverlapOf older newer section t → Turn older newer section room before before (Some t) 0 0
-  turn_begins a b l e o =
+      {t : Overlap} → change_size section * room ≤ length before → t.first ≡ 0 → OverlapOf older newer section t
+      → Turn older newer section room before before (Some t) 0 0
+  turn_begins l e o =
       record {
-        older_accepted = a;
-        newer_accepted = b;
         here = (refl, o);
         listing = listing_begins section room _ before l (sym (whole_list section older newer) ∙ ap (rest_of section older newer) (sym e));
       }
@@ -142,19 +138,19 @@ module _ {older newer : List ℕ} {section : Section} {room : ℕ} {before : Lis
         → Turn older newer section room before words u k at
     next {u} o l =
         let e = stands older newer section u o in
-        record { older_accepted = w.older_accepted; newer_accepted = w.newer_accepted; here = rw e o; listing = rw e l }
+        record { here = rw e o; listing = rw e l }
 
     pub turn_same : t.older.class ≡ t.newer.class → {u : Option Overlap} → OverlapAt older newer section (t.last + 1) u → Turn older newer section room before out u count at
-    turn_same s o = next o (rw (rest_same section older newer w.older_accepted w.newer_accepted w.here.1 s) at w.listing)
+    turn_same s o = next o (rw (rest_same w.here.1 s) at w.listing)
 
     module _ (d : t.older.class ≡ t.newer.class → ⊥) where
       first : rest_of section older newer t.first ≡ change_of t ∷ rest_of section older newer (t.last + 1)
-      first = rest_change section older newer w.older_accepted w.newer_accepted w.here.1 d
+      first = rest_change w.here.1 d
 
       pub turn_few : count < 16384
       turn_few =
-          let a = w.older_accepted in
-          let b = w.newer_accepted in
+          let a = older_accepted w.here.1 in
+          let b = newer_accepted w.here.1 in
           omega (arith, w.listing.number, ap length first, few_changes section older newer a b, few_records older a section, few_records newer b section)
 
       pub turn_fits : count < room → at + change_size section ≤ length out

@@ -3,16 +3,15 @@ use Prim.Native.Nat.{ℕ, ◌+◌, ◌-◌, ◌≤◌}
 use mathlib.Core.Path.{◌≡◌, sym, ap, ◌∙◌}
 use mathlib.Core.Bool.{Bool, true, false, true≢false, false≢true}
 use mathlib.Core.List.{List, [], ◌∷◌}
-use mathlib.Core.Option.{none}
 use native.Mathlib.Omega.{arith}
-use Rattle.image.specs.Check.{refusal_of}
+use Rattle.utf8.specs.Scalar.{is_scalar}
 use Rattle.image.specs.declared.records.Section.{Section}
 use Rattle.image.specs.declared.records.Section.TheVariants.{Ranges, Entries}
 use Rattle.image.specs.Records.{section_class}
 use Rattle.image.proofs.SectionLaws.{range_class_lem, entry_role_lem}
 use Rattle.pair.specs.declared.walk.Overlap.{Overlap}
 use Rattle.pair.specs.Walk.{code_points, StopsBoth, OverlapOf}
-use Rattle.pair.proofs.OverlapLaws.{none_scalar}
+use Rattle.pair.proofs.OverlapLaws.{none_scalar, older_accepted, newer_accepted}
 use Rattle.changes.specs.Change.{Change, Alone}
 use Rattle.changes.specs.ChangeList.{changes_from, runs_of, entries_of}
 use Rattle.changes.specs.Answer.{changes_of}
@@ -45,33 +44,38 @@ rest_none section older newer x l =
     let z : code_points - x ≡ 0 = omega arith in
     ap (λ (k : ℕ). changes_from (section_class older section) (section_class newer section) (are_runs section) k x) z
 
-module _ (section : Section) (older newer : List ℕ) (a : refusal_of older ≡ none) (b : refusal_of newer ≡ none) where
+module _ {section : Section} {older newer : List ℕ} {r : Overlap} (o : OverlapOf older newer section r) where
+  none_older : (x : ℕ) → is_scalar x ≡ false → section_class older section x ≡ 0
+  none_older = none_scalar older (older_accepted o) section
+
+  none_newer : (x : ℕ) → is_scalar x ≡ false → section_class newer section x ≡ 0
+  none_newer = none_scalar newer (newer_accepted o) section
+
   is_rest : (x : ℕ) → Rest (section_class older section) (section_class newer section) (are_runs section) x (rest_of section older newer x)
   unfolding rest_of
-  is_rest x = listed _ _ (none_scalar older a section) (none_scalar newer b section) (are_runs section) (code_points - x) x (omega arith)
+  is_rest x = listed _ _ none_older none_newer (are_runs section) (code_points - x) x (omega arith)
 
-  module _ {r : Overlap} (o : OverlapOf older newer section r) where
-    -- where the two classes are the same, nothing is listed
-    pub rest_same : r.older.class ≡ r.newer.class → rest_of section older newer r.first ≡ rest_of section older newer (r.last + 1)
-    rest_same e =
-        rest_one _ _ (is_rest r.first)
-        (rest_before (omega (arith, o.from)) (λ y l u. o.older_same y l (omega arith) ∙ e ∙ sym (o.newer_same y l (omega arith))) (is_rest (r.last + 1)))
+  -- where the two classes are the same, nothing is listed
+  pub rest_same : r.older.class ≡ r.newer.class → rest_of section older newer r.first ≡ rest_of section older newer (r.last + 1)
+  rest_same e =
+      rest_one _ _ (is_rest r.first)
+      (rest_before (omega (arith, o.from)) (λ y l u. o.older_same y l (omega arith) ∙ e ∙ sym (o.newer_same y l (omega arith))) (is_rest (r.last + 1)))
 
-    -- where they differ, the overlap is a change
-    pub rest_change :
-        (r.older.class ≡ r.newer.class → ⊥) → rest_of section older newer r.first ≡ change_of r ∷ rest_of section older newer (r.last + 1)
-    rest_change d =
-        rest_one _ _ (is_rest r.first)
-        (rest_cons {c = change_of r}
-        (is_changed _ _ (none_scalar older a section) (none_scalar newer b section) o.from
-        (λ x k. (o.older_same x k.from k.to, o.newer_same x k.from k.to)) d)
-        (whole section (o.stops d)) (alone section (o.stops d)) (is_rest (r.last + 1)))
-      where
-        whole : (section : Section) → StopsBoth older newer section r → are_runs section ≡ true
-            → (section_class older section (r.last + 1) ≡ r.older.class) × (section_class newer section (r.last + 1) ≡ r.newer.class) → ⊥
-        whole Ranges s e (p, q) = s p q
-        whole Entries s e h = false≢true e
+  -- where they differ, the overlap is a change
+  pub rest_change :
+      (r.older.class ≡ r.newer.class → ⊥) → rest_of section older newer r.first ≡ change_of r ∷ rest_of section older newer (r.last + 1)
+  rest_change d =
+      rest_one _ _ (is_rest r.first)
+      (rest_cons {c = change_of r}
+      (is_changed _ _ none_older none_newer o.from
+      (λ x k. (o.older_same x k.from k.to, o.newer_same x k.from k.to)) d)
+      (whole section (o.stops d)) (alone section (o.stops d)) (is_rest (r.last + 1)))
+    where
+      whole : (section : Section) → StopsBoth older newer section r → are_runs section ≡ true
+          → (section_class older section (r.last + 1) ≡ r.older.class) × (section_class newer section (r.last + 1) ≡ r.newer.class) → ⊥
+      whole Ranges s e (p, q) = s p q
+      whole Entries s e h = false≢true e
 
-        alone : (section : Section) → StopsBoth older newer section r → are_runs section ≡ false → Alone (change_of r)
-        alone Ranges s e = absurd (true≢false e)
-        alone Entries s e = sym s
+      alone : (section : Section) → StopsBoth older newer section r → are_runs section ≡ false → Alone (change_of r)
+      alone Ranges s e = absurd (true≢false e)
+      alone Entries s e = sym s

@@ -3,16 +3,15 @@
 #![tactic(auto)]
 
 ghost use Rattle.std.specs.Prelude.{◌≡◌, ◌*◌, ◌≤◌, length, take};
-ghost use Rattle.std.proofs.Math.Option.{none};
 ghost use Rattle.lists.specs.Laid.{laid};
-ghost use Rattle.image.specs.Check.{refusal_of};
 ghost use Rattle.image.specs.declared.records.Section.TheVariants.{Ranges, Entries};
 ghost use Rattle.changes.specs.Answer.{changes_of, change_words, change_size, list_words, listed_of, buffer_after, answer_of, runs_after, entries_after};
 ghost use Rattle.changes.specs.Walked.{change_of, room_by};
 
+use image::ClassImage;
 use image::records::Section;
 use pair::PairRefusal;
-use pair::walk::Overlap;
+use pair::walk::{Overlap, Overlaps};
 use refusal::Refusal;
 
 // The words of a run and of an entry in their lists.
@@ -21,7 +20,7 @@ pub const RUN_WORDS: usize = 4;
 pub const ENTRY_WORDS: usize = 3;
 
 // How long the two lists are: the numbers of runs and of entries.
-#[derive(Clone, Copy)]
+#[derive(Clone, Copy, Debug, PartialEq, Eq)]
 pub struct Lists {
     pub runs: usize,
     pub entries: usize,
@@ -55,43 +54,39 @@ fn put_change(out: &mut [u32], section: Section, t: Overlap)
 }
 
 // The number of changes in a section of two accepted images. The first `room` of them are written at the front of a buffer.
-fn list_section(older: &[u8], newer: &[u8], section: Section, room: usize, out: &mut [u32]) -> usize
-    requires older_value { refusal_of older.now ≡ none }
-    requires newer_value { refusal_of newer.now ≡ none }
-    requires room_in_bounds { change_size section * room ≤ length out.old }
-    ensures value { result ≡ length (changes_of section older.now newer.now) }
-    ensures out_after { out.new ≡ laid out.old 0 (list_words section (take room (changes_of section older.now newer.now))) }
+fn list_section(overlaps: Overlaps, room: usize, out: &mut [u32]) -> usize
+    requires { change_size overlaps.section * room ≤ length out.old }
+    ensures value { result ≡ length (changes_of overlaps.entry.section overlaps.entry.older.now overlaps.entry.newer.now) }
+    ensures out_after { out.new ≡ laid out.old 0 (list_words overlaps.entry.section (take room (changes_of overlaps.entry.section overlaps.entry.older.now overlaps.entry.newer.now))) }
 {
-    let size = size_of(section);
+    let size = size_of(overlaps.section);
     let mut count: usize = 0;
     let mut at: usize = 0;
-    let mut next = Some(pair::walk::first_overlap(older, newer, section));
+    let mut next = Some(overlaps.first());
     while let Some(t) = next {
         if t.older.class != t.newer.class {
             if count < room {
-                put_change(&mut out[at..], section, t);
+                put_change(&mut out[at..], overlaps.section, t);
                 at += size;
             }
             count += 1;
         }
-        next = pair::walk::next_overlap(older, newer, section, t);
+        next = overlaps.next(t);
     }
     count
 }
 
 // Judges the room for the changes in a section. Room for one less than twice the records is always enough: then the changes
 // are not counted.
-fn judge_room(older: &[u8], newer: &[u8], section: Section, room: usize) -> Result<(), PairRefusal>
-    requires older_value { refusal_of older.now ≡ none }
-    requires newer_value { refusal_of newer.now ≡ none }
-    ensures { result ≡ room_by room (length (changes_of section older.now newer.now)) }
+fn judge_room(overlaps: Overlaps, room: usize) -> Result<(), PairRefusal>
+    ensures { result ≡ room_by room (length (changes_of overlaps.entry.section overlaps.entry.older.now overlaps.entry.newer.now)) }
 {
-    let n = image::records::count_records(older, section);
-    let m = image::records::count_records(newer, section);
+    let n = overlaps.older.count_records(overlaps.section);
+    let m = overlaps.newer.count_records(overlaps.section);
     if n + m <= room / 2 + room % 2 {
         return Ok(());
     }
-    let count = list_section(older, newer, section, 0, &mut []);
+    let count = list_section(overlaps, 0, &mut []);
     if room < count {
         return Err(PairRefusal::Neither(Refusal::Room(count)));
     }
@@ -101,24 +96,31 @@ fn judge_room(older: &[u8], newer: &[u8], section: Section, room: usize) -> Resu
 // The lists of the changes between two accepted images. The room for both is judged before anything is written.
 #[tactic(auto, unfolding(crate::specs::Answer::listed_of))]
 fn list_accepted(
-    older: &[u8],
-    newer: &[u8],
+    older: &ClassImage,
+    newer: &ClassImage,
     runs: &mut [u32],
     entries: &mut [u32],
 ) -> Result<Lists, PairRefusal>
-    requires older_value { refusal_of older.now ≡ none }
-    requires newer_value { refusal_of newer.now ≡ none }
     ensures value { result ≡ listed_of older.now newer.now (length runs.old) (length entries.old) }
     ensures runs_after { runs.new ≡ buffer_after Ranges older.now newer.now result runs.old }
     ensures entries_after { entries.new ≡ buffer_after Entries older.now newer.now result entries.old }
 {
     let runs_room = runs.len() / RUN_WORDS;
     let entries_room = entries.len() / ENTRY_WORDS;
-    judge_room(older, newer, Section::Ranges, runs_room)?;
-    judge_room(older, newer, Section::Entries, entries_room)?;
+    let class_overlaps = Overlaps {
+        older,
+        newer,
+        section: Section::Ranges,
+    };
+    let role_overlaps = Overlaps {
+        section: Section::Entries,
+        ..class_overlaps
+    };
+    judge_room(class_overlaps, runs_room)?;
+    judge_room(role_overlaps, entries_room)?;
     Ok(Lists {
-        runs: list_section(older, newer, Section::Ranges, runs_room, runs),
-        entries: list_section(older, newer, Section::Entries, entries_room, entries),
+        runs: list_section(class_overlaps, runs_room, runs),
+        entries: list_section(role_overlaps, entries_room, entries),
     })
 }
 
@@ -135,6 +137,6 @@ pub fn list_changes(
     ensures runs_after { runs.new ≡ runs_after older.now newer.now runs.old entries.old }
     ensures entries_after { entries.new ≡ entries_after older.now newer.now runs.old entries.old }
 {
-    pair::judge_both(older, newer)?;
-    list_accepted(older, newer, runs, entries)
+    let (older, newer) = pair::judge_both(older, newer)?;
+    list_accepted(&older, &newer, runs, entries)
 }

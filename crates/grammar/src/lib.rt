@@ -32,11 +32,7 @@ pub fn judge_checked(image: &ClassImage, text: &[u8], most: usize) -> Result<(),
 }
 
 // Judges what is given with a text, then its length: the image, or the refusal.
-pub fn judge_text<'a>(
-    image: &'a [u8],
-    text: &[u8],
-    most: usize,
-) -> Result<ClassImage<'a>, Refusal>
+pub fn judge_text<'a>(image: &'a [u8], text: &[u8], most: usize) -> Result<ClassImage<'a>, Refusal>
     ensures { result ≡ opened_by image.now (before_text most image.now text.now) }
 {
     let image = given::judge_given(image)?;

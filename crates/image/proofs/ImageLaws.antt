@@ -10,7 +10,7 @@ use lib.ListN.{length, take, get_or}
 use lib.Seq.{get_or-take}
 use lib.Dec.{leb, eqb}
 use borrow.Author.Tests.{leb-true, eqb-true, le-leb, eq-eqb}
-use Rattle.std.specs.Prelude.{Result, Ok, Err}
+use Rattle.std.specs.Prelude.{Result, Err}
 use Rattle.lists.proofs.BoolLaws.{split, impossible}
 use Rattle.lists.proofs.EachLaws.{column_at, column_past, column_same}
 use Rattle.refusal.specs.declared.Refusal.{Refusal}
@@ -51,7 +51,7 @@ use Rattle.image.specs.Means.{
 }
 use Rattle.image.specs.Check.{records_refusal, refusal_within, refusal_of, check_by, check_within, check_of, accepted_with}
 use Rattle.image.specs.declared.Profile.{Profile}
-use Rattle.image.specs.Opened.{opened_by, summary_of}
+use Rattle.image.specs.Opened.{summary_of}
 use Rattle.image.specs.declared.Summary.{Summary}
 use Rattle.image.specs.declared.Checked.{Checked}
 use Rattle.image.proofs.RecordsLaws.{records_mean, range_refused, entry_refused, none_refused}

@@ -65,7 +65,8 @@ const CLASS_AT: usize = 8;
 
 pub const ROLE_AT: usize = 4;
 
-// The classes by their numbers. A code point in no range is unassigned.
+// The classes by their numbers. A code point in no range is unassigned. Numbers and no enum, since the bytes of an image may hold any, and the
+// definitions (`class_of`, `lookup_of`, `list_words`) and C speak of numbers.
 pub const UNASSIGNED: u32 = 0;
 
 pub const START: u32 = 1;
@@ -98,7 +99,8 @@ pub struct Range {
     pub class: u32,
 }
 
-// A checked profile: the first `used` entries of each array. Entries past them read as zero.
+// A checked profile: the first `used` entries of each array. Entries past them read as zero. Arrays with a length beside: a project form
+// (docs/DECISIONS.md, "Forms"), in fixed memory, and `profile_of` says so.
 #[derive(Drop)]
 pub struct Profile {
     pub points: [u32; MAX_ENTRIES],
@@ -113,7 +115,7 @@ pub struct Summary {
     pub ranges: usize,
 }
 
-// An answer, and the profile of an accepted image; beside a refusal an empty one.
+// An answer, and the profile of an accepted image; beside a refusal an empty one, as `refused_by` promises.
 #[derive(Drop)]
 pub struct Checked {
     pub answer: Result<Summary, Refusal>,
@@ -159,7 +161,7 @@ impl<'a> ClassImage<'a> {
         ensures bytes { result.now ≡ self.now }
         ensures accepted { refusal_of self.now ≡ none }
     {
-        self.bytes
+        self.bytes // all of them
     }
 
     // Writes the profile into two arrays, with zeros past its entries, and gives their number.

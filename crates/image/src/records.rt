@@ -10,7 +10,7 @@ ghost use Rattle.image.specs.Records.{entry_range, record_at, record_count};
 use crate::order::{ImageEntries, Records};
 use crate::{ClassImage, ENTRY_COUNT_AT, NONSTART, OTHER, RANGE_COUNT_AT, Range, START};
 
-// The roles of profile entries. A code point of no entry has role 0.
+// The roles of profile entries. A code point of no entry has role 0. Numbers and no enum, as the classes are.
 pub const START_ROLE: u32 = 1;
 
 pub const NONSTART_ROLE: u32 = 2;

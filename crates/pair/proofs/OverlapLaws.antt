@@ -89,6 +89,14 @@ module _ {older newer : List ℕ} {section : Section} {x : ℕ} {a b : Ahead} (f
         newer_next = record { begun = x; ahead = g; from = omega arith; to = omega (arith, l.newer_to) };
       }
 
+-- both images are accepted
+module _ {older newer : List ℕ} {section : Section} {r : Overlap} (o : OverlapOf older newer section r) where
+  pub older_accepted : refusal_of older ≡ none
+  older_accepted = o.older_next.ahead.next.accepted
+
+  pub newer_accepted : refusal_of newer ≡ none
+  newer_accepted = o.newer_next.ahead.next.accepted
+
 -- where a walk stands: at an overlap, or past the last code point
 abbrev pub stands_at : Option Overlap → ℕ
 stands_at (Some t) = t.first
@@ -123,10 +131,9 @@ module _ (older newer : List ℕ) where
 
     -- only scalar values have classes in the ranges, so the change is one of a scalar value
     pub clear_here :
-        refusal_of older ≡ none → refusal_of newer ≡ none → permitted t.older.class t.newer.class ≡ false
-        → Some t.first ≡ forbidden_change older newer
+        permitted t.older.class t.newer.class ≡ false → Some t.first ≡ forbidden_change older newer
     unfolding forbidden_change first_forbidden forbidden_at range_class permitted
-    clear_here p q e =
+    clear_here e =
         let l : t.first < code_points = omega (arith, o.from, o.to) in
         let z = first_is (forbidden_at older newer) code_points t.first l (go (is_scalar t.first) refl (changes t.first (omega arith) o.from ∙ e)) c in
         rw (z, lt-ltb _ _ l) refl
@@ -134,4 +141,4 @@ module _ (older newer : List ℕ) where
         go : (b : Bool) → is_scalar t.first ≡ b → permitted (range_class older t.first) (range_class newer t.first) ≡ false
             → (b && not (permitted (range_class older t.first) (range_class newer t.first))) ≡ true
         go true h e = rw e
-        go false h e = absurd (true≢false (simp (none_scalar older p Ranges _ h, none_scalar newer q Ranges _ h) at e))
+        go false h e = absurd (true≢false (simp (none_scalar older (older_accepted o) Ranges _ h, none_scalar newer (newer_accepted o) Ranges _ h) at e))

@@ -1,5 +1,5 @@
 -- Two images judged: the older wholly, then the newer (docs/RULES.md, "Named refusals").
-use Rattle.std.specs.Prelude.{Result, Ok, Err}
+use Rattle.std.specs.Prelude.{ℕ, List, Result, Ok, Err}
 use Rattle.std.proofs.Math.Option.{Option, none, some}
 use Rattle.refusal.specs.declared.Refusal.{Refusal}
 use Rattle.pair.specs.declared.PairRefusal.{PairRefusal}
@@ -10,3 +10,9 @@ abbrev pub judged_by : Option Refusal → Option Refusal → Result (Unit {0}) P
 judged_by (some r) o = Err (Older r)
 judged_by none (some r) = Err (Newer r)
 judged_by none none = Ok tt
+
+-- .. or both images, where nothing refuses them
+abbrev pub both_by : List ℕ → List ℕ → Option Refusal → Option Refusal → Result (List ℕ × List ℕ) PairRefusal
+both_by older newer (some r) o = Err (Older r)
+both_by older newer none (some r) = Err (Newer r)
+both_by older newer none none = Ok (older, newer)

@@ -2,21 +2,21 @@
 #![tactic(auto)]
 
 ghost use Rattle.std.specs.Prelude.{◌≡◌, ◌<◌, not};
-ghost use Rattle.std.proofs.Math.Option.{none};
 ghost use Rattle.image.specs.Check.{refusal_of};
 ghost use Rattle.pair.specs.Change.{is_continue_class, permitted};
 ghost use Rattle.image.specs.Header.{entry_count};
 ghost use Rattle.pair.specs.Pair.{forbidden_change, differs_at, same_profile, compared_of, pair_of};
-ghost use Rattle.pair.specs.Judged.{judged_by};
+ghost use Rattle.pair.specs.Judged.{both_by};
 
 use image::records::Section;
-use image::{Answer, NONSTART, OTHER, START, UNASSIGNED};
+use image::{ClassImage, NONSTART, OTHER, START, UNASSIGNED};
 use refusal::Refusal;
+use walk::Overlaps;
 
 pub mod walk;
 
 // A refusal of a call on two images, by what it is of.
-#[derive(Clone, Copy)]
+#[derive(Clone, Copy, Debug, PartialEq, Eq)]
 pub enum PairRefusal {
     // Of the older image, or of the newer: 1 to 4.
     Older(Refusal),
@@ -48,42 +48,41 @@ pub fn is_permitted(older: u32, newer: u32) -> bool
 }
 
 // The smallest code point with a forbidden change.
-fn first_forbidden(older: &[u8], newer: &[u8]) -> Option<u32>
-    requires older_value { refusal_of older.now ≡ none }
-    requires newer_value { refusal_of newer.now ≡ none }
+fn first_forbidden(older: &ClassImage, newer: &ClassImage) -> Option<u32>
     ensures { result ≡ forbidden_change older.now newer.now }
 {
-    let mut next = Some(walk::first_overlap(older, newer, Section::Ranges));
+    let overlaps = Overlaps {
+        older,
+        newer,
+        section: Section::Ranges,
+    };
+    let mut next = Some(overlaps.first());
     while let Some(t) = next {
         if !is_permitted(t.older.class, t.newer.class) {
             return Some(t.first);
         }
-        next = walk::next_overlap(older, newer, Section::Ranges, t);
+        next = overlaps.next(t);
     }
     None
 }
 
 // Whether entry i of the profile sections of two accepted images is the same.
 #[tactic(auto, unfolding(crate::specs::Pair::differs_at))]
-fn is_same_entry(older: &[u8], newer: &[u8], i: usize) -> bool
-    requires older_value { refusal_of older.now ≡ none }
-    requires newer_value { refusal_of newer.now ≡ none }
+fn is_same_entry(older: &ClassImage, newer: &ClassImage, i: usize) -> bool
     requires i_bound { (i < entry_count older.now) × (i < entry_count newer.now) }
     ensures { result ≡ not (differs_at older.now newer.now i) }
 {
-    let p = image::records::record_at(older, Section::Entries, i);
-    let q = image::records::record_at(newer, Section::Entries, i);
+    let p = older.record_at(Section::Entries, i);
+    let q = newer.record_at(Section::Entries, i);
     p.first == q.first && p.class == q.class
 }
 
 // Whether the profile sections of two accepted images are the same.
-fn has_same_profile(older: &[u8], newer: &[u8]) -> bool
-    requires older_value { refusal_of older.now ≡ none }
-    requires newer_value { refusal_of newer.now ≡ none }
+fn has_same_profile(older: &ClassImage, newer: &ClassImage) -> bool
     ensures { result ≡ same_profile older.now newer.now }
 {
-    let count = image::records::count_records(older, Section::Entries);
-    if image::records::count_records(newer, Section::Entries) != count {
+    let count = older.count_records(Section::Entries);
+    if newer.count_records(Section::Entries) != count {
         return false;
     }
     // Tried: `(0..count).all(..)`; the proof didn't close.
@@ -97,9 +96,7 @@ fn has_same_profile(older: &[u8], newer: &[u8]) -> bool
 
 // The pair check of two accepted images.
 #[tactic(auto, unfolding(crate::specs::Pair::compared_of, crate::specs::Pair::forbidden_change))]
-fn compare_accepted(older: &[u8], newer: &[u8]) -> Result<(), PairRefusal>
-    requires older_value { refusal_of older.now ≡ none }
-    requires newer_value { refusal_of newer.now ≡ none }
+fn compare_accepted(older: &ClassImage, newer: &ClassImage) -> Result<(), PairRefusal>
     ensures { result ≡ compared_of older.now newer.now }
 {
     if !has_same_profile(older, newer) {
@@ -111,17 +108,16 @@ fn compare_accepted(older: &[u8], newer: &[u8]) -> Result<(), PairRefusal>
     }
 }
 
-// Judges the older image wholly, then the newer.
-pub fn judge_both(older: &[u8], newer: &[u8]) -> Result<(), PairRefusal>
-    ensures { result ≡ judged_by (refusal_of older.now) (refusal_of newer.now) }
+// Judges the older image wholly, then the newer, and gives both.
+pub fn judge_both<'a, 'b>(
+    older: &'a [u8],
+    newer: &'b [u8],
+) -> Result<(ClassImage<'a>, ClassImage<'b>), PairRefusal>
+    ensures { result ≡ both_by older.now newer.now (refusal_of older.now) (refusal_of newer.now) }
 {
-    if let Answer::Refused(r) = image::judge(older) {
-        return Err(PairRefusal::Older(r));
-    }
-    if let Answer::Refused(r) = image::judge(newer) {
-        return Err(PairRefusal::Newer(r));
-    }
-    Ok(())
+    let older = ClassImage::open(older).map_err(PairRefusal::Older)?;
+    let newer = ClassImage::open(newer).map_err(PairRefusal::Newer)?;
+    Ok((older, newer))
 }
 
 // Whether the newer image differs from the older only by permitted changes.
@@ -129,6 +125,6 @@ pub fn judge_both(older: &[u8], newer: &[u8]) -> Result<(), PairRefusal>
 pub fn check_pair(older: &[u8], newer: &[u8]) -> Result<(), PairRefusal>
     ensures { result ≡ pair_of older.now newer.now }
 {
-    judge_both(older, newer)?;
-    compare_accepted(older, newer)
+    let (older, newer) = judge_both(older, newer)?;
+    compare_accepted(&older, &newer)
 }

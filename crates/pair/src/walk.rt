@@ -1,17 +1,15 @@
 // Two accepted images side by side, walked through together from code point 0 up, section by section.
 ghost use Rattle.std.specs.Prelude.{◌≡◌, ◌+◌, ◌≤◌};
-ghost use Rattle.std.proofs.Math.Option.{none};
 ghost use Rattle.image.specs.Limits.{last_code_point};
-ghost use Rattle.image.specs.Check.{refusal_of};
 ghost use Rattle.image.specs.Records.{record_count};
 ghost use Rattle.pair.specs.Walk.{Walk, AheadOf, Ready, OverlapOf, OverlapAt};
 
 use image::records::Section;
-use image::{LAST_CODE_POINT, UNASSIGNED};
+use image::{ClassImage, LAST_CODE_POINT, UNASSIGNED};
 
 // Code points from a given one to `last` that have one class in the ranges of an image, or one role in its entries; the place
 // of what follows them, and the number of the section's records.
-#[derive(Clone, Copy)]
+#[derive(Clone, Copy, Debug, PartialEq, Eq)]
 pub struct Ahead {
     pub last: u32,
     pub class: u32,
@@ -20,7 +18,7 @@ pub struct Ahead {
 }
 
 // Code points from `first` to `last`, with what each of two images has there.
-#[derive(Clone, Copy)]
+#[derive(Clone, Copy, Debug, PartialEq, Eq)]
 pub struct Overlap {
     pub first: u32,
     pub last: u32,
@@ -29,7 +27,7 @@ pub struct Overlap {
 }
 
 // What begins at code point x in a section of n records, where i is the place of x among them.
-fn look_ahead(image: &[u8], section: Section, n: usize, i: usize, x: u32) -> Ahead
+fn look_ahead(image: &ClassImage, section: Section, n: usize, i: usize, x: u32) -> Ahead
     requires walk { Walk image.now section i x }
     requires n_value { n ≡ record_count image.now section }
     requires x_le_last_code_point { x ≤ last_code_point }
@@ -44,7 +42,7 @@ fn look_ahead(image: &[u8], section: Section, n: usize, i: usize, x: u32) -> Ahe
     if n <= i {
         return rest;
     }
-    let r = image::records::record_at(image, section, i);
+    let r = image.record_at(section, i);
     if x < r.first {
         return Ahead {
             last: r.first - 1,
@@ -60,16 +58,15 @@ fn look_ahead(image: &[u8], section: Section, n: usize, i: usize, x: u32) -> Ahe
 }
 
 // What begins at code point 0 in a section of an accepted image.
-fn first_ahead(image: &[u8], section: Section) -> Ahead
-    requires { refusal_of image.now ≡ none }
+fn first_ahead(image: &ClassImage, section: Section) -> Ahead
     ensures { Ready image.now section 0 result }
 {
-    let n = image::records::count_records(image, section);
+    let n = image.count_records(section);
     look_ahead(image, section, n, 0, 0)
 }
 
 // What begins at code point x, where `a` began at x or before it: `a`, or what follows it where its last code point is passed.
-fn advance(image: &[u8], section: Section, a: Ahead, x: u32) -> Ahead
+fn advance(image: &ClassImage, section: Section, a: Ahead, x: u32) -> Ahead
     requires ready { Ready image.now section x a }
     requires x_le_last_code_point { x ≤ last_code_point }
     ensures { AheadOf image.now section x result }
@@ -80,43 +77,51 @@ fn advance(image: &[u8], section: Section, a: Ahead, x: u32) -> Ahead
     a
 }
 
-// What begins at code point x in both images, where `a` and `b` began at x or before it. It ends where the first of the two does.
-fn overlap_at(older: &[u8], newer: &[u8], section: Section, a: Ahead, b: Ahead, x: u32) -> Overlap
-    requires ready { Ready older.now section x a }
-    requires ready_2 { Ready newer.now section x b }
-    requires x_le_last_code_point { x ≤ last_code_point }
-    ensures first_value { result.first ≡ x }
-    ensures overlap { OverlapOf older.now newer.now section result }
-{
-    let c = advance(older, section, a, x);
-    let d = advance(newer, section, b, x);
-    Overlap {
-        first: x,
-        last: c.last.min(d.last),
-        older: c,
-        newer: d,
-    }
+// The overlaps of a section of two accepted images.
+#[derive(Clone, Copy)]
+pub struct Overlaps<'a> {
+    pub older: &'a ClassImage<'a>,
+    pub newer: &'a ClassImage<'a>,
+    pub section: Section,
 }
 
-// The overlap at code point 0 of a section of two accepted images.
-pub fn first_overlap(older: &[u8], newer: &[u8], section: Section) -> Overlap
-    requires older_value { refusal_of older.now ≡ none }
-    requires newer_value { refusal_of newer.now ≡ none }
-    ensures first_value { result.first ≡ 0 }
-    ensures overlap { OverlapOf older.now newer.now section result }
-{
-    let a = first_ahead(older, section);
-    let b = first_ahead(newer, section);
-    overlap_at(older, newer, section, a, b, 0)
-}
-
-// The overlap after another, or none past the last code point.
-pub fn next_overlap(older: &[u8], newer: &[u8], section: Section, t: Overlap) -> Option<Overlap>
-    requires { OverlapOf older.now newer.now section t }
-    ensures { OverlapAt older.now newer.now section (t.last + 1) result }
-{
-    if t.last < LAST_CODE_POINT {
-        return Some(overlap_at(older, newer, section, t.older, t.newer, t.last + 1));
+impl<'a> Overlaps<'a> {
+    // What begins at code point x in both images, where `a` and `b` began at x or before it. It ends where the first of the two does.
+    fn at(self, a: Ahead, b: Ahead, x: u32) -> Overlap
+        requires ready { Ready self.older.now self.section x a }
+        requires ready_2 { Ready self.newer.now self.section x b }
+        requires x_le_last_code_point { x ≤ last_code_point }
+        ensures first_value { result.first ≡ x }
+        ensures overlap { OverlapOf self.entry.older.now self.entry.newer.now self.entry.section result }
+    {
+        let c = advance(self.older, self.section, a, x);
+        let d = advance(self.newer, self.section, b, x);
+        Overlap {
+            first: x,
+            last: c.last.min(d.last),
+            older: c,
+            newer: d,
+        }
     }
-    None
+
+    // The overlap at code point 0.
+    pub fn first(self) -> Overlap
+        ensures first_value { result.first ≡ 0 }
+        ensures overlap { OverlapOf self.entry.older.now self.entry.newer.now self.entry.section result }
+    {
+        let a = first_ahead(self.older, self.section);
+        let b = first_ahead(self.newer, self.section);
+        self.at(a, b, 0)
+    }
+
+    // The overlap after another, or none past the last code point.
+    pub fn next(self, t: Overlap) -> Option<Overlap>
+        requires { OverlapOf self.older.now self.newer.now self.section t }
+        ensures { OverlapAt self.entry.older.now self.entry.newer.now self.entry.section (t.last + 1) result }
+    {
+        if t.last < LAST_CODE_POINT {
+            return Some(self.at(t.older, t.newer, t.last + 1));
+        }
+        None
+    }
 }

@@ -16,8 +16,8 @@ struct Bounds {
     high: u8,
 }
 
-// What a first byte decides: the length of the sequence (0: it begins none), and the range of the second, third and fourth byte. Where the
-// sequence has no such byte the range is ANY, and nothing looks at it.
+// What a first byte decides: the length of the sequence (0, as the definition `lead_of` has it: it begins none), and the range of the second,
+// third and fourth byte. Where the sequence has no such byte the range is ANY, and nothing looks at it.
 #[derive(Clone, Copy, Debug, PartialEq, Eq)]
 struct Lead {
     len: u8,
@@ -31,7 +31,7 @@ const ANY: Bounds = Bounds {
     high: 0xBF,
 };
 
-// What stands at the head of a slice.
+// What stands at the head of a slice. An enum of its own, since there are three answers.
 #[derive(Clone, Copy, Debug, PartialEq, Eq)]
 pub enum Step {
     // A well-formed sequence of `len` bytes, and its code point.
@@ -196,7 +196,7 @@ fn measure_head(s: &[u8]) -> usize
     }
 }
 
-// The length of the sequence at a place of `s` before its end; 0 where none begins.
+// The length of the sequence at a place of `s` before its end; 0 where none begins, and no None, since the definition `length_of` says 0.
 pub fn measure(s: &[u8], at: usize) -> usize
     requires { at < length s.now }
     ensures { result ≡ length_of (step_of (drop at s.now)) }

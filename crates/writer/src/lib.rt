@@ -133,7 +133,12 @@ pub fn write_arrays<'a>(
 }
 
 // As `write_arrays`, of a profile record.
-pub fn write(version: u32, words: &[u32], profile: Profile, out: &mut [u8]) -> Result<usize, Refusal>
+pub fn write(
+    version: u32,
+    words: &[u32],
+    profile: Profile,
+    out: &mut [u8],
+) -> Result<usize, Refusal>
     ensures { (result ≡ write_of words.now profile (length out.old)) × (out.new ≡ bytes_after version words.now profile out.old) }
 {
     write_arrays(

@@ -6,7 +6,7 @@ use Rattle.changes.proofs.list_section.Goals as goal
 use Rattle.changes.proofs.list_section.Goals.{then-t, then-count-room, else-count-room, else-t}
 
 pub loop-next-init : goal.loop-next-init
-loop-next-init c = turn_begins c.requires.older_value c.requires.newer_value c.requires.room_in_bounds c.first_overlap.ensures.first_value c.first_overlap.ensures.overlap
+loop-next-init c = turn_begins c.requires c.first.ensures.first_value c.first.ensures.overlap
 
 pub put_change-requires : goal.put_change-requires
 put_change-requires c =
@@ -19,7 +19,7 @@ overflow_add-count c = omega (arith, turn_few (rw c.in-Some.is at c.loop-next.in
 pub loop-next-preserved : goal.loop-next-preserved
 loop-next-preserved c =
     let w = rw c.in-Some.is at c.loop-next.invariant in
-    let o = c.next_overlap-next.ensures in
+    let o = c.next-next.ensures in
     elim c.if-t.branch [
       | then-t k ↦
           rw (k.out-is, k.count-is, k.at-is)

@@ -7,7 +7,7 @@ use Rattle.changes.proofs.LoopLaws.{Turn}
 use Rattle.changes.proofs.list_section.Given as goal
 
 abbrev pub invariant-loop-next : goal.invariant-loop-next
-invariant-loop-next l = Turn l.older l.newer l.section l.room l.initial.out l.out l.next l.count l.at
+invariant-loop-next l = Turn l.overlaps.older.now l.overlaps.newer.now l.overlaps.section l.room l.initial.out l.out l.next l.count l.at
 
 abbrev pub decreases-loop-next : goal.decreases-loop-next
 decreases-loop-next l = code_points - stands_at l.next

@@ -6,7 +6,7 @@ use Rattle.pair.proofs.OverlapLaws.{stands_at, Clear}
 use Rattle.pair.proofs.first_forbidden.Given as goal
 
 abbrev pub invariant-loop-next : goal.invariant-loop-next
-invariant-loop-next l = Clear l.older l.newer (stands_at l.next) × OverlapAt l.older l.newer Ranges (stands_at l.next) l.next
+invariant-loop-next l = Clear l.fn.older l.fn.newer (stands_at l.next) × OverlapAt l.fn.older l.fn.newer Ranges (stands_at l.next) l.next
 
 abbrev pub decreases-loop-next : goal.decreases-loop-next
 decreases-loop-next l = code_points - stands_at l.next

@@ -5,9 +5,8 @@ use Rattle.std.specs.Prelude.{Ok, Err}
 use Rattle.refusal.specs.declared.Refusal.TheVariants as refusal
 use Rattle.image.specs.declared.Profile.{Profile}
 use Rattle.image.specs.Limits.{max_ranges, max_entries}
-use Rattle.image.specs.Ranges.{range_in, first_bad_range, good_alone, follows}
-use Rattle.image.specs.Profile.{point_in, role_in, first_bad_entry}
-use Rattle.image.proofs.RecordsLaws.{range_found, entry_found, none_found}
+use Rattle.image.specs.Ranges.{range_in, good_alone, follows}
+use Rattle.image.specs.Profile.{point_in, role_in}
 use Rattle.image.specs.Order.{entry_by, rises, first_bad}
 use Rattle.image.proofs.OrderLaws as order
 use Rattle.writer.specs.Write.{ranges_in, bytes_needed, write_within, write_of, write_refusal_within, write_refusal}

@@ -13,7 +13,7 @@ of-requires c = let f = within_limits _ c.self.invariant in omega arith
 pub returns : goal.returns
 returns c =
     rw (← c.self.view_is) (
-      let s = c.self.inside.bytes.now in
-      let e : c.get-entry.result ≡ entry_by (point_at s) (role_at s) c.args.i = entry_same _ c.of.ensures.0 c.get-entry.ensures in
-      ap (λ (x : Entry). record { first = x.point; last = x.point; class = x.role }) e
+    let s = c.self.inside.bytes.now in
+    let e : c.get-entry.result ≡ entry_by (point_at s) (role_at s) c.args.i = entry_same _ c.of.ensures.0 c.get-entry.ensures in
+    ap (λ (x : Entry). record { first = x.point; last = x.point; class = x.role }) e
     )

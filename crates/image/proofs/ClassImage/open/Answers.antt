@@ -1,7 +1,6 @@
 -- `image::ClassImage::open` meets its contract. Assumes nothing.
-use mathlib.Core.Path.{refl, sym, ap}
+use mathlib.Core.Path.{refl}
 use Rattle.std.proofs.lemmas.Result.{err_from_is_err_and}
-use Rattle.image.specs.Opened.{opened_by}
 use Rattle.image.proofs.ImageLaws.{refused_by, accepted_by}
 use Rattle.image.proofs.ClassImage.open.Goals as goal
 

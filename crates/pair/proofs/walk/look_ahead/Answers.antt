@@ -7,7 +7,7 @@ pub returns-then-n-i : goal.returns-then-n-i
 returns-then-n-i c = ends_ahead c.requires.walk c.requires.n_value c.requires.x_le_last_code_point (omega (arith, c.requires.n_value, c.if-n-i.true))
 
 pub record_at-r-requires : goal.record_at-r-requires
-record_at-r-requires c = record { image_value = c.requires.walk.accepted; i_bound = omega (arith, c.requires.n_value, c.if-n-i.false) }
+record_at-r-requires c = omega (arith, c.requires.n_value, c.if-n-i.false)
 
 pub returns-then-x-r : goal.returns-then-x-r
 returns-then-x-r c = gap_ahead c.requires.walk c.requires.n_value c.requires.x_le_last_code_point (omega (arith, c.requires.n_value, c.if-n-i.false)) c.record_at-r.ensures c.if-x-r.true
