@@ -10,11 +10,7 @@ fn show_tokens(rt: &impl Print) -> io::Result<()> {
     print_listing(rt, Ok(0), &[])?;
     print_listing(rt, Ok(2), &[1, 0, 5, 1, 2, 5, 6, 1])?;
     print_listing(rt, Ok(2), &[3, 6, 8, 1, 4, 8, 10, 1])?;
-    print_listing(
-        rt,
-        Ok(1),
-        &[5, 4294967293, 4294967294, 4294967295],
-    )
+    print_listing(rt, Ok(1), &[5, 4294967293, 4294967294, 4294967295])
 }
 
 // Each refusal with what it carries, a number past 32 bits among them.

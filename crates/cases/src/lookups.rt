@@ -12,9 +12,7 @@ fn show(rt: &impl Print, at: usize, byte: u8, x: u32) -> io::Result<()>
     let image = crate::build::changed(at, byte);
     match lookup::lookup(&image, x) {
         Err(r) => println!(rt; "{x:04x}: refused {r}"),
-        Ok(Probe { class, count }) => {
-            println!(rt; "{x:04x}: class {class} looked at {count}")
-        }
+        Ok(Probe { class, count }) => println!(rt; "{x:04x}: class {class} looked at {count}"),
     }
 }
 

@@ -89,7 +89,7 @@ fn show_written(rt: &impl Print) -> io::Result<()> {
         println!(rt; "{a:02x} {b:02x} {c:02x} {d:02x}")?;
     }
     let mut image = [BEFORE; 100];
-    writer::write(VERSION, &changed(0, 0x20), profile(1, 0x2E, 3), &mut image);
+    let _ = writer::write(VERSION, &changed(0, 0x20), profile(1, 0x2E, 3), &mut image);
     show_read(rt, &image)
 }
 

@@ -30,7 +30,11 @@ fn print_tokens(rt: &impl Print, words: &[u32]) -> io::Result<()> {
 }
 
 // The token lister's answer.
-pub fn print_listing(rt: &impl Print, answer: Result<usize, Refusal>, words: &[u32]) -> io::Result<()>
+pub fn print_listing(
+    rt: &impl Print,
+    answer: Result<usize, Refusal>,
+    words: &[u32],
+) -> io::Result<()>
     requires { TokensFit answer words.now }
 {
     match answer {
