@@ -13,9 +13,6 @@ returns-then-not-is_same_entry c =
     (omega (arith, c.count_records-count.ensures.count, c.loop-i-test.true)) c.loop-i.invariant
     (sym c.is_same_entry.ensures ∙ c.if-not-is_same_entry.true)
 
-pub loop-i-preserved : goal.loop-i-preserved
-loop-i-preserved c = same_next _ _ _ c.loop-i.invariant (sym c.is_same_entry.ensures ∙ c.if-not-is_same_entry.false)
-
 pub returns : goal.returns
 returns c =
     all_same _ _ (omega (arith, c.count_records.ensures.count, c.count_records-count.ensures.count, c.if-count_records-count.false))
