@@ -1,7 +1,7 @@
 -- `pair::has_same_profile` meets its contract. Assumes nothing.
 use mathlib.Core.Path.{sym, ◌∙◌}
 use native.Mathlib.Omega.{arith}
-use Rattle.pair.proofs.ProfileLaws.{other_count, all_same, here_differs, same_next}
+use Rattle.pair.proofs.ProfileLaws.{other_count, all_same, here_differs}
 use Rattle.pair.proofs.has_same_profile.Goals as goal
 
 pub returns-then-count_records-count : goal.returns-then-count_records-count
