@@ -1,11 +1,10 @@
 -- Profile sections compared entry by entry. Assumes nothing.
-use Prim.Native.Nat.{ℕ, ◌+◌, ◌<◌}
+use Prim.Native.Nat.{ℕ, ◌<◌}
 use mathlib.Core.Path.{◌≡◌, refl, sym}
 use mathlib.Core.List.{List}
 use mathlib.Core.Bool.{true, false, not}
 use native.Mathlib.Omega.{arith}
-use borrow.Author.Count.{below_more}
-use borrow.Author.Tests.{eq-eqb, ne_eqb, not-true, not-false}
+use borrow.Author.Tests.{eq-eqb, ne_eqb, not-false}
 use Rattle.lists.proofs.FirstLaws.{first_is, first_none}
 use Rattle.image.specs.Header.{entry_count}
 use Rattle.pair.specs.Pair.{differs_at, same_entries, same_profile}
@@ -28,6 +27,3 @@ module _ (older newer : List ℕ) where
     unfolding same_profile same_entries
     here_differs i l s d =
         sym (simp (eq-eqb _ _ e, first_is (differs_at older newer) (entry_count older) i l (not-false _ d) s, ne_eqb i (entry_count older) (λ z. omega arith)))
-
-  pub same_next : (i : ℕ) → SameTo older newer i → not (differs_at older newer i) ≡ true → SameTo older newer (i + 1)
-  same_next i s d = below_more _ _ s (not-true _ d)
