@@ -97,7 +97,8 @@ fn stop_at(b: usize, known: bool) -> u8
     }
 }
 
-// The table of bytes.
+// The table of bytes. Its fact, `StopsOf`, stands in the clauses of its users: a type with a `bool` parameter for `known` can have no ghost field yet
+// (tried), and two types, one for each, are no plainer.
 fn fill_stops(known: bool) -> [u8; 256]
     ensures { StopsOf known result }
 {
