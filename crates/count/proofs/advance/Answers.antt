@@ -12,7 +12,7 @@ pub overflow_add-next-then-turn-le-BEGINS : goal.overflow_add-next-then-turn-le-
 overflow_add-next-then-turn-le-BEGINS c = omega (arith, advanced_few (advanced_turn _ c.requires.counting_as.counting.less c.requires.count_look c.requires.memo_of.0 _ refl c.if-turn-le-BEGINS.true) c.requires.counting_as)
 
 pub rule-requires : goal.rule-requires
-rule-requires c = record { rules_value = c.requires.rules_value; row_lt_rule_rows = (omega arith, here_small c.requires.count_look.accepted c.requires.count_look.here) }
+rule-requires c = (omega arith, here_small c.requires.count_look.accepted c.requires.count_look.here)
 
 pub overflow_cast-next : goal.overflow_cast-next
 overflow_cast-next c = omega (arith, (counting_turn c.requires.counting_as.counting c.requires.count_look c.if-turn-le-BEGINS.true _ (c.rule.ensures ∙ rule_after _)).less)
@@ -21,7 +21,7 @@ pub returns-then-turn-le-BEGINS : goal.returns-then-turn-le-BEGINS
 returns-then-turn-le-BEGINS c = advanced_turn _ c.requires.counting_as.counting.less c.requires.count_look c.requires.memo_of.0 _ (c.rule.ensures ∙ rule_after _) c.if-turn-le-BEGINS.true
 
 pub rule-requires-then-turn-eq-WAITS : goal.rule-requires-then-turn-eq-WAITS
-rule-requires-then-turn-eq-WAITS c = record { rules_value = c.requires.rules_value; row_lt_rule_rows = (omega arith, here_small c.requires.count_look.accepted c.requires.count_look.here) }
+rule-requires-then-turn-eq-WAITS c = (omega arith, here_small c.requires.count_look.accepted c.requires.count_look.here)
 
 pub overflow_cast-next-then-turn-eq-WAITS : goal.overflow_cast-next-then-turn-eq-WAITS
 overflow_cast-next-then-turn-eq-WAITS c = omega (arith, (counting_waits c.requires.counting_as.counting c.requires.count_look c.if-turn-eq-WAITS.true _ (c.rule-then-turn-eq-WAITS.ensures ∙ rule_waits _)).less)

@@ -35,13 +35,13 @@ pub loop-run-init : goal.loop-run-init
 loop-run-init c = (c.requires.counting_as, c.requires.learning, refl, refl)
 
 pub row_of-row-requires : goal.row_of-row-requires
-row_of-row-requires c = record { rules_value = c.requires.rules_value; state_lt_count_states = c.loop-run.invariant.0.counting.less }
+row_of-row-requires c = c.loop-run.invariant.0.counting.less
 
 pub run_count-run-requires : goal.run_count-run-requires
-run_count-run-requires c = record { cached = c.loop-run.invariant.1.cached; rules_value = c.requires.rules_value; row_bound = (c.if-row-lt-NO_ROW.true, c.row_of-row.ensures c.if-row-lt-NO_ROW.true); counting_as = c.loop-run.invariant.0 }
+run_count-run-requires c = record { cached = c.loop-run.invariant.1.cached; row_bound = (c.if-row-lt-NO_ROW.true, c.row_of-row.ensures c.if-row-lt-NO_ROW.true); counting_as = c.loop-run.invariant.0 }
 
 pub look-requires : goal.look-requires
-look-requires c = let g = goes_on c in record { token_table_of = c.loop-run.invariant.1.cached.ascii; rules_value = c.requires.rules_value; counting_as = g.0; at_in_bounds = g.2 }
+look-requires c = let g = goes_on c in record { token_table_of = c.loop-run.invariant.1.cached.ascii; counting_as = g.0; at_in_bounds = g.2 }
 
 pub shape_of-index-in-Err : goal.shape_of-index-in-Err
 shape_of-index-in-Err c = c.loop-run.invariant.2
