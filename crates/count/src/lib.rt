@@ -216,29 +216,34 @@ fn advance<'a>(
     ensures { Advanced image.now text.now run result }
 {
     let traits = c.traits as usize;
-    let mut next = Run {
+    let next = Run {
         at: run.at + c.len,
         memo: c.memo,
         ..run
     };
-    if turn <= BEGINS {
-        next.count += turn;
-        next.state = rule(AFTER, traits) as u32;
-        return Ok(next);
+    match turn {
+        0..=BEGINS => Ok(Run {
+            count: run.count + turn,
+            state: rule(AFTER, traits) as u32,
+            ..next
+        }),
+        WAITS => Ok(Run {
+            state: rule(WAITING_AFTER, traits) as u32,
+            mid: run.at,
+            ..next
+        }),
+        SETTLES..=JOINS => {
+            let mark = mark_beside(turn, run.mark, run.at);
+            Ok(Run {
+                count: run.count + count_beside(turn),
+                state: state_beside(turn, run.state),
+                mark,
+                refused: refused_beside(turn, run.refused, mark, text.len()),
+                ..next
+            })
+        }
+        _ => Err(grammar::refuse_at(text, run.at)),
     }
-    if turn == WAITS {
-        next.state = rule(WAITING_AFTER, traits) as u32;
-        next.mid = run.at;
-        return Ok(next);
-    }
-    if JOINS < turn {
-        return Err(grammar::refuse_at(text, run.at));
-    }
-    next.count += count_beside(turn);
-    next.state = state_beside(turn, run.state);
-    next.mark = mark_beside(turn, run.mark, run.at);
-    next.refused = refused_beside(turn, run.refused, next.mark, text.len());
-    Ok(next)
 }
 
 // Reads one character, whatever it is and does.
