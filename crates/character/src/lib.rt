@@ -13,7 +13,7 @@ ghost use Rattle.character.specs.Stretch.{StretchOf, WhiteStretchOf, Shared};
 ghost use Rattle.character.specs.Read.{MemoOf, MemoAt, TableOf, TokenTableOf, Settled, ascii_character, ReadAs, ReadTokenAs};
 
 use image::records::Section;
-use image::{ClassImage, WHITE};
+use image::{ClassImage, Range, WHITE};
 use line::{CARRIAGE_RETURN, LINE_FEED};
 
 // In traits the number of White is that of blanks, and line ends and marks have one each.
@@ -29,14 +29,6 @@ const RIGHT_TO_LEFT_MARK: u32 = 0x200F;
 const MEDIAL: u32 = 8;
 
 pub const HASHTAG: u32 = 16;
-
-// Code points from `first` to `last` that have one class in a section of an image.
-#[derive(Clone, Copy, Debug, PartialEq, Eq)]
-pub struct Stretch {
-    pub first: u32,
-    pub last: u32,
-    pub class: u32,
-}
 
 // Code points from `first` to `last` that have the same traits: the class after the profile and kind of White, `MEDIAL` more for a
 // medial, and `HASHTAG` more for role 5.
@@ -88,17 +80,17 @@ fn white_part(x: u32) -> u32
 }
 
 // The code points around `x` that have its kind of White, and what traits have for it: the line ends of ASCII together, any other alone.
-fn white_stretch(x: u32) -> Stretch
+fn white_stretch(x: u32) -> Range
     ensures { WhiteStretchOf x result }
 {
     if x <= CARRIAGE_RETURN && line::is_line_end(x) {
-        Stretch {
+        Range {
             first: LINE_FEED,
             last: CARRIAGE_RETURN,
             class: LINE_ENDS,
         }
     } else {
-        Stretch {
+        Range {
             first: x,
             last: x,
             class: white_part(x),
@@ -107,10 +99,10 @@ fn white_stretch(x: u32) -> Stretch
 }
 
 // The part of two stretches that they share, with the class of the second.
-fn share(a: Stretch, b: Stretch) -> Stretch
+fn share(a: Range, b: Range) -> Range
     ensures { Shared a b result }
 {
-    Stretch {
+    Range {
         first: a.first.max(b.first),
         last: a.last.min(b.last),
         class: b.class,
@@ -151,7 +143,7 @@ fn gap_start(image: &ClassImage, section: Section, i: usize, x: u32) -> u32
 }
 
 // The stretch of x in a section, of which the place of x is i.
-fn stretch_at(image: &ClassImage, section: Section, i: usize, x: u32) -> Stretch
+fn stretch_at(image: &ClassImage, section: Section, i: usize, x: u32) -> Range
     requires placed { Placed (record_at image.now section) (record_count image.now section) i x }
     ensures { StretchOf image.now section x result }
 {
@@ -160,15 +152,11 @@ fn stretch_at(image: &ClassImage, section: Section, i: usize, x: u32) -> Stretch
     } else {
         let r = image.record_at(section, i);
         if r.first <= x {
-            return Stretch {
-                first: r.first,
-                last: r.last,
-                class: r.class,
-            };
+            return r;
         }
         r.first - 1
     };
-    Stretch {
+    Range {
         first: gap_start(image, section, i, x),
         last,
         class: 0,
@@ -205,7 +193,7 @@ fn next_place(image: &ClassImage, section: Section, from: usize, x: u32) -> usiz
 }
 
 // The stretch of x in a section of an accepted image.
-fn find_stretch(image: &ClassImage, section: Section, x: u32) -> Stretch
+fn find_stretch(image: &ClassImage, section: Section, x: u32) -> Range
     ensures { StretchOf image.now section x result }
 {
     let i = place_of(image, section, x);
@@ -214,7 +202,7 @@ fn find_stretch(image: &ClassImage, section: Section, x: u32) -> Stretch
 
 // The code points around `x` that have its class in the ranges, its role and, where it is White after the profile, its kind of White: what
 // its stretches of both sections share.
-fn memo_of(image: &ClassImage, class: Stretch, role: Stretch, x: u32) -> Memo
+fn memo_of(image: &ClassImage, class: Range, role: Range, x: u32) -> Memo
     requires stretch_of { StretchOf image.now Ranges x class }
     requires stretch_of_2 { StretchOf image.now Entries x role }
     ensures { MemoAt image.now x result }
@@ -225,7 +213,7 @@ fn memo_of(image: &ClassImage, class: Stretch, role: Stretch, x: u32) -> Memo
     let part = if after == WHITE {
         share(both, white_stretch(x))
     } else {
-        Stretch {
+        Range {
             class: after,
             ..both
         }
