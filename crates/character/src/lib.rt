@@ -25,13 +25,14 @@ const LEFT_TO_RIGHT_MARK: u32 = 0x200E;
 
 const RIGHT_TO_LEFT_MARK: u32 = 0x200F;
 
-// What traits have more for a medial, and for role 5.
+// What traits have more for a medial, and for role 5. Traits are one number, no struct: a byte of the tables, and a column of those of turns
+// (docs/SPEED.md, "Traits").
 const MEDIAL: u32 = 8;
 
 pub const HASHTAG: u32 = 16;
 
 // Code points from `first` to `last` that have the same traits: the class after the profile and kind of White, `MEDIAL` more for a
-// medial, and `HASHTAG` more for role 5.
+// medial, and `HASHTAG` more for role 5. No `image::Range`: traits are no class, and `MemoOf`, a promise of `no_memo`, speaks of them.
 #[derive(Clone, Copy, Debug, PartialEq, Eq)]
 pub struct Memo {
     pub first: u32,
@@ -40,6 +41,7 @@ pub struct Memo {
 }
 
 // The character at a place: its length in bytes, its code point and traits, and the memo for the next one. Length 0: ill-formed.
+// No Option: `ReadAs` and `ReadTokenAs`, promises of `read` and `read_for_tokens`, speak of `len`.
 #[derive(Clone, Copy, Debug, PartialEq, Eq)]
 pub struct Character {
     pub len: usize,

@@ -21,7 +21,8 @@ use refusal::Refusal;
 
 // The state: nothing yet, 0; an identifier; a medial Syntax right after one, 2; blanks, 3; line ends, 4; a mark after an identifier;
 // another Syntax, 6; another mark, 7; a mark after such a medial; a medial Syntax after a mark after an identifier; an identifier with a
-// medial after it that waits: WAITING, and the state that the medial itself begins, 0 if none.
+// medial after it that waits: WAITING, and the state that the medial itself begins, 0 if none. States and turns are numbers, no enums: they
+// are rows of RULES and what it holds, as `rule`, `row_of` and `Run` promise.
 const NOTHING: u32 = 0;
 
 const IDENTIFIER: u32 = 1;
@@ -304,6 +305,7 @@ pub fn ascii_cell(cells: &[u8], a: u8) -> usize
 }
 
 // How many tokens are complete with four characters of ASCII at a place, after a row; ODD or more where they aren't ASCII, or it isn't known.
+// Test by test: the hot loops were measured so, and a table in place of the tests took longer (docs/SPEED.md, "The loops that mark starts").
 pub fn four_steps<'a>(cells: &'a [u8], text: &'a [u8], at: usize, row: usize) -> usize
     requires small_cells { SmallCells cells.now }
     requires row_bound { (row < 16) × (at + 4 ≤ length text.now) × (get_or text.now at 0 < 0x80) }
@@ -401,7 +403,7 @@ fn run_count<'a>(
     }
 }
 
-// The answer at the text's end.
+// The answer at the text's end. Two tests, each with its refusal: a `match` on the state would need the second as a guard.
 fn finish(text: &[u8], run: Run) -> Result<usize, Refusal>
     requires { (run.mid ≤ length text.now) × (run.count ≤ length text.now) }
     ensures { result ≡ finished_by text.now run }
@@ -439,10 +441,7 @@ pub fn count_on<'a>(
                 break;
             }
         }
-        let next = match look(image, cells, text, run) {
-            Err(r) => return Err(r),
-            Ok(next) => next,
-        };
+        let next = look(image, cells, text, run)?;
         let rows = blocks::learn_at(index, cells, run.rows, text, run.at, next.memo);
         run = Run { rows, ..next };
     }

@@ -10,7 +10,8 @@ ghost use Rattle.turns.specs.First.{first_of, pending_first};
 use image::ClassImage;
 
 // The state of a reader: nothing yet; a token of this kind, 1 to 5; an identifier with a medial after it that waits for the next character:
-// WAITING, and the kind of token that the medial itself begins.
+// WAITING, and the kind of token that the medial itself begins. States and turns are numbers, no enums: they are rows of TURNS and what it
+// holds, as `find_turn` and `state_after` promise.
 const NOTHING: u32 = 0;
 
 const IDENTIFIER: u32 = 1;
