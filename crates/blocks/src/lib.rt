@@ -189,7 +189,8 @@ fn learn(
     rows + 1
 }
 
-// Keeps what the memo tells of the character at a place and its block. The first row that is free then.
+// Keeps what the memo tells of the character at a place and its block. The first row that is free then. Index, cells and rows are no struct:
+// the hot loops take the two slices, and the borrow checker doesn't cover `f(w.index, w.cells)` of two fields behind a reference (tried).
 pub fn learn_at(
     index: &mut [u8],
     cells: &mut [u8],

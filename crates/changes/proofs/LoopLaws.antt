@@ -2,7 +2,6 @@
 use Prim.Native.Nat.{ℕ, suc, ◌+◌, ◌-◌, ◌*◌, ◌≤◌, ◌<◌}
 use mathlib.Core.Path.{◌≡◌, refl, sym, ap, ◌∙◌}
 use mathlib.Core.List.{List, [], ◌∷◌, ◌++◌}
-use mathlib.Core.Option.{none}
 use Rattle.std.specs.Prelude.{Option, Some, None}
 use native.Mathlib.Nat.{mul-suc, mul-zero}
 use native.Mathlib.Omega.{arith}
@@ -11,7 +10,6 @@ use lib.Seq.{take-nil}
 use borrow.Rule.Slice.PartMut.{put_mid}
 use Rattle.lists.specs.Laid.{laid}
 use Rattle.lists.proofs.LaidLaws.{laid_none, laid_step, length-laid, lent}
-use Rattle.image.specs.Check.{refusal_of}
 use Rattle.image.specs.declared.records.Section.{Section}
 use Rattle.image.specs.declared.records.Section.TheVariants.{Ranges, Entries}
 use Rattle.image.proofs.SectionLaws.{few_records}

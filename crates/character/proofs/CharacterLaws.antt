@@ -29,7 +29,6 @@ use Rattle.character.specs.Stretch.{StretchOf, WhiteStretchOf, Shared}
 use Rattle.character.specs.Read.{MemoOf, MemoAt, Settled, ascii_character, ReadBy, ReadAs}
 use Rattle.character.specs.declared.Character.{Character}
 use Rattle.character.specs.declared.Memo.{Memo}
-use Rattle.character.specs.declared.Stretch.{Stretch}
 use Rattle.character.proofs.TraitLaws.{part_other, part_white_lem, token_small, token_traits_lem}
 
 -- traits by the class part and the role
@@ -52,7 +51,7 @@ module _ (s : List ℕ) (x : ℕ) (a : refusal_of s ≡ none) where
       go false = omega (arith, token_small s x a)
 
   -- .. and the class after the profile a part of them
-  pub after_small : (c : Stretch) (role k : ℕ) → StretchOf s Ranges x c → k ≡ after_role role c.class → k ≤ 7
+  pub after_small : (c : Range) (role k : ℕ) → StretchOf s Ranges x c → k ≡ after_role role c.class → k ≤ 7
   after_small c role k f e =
       let h : c.class ≤ 5 = omega (arith, f.same x f.from f.to, range_known s a x) in
       omega (arith, after_known role c.class h)
@@ -81,7 +80,7 @@ memo_known {s} {x} {m} e k a =
     record { from = leb-true _ _ (and_left (leb m.first x) (leb x m.last) f); to = leb-true _ _ (and_right (leb m.first x) (leb x m.last) f); all = a }
 
 -- what the two stretches of x share: one class k after the profile
-module _ (s : List ℕ) (x : ℕ) (c r b : Stretch) (k t : ℕ) (f : StretchOf s Ranges x c) (g : StretchOf s Entries x r) (h : Shared c r b)
+module _ (s : List ℕ) (x : ℕ) (c r b : Range) (k t : ℕ) (f : StretchOf s Ranges x c) (g : StretchOf s Entries x r) (h : Shared c r b)
     (e : k ≡ after_role r.class c.class) where
   traits_in : (y : ℕ) → b.first ≤ y → y ≤ b.last → traits_of s y ≡ joined (class_part k y) r.class
   traits_in y l u =
@@ -101,7 +100,7 @@ module _ (s : List ℕ) (x : ℕ) (c r b : Stretch) (k t : ℕ) (f : StretchOf s
 
   -- and the part that they share with the kind of White
   pub memo_white :
-      (w a : Stretch) → k ≡ 4 → WhiteStretchOf x w → Shared b w a → t ≡ joined a.class r.class
+      (w a : Range) → k ≡ 4 → WhiteStretchOf x w → Shared b w a → t ≡ joined a.class r.class
       → MemoAt s x (record { first = a.first; last = a.last; traits = t })
   memo_white w a z v m q =
       record {

@@ -13,7 +13,7 @@ ghost use Rattle.character.specs.Stretch.{StretchOf, WhiteStretchOf, Shared};
 ghost use Rattle.character.specs.Read.{MemoOf, MemoAt, TableOf, TokenTableOf, Settled, ascii_character, ReadAs, ReadTokenAs};
 
 use image::records::Section;
-use image::{ClassImage, WHITE};
+use image::{ClassImage, Range, WHITE};
 use line::{CARRIAGE_RETURN, LINE_FEED};
 
 // In traits the number of White is that of blanks, and line ends and marks have one each.
@@ -25,21 +25,14 @@ const LEFT_TO_RIGHT_MARK: u32 = 0x200E;
 
 const RIGHT_TO_LEFT_MARK: u32 = 0x200F;
 
-// What traits have more for a medial, and for role 5.
+// What traits have more for a medial, and for role 5. Traits are one number, no struct: a byte of the tables, and a column of those of turns
+// (docs/SPEED.md, "Traits").
 const MEDIAL: u32 = 8;
 
 pub const HASHTAG: u32 = 16;
 
-// Code points from `first` to `last` that have one class in a section of an image.
-#[derive(Clone, Copy, Debug, PartialEq, Eq)]
-pub struct Stretch {
-    pub first: u32,
-    pub last: u32,
-    pub class: u32,
-}
-
 // Code points from `first` to `last` that have the same traits: the class after the profile and kind of White, `MEDIAL` more for a
-// medial, and `HASHTAG` more for role 5.
+// medial, and `HASHTAG` more for role 5. No `image::Range`: traits are no class, and `MemoOf`, a promise of `no_memo`, speaks of them.
 #[derive(Clone, Copy, Debug, PartialEq, Eq)]
 pub struct Memo {
     pub first: u32,
@@ -48,6 +41,7 @@ pub struct Memo {
 }
 
 // The character at a place: its length in bytes, its code point and traits, and the memo for the next one. Length 0: ill-formed.
+// No Option: `ReadAs` and `ReadTokenAs`, promises of `read` and `read_for_tokens`, speak of `len`.
 #[derive(Clone, Copy, Debug, PartialEq, Eq)]
 pub struct Character {
     pub len: usize,
@@ -88,17 +82,17 @@ fn white_part(x: u32) -> u32
 }
 
 // The code points around `x` that have its kind of White, and what traits have for it: the line ends of ASCII together, any other alone.
-fn white_stretch(x: u32) -> Stretch
+fn white_stretch(x: u32) -> Range
     ensures { WhiteStretchOf x result }
 {
     if x <= CARRIAGE_RETURN && line::is_line_end(x) {
-        Stretch {
+        Range {
             first: LINE_FEED,
             last: CARRIAGE_RETURN,
             class: LINE_ENDS,
         }
     } else {
-        Stretch {
+        Range {
             first: x,
             last: x,
             class: white_part(x),
@@ -107,10 +101,10 @@ fn white_stretch(x: u32) -> Stretch
 }
 
 // The part of two stretches that they share, with the class of the second.
-fn share(a: Stretch, b: Stretch) -> Stretch
+fn share(a: Range, b: Range) -> Range
     ensures { Shared a b result }
 {
-    Stretch {
+    Range {
         first: a.first.max(b.first),
         last: a.last.min(b.last),
         class: b.class,
@@ -151,7 +145,7 @@ fn gap_start(image: &ClassImage, section: Section, i: usize, x: u32) -> u32
 }
 
 // The stretch of x in a section, of which the place of x is i.
-fn stretch_at(image: &ClassImage, section: Section, i: usize, x: u32) -> Stretch
+fn stretch_at(image: &ClassImage, section: Section, i: usize, x: u32) -> Range
     requires placed { Placed (record_at image.now section) (record_count image.now section) i x }
     ensures { StretchOf image.now section x result }
 {
@@ -160,15 +154,11 @@ fn stretch_at(image: &ClassImage, section: Section, i: usize, x: u32) -> Stretch
     } else {
         let r = image.record_at(section, i);
         if r.first <= x {
-            return Stretch {
-                first: r.first,
-                last: r.last,
-                class: r.class,
-            };
+            return r;
         }
         r.first - 1
     };
-    Stretch {
+    Range {
         first: gap_start(image, section, i, x),
         last,
         class: 0,
@@ -205,7 +195,7 @@ fn next_place(image: &ClassImage, section: Section, from: usize, x: u32) -> usiz
 }
 
 // The stretch of x in a section of an accepted image.
-fn find_stretch(image: &ClassImage, section: Section, x: u32) -> Stretch
+fn find_stretch(image: &ClassImage, section: Section, x: u32) -> Range
     ensures { StretchOf image.now section x result }
 {
     let i = place_of(image, section, x);
@@ -214,7 +204,7 @@ fn find_stretch(image: &ClassImage, section: Section, x: u32) -> Stretch
 
 // The code points around `x` that have its class in the ranges, its role and, where it is White after the profile, its kind of White: what
 // its stretches of both sections share.
-fn memo_of(image: &ClassImage, class: Stretch, role: Stretch, x: u32) -> Memo
+fn memo_of(image: &ClassImage, class: Range, role: Range, x: u32) -> Memo
     requires stretch_of { StretchOf image.now Ranges x class }
     requires stretch_of_2 { StretchOf image.now Entries x role }
     ensures { MemoAt image.now x result }
@@ -225,7 +215,7 @@ fn memo_of(image: &ClassImage, class: Stretch, role: Stretch, x: u32) -> Memo
     let part = if after == WHITE {
         share(both, white_stretch(x))
     } else {
-        Stretch {
+        Range {
             class: after,
             ..both
         }

@@ -12,7 +12,6 @@ use Rattle.std.specs.Prelude.{Err, Result, Ok}
 use Rattle.refusal.specs.declared.Refusal.{Refusal}
 use Rattle.character.specs.Read.{MemoOf}
 use Rattle.character.specs.declared.Memo.{Memo}
-use Rattle.grammar.specs.Counted.{count_through}
 use Rattle.turns.specs.Turns.{start_by}
 use Rattle.turns.proofs.ReachLaws.{here_small}
 use Rattle.count.specs.Turns.{count_waiting, count_states, count_after_of, count_waiting_of, count_beside, state_beside, mark_beside, refused_beside}

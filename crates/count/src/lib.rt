@@ -12,7 +12,7 @@ ghost use Rattle.count.specs.Counting.{CountingFrom, CountingAs, CountLook, Adva
 ghost use Rattle.count.specs.Turns.{count_states, count_pending_of, count_beside, state_beside, mark_beside, refused_beside};
 ghost use Rattle.count.specs.Steps.{row_state};
 ghost use Rattle.count.specs.Four.{SmallCells, FourSteps};
-ghost use Rattle.count.specs.Rules.{rule_rows, rule_for, rule_table};
+ghost use Rattle.count.specs.Rules.{rule_rows, rule_for};
 
 use blocks::BLOCKS;
 use character::{Character, Memo};
@@ -21,7 +21,8 @@ use refusal::Refusal;
 
 // The state: nothing yet, 0; an identifier; a medial Syntax right after one, 2; blanks, 3; line ends, 4; a mark after an identifier;
 // another Syntax, 6; another mark, 7; a mark after such a medial; a medial Syntax after a mark after an identifier; an identifier with a
-// medial after it that waits: WAITING, and the state that the medial itself begins, 0 if none.
+// medial after it that waits: WAITING, and the state that the medial itself begins, 0 if none. States and turns are numbers, no enums: they
+// are rows of RULES and what it holds, as `rule`, `row_of` and `Run` promise.
 const NOTHING: u32 = 0;
 
 const IDENTIFIER: u32 = 1;
@@ -63,7 +64,7 @@ pub const NO_ROW: usize = 16;
 // 16 to 31, its turn, by the state;
 // then the state after a character with which a token goes on or begins and no mark is beside it, after a medial that waits, and after a
 // character that a step was told of; of each state a row of the steps, and traits of the token under way.
-pub const RULES: [u8; 592] = *b"\
+static RULES: [u8; 592] = *b"\
 \xff\x00\xff\x00\x00\xff\x00\x00\xff\x00\xff\xff\xff\xff\xff\xff\
 \xff\x00\x00\x01\x01\xff\x01\xff\x00\x00\x00\x00\x00\x00\x00\x00\
 \xff\x00\x00\x01\x01\xff\x01\xff\x00\x00\x00\x00\x00\x00\x00\x00\
@@ -116,12 +117,11 @@ const STATE_ROWS: usize = 35;
 pub const STATE_TRAITS: usize = 36;
 
 // Number t of a row of the rules.
-pub fn rule(rules: &[u8; 592], row: usize, t: usize) -> usize
-    requires rules_value { rules.now ≡ rule_table }
-    requires row_lt_rule_rows { (row < rule_rows) × (t < 16) }
+pub fn rule(row: usize, t: usize) -> usize
+    requires { (row < rule_rows) × (t < 16) }
     ensures { result ≡ rule_for row t }
 {
-    rules[row * 16 + t] as usize
+    RULES[row * 16 + t] as usize
 }
 
 // How many tokens are complete with a turn beside a mark.
@@ -206,54 +206,55 @@ pub fn begin(text: &[u8], rows: usize) -> Run
 // What a character does that was read, where it settles nothing: `turn` is its own.
 fn advance<'a>(
     image: &ClassImage,
-    rules: &'a [u8; 592],
     text: &'a [u8],
     run: Run,
     c: Character,
     turn: usize,
 ) -> Result<Run, Refusal>
-    requires rules_value { rules.now ≡ rule_table }
     requires counting_as { CountingAs image.now text.now run }
     requires count_look { CountLook image.now text.now run.state run.at c.len c.traits turn }
     requires memo_of { MemoOf image.now c.memo × (turn ≡ 3 → ⊥) }
     ensures { Advanced image.now text.now run result }
 {
     let traits = c.traits as usize;
-    let mut next = Run {
+    let next = Run {
         at: run.at + c.len,
         memo: c.memo,
         ..run
     };
-    if turn <= BEGINS {
-        next.count += turn;
-        next.state = rule(rules, AFTER, traits) as u32;
-        return Ok(next);
+    match turn {
+        0..=BEGINS => Ok(Run {
+            count: run.count + turn,
+            state: rule(AFTER, traits) as u32,
+            ..next
+        }),
+        WAITS => Ok(Run {
+            state: rule(WAITING_AFTER, traits) as u32,
+            mid: run.at,
+            ..next
+        }),
+        SETTLES..=JOINS => {
+            let mark = mark_beside(turn, run.mark, run.at);
+            Ok(Run {
+                count: run.count + count_beside(turn),
+                state: state_beside(turn, run.state),
+                mark,
+                refused: refused_beside(turn, run.refused, mark, text.len()),
+                ..next
+            })
+        }
+        _ => Err(grammar::refuse_at(text, run.at)),
     }
-    if turn == WAITS {
-        next.state = rule(rules, WAITING_AFTER, traits) as u32;
-        next.mid = run.at;
-        return Ok(next);
-    }
-    if JOINS < turn {
-        return Err(grammar::refuse_at(text, run.at));
-    }
-    next.count += count_beside(turn);
-    next.state = state_beside(turn, run.state);
-    next.mark = mark_beside(turn, run.mark, run.at);
-    next.refused = refused_beside(turn, run.refused, next.mark, text.len());
-    Ok(next)
 }
 
 // Reads one character, whatever it is and does.
 pub fn look<'a>(
     image: &ClassImage,
     cells: &'a [u8],
-    rules: &'a [u8; 592],
     text: &'a [u8],
     run: Run,
 ) -> Result<Run, Refusal>
     requires token_table_of { TokenTableOf image.now cells.now }
-    requires rules_value { rules.now ≡ rule_table }
     requires counting_as { CountingAs image.now text.now run }
     requires at_in_bounds { run.at < length text.now }
     ensures { Looked image.now text.now run result }
@@ -263,9 +264,9 @@ pub fn look<'a>(
     if c.len == 0 {
         return Err(grammar::refuse_at(text, run.at));
     }
-    let turn = rule(rules, TURNS + run.state as usize, c.traits as usize);
+    let turn = rule(TURNS + run.state as usize, c.traits as usize);
     if turn != SETTLES {
-        return advance(image, rules, text, run, c, turn);
+        return advance(image, text, run, c, turn);
     }
     if run.state == WAITING {
         return Err(grammar::refuse_at(text, run.mid));
@@ -276,8 +277,8 @@ pub fn look<'a>(
         mark: run.mid,
         ..run
     };
-    let turn = rule(rules, TURNS + next.state as usize, c.traits as usize);
-    advance(image, rules, text, next, c, turn)
+    let turn = rule(TURNS + next.state as usize, c.traits as usize);
+    advance(image, text, next, c, turn)
 }
 
 // At each place before this one four bytes stand.
@@ -288,12 +289,11 @@ pub fn known_end(n: usize) -> usize
 }
 
 // The row of the steps that leads on from a state; NO_ROW if there is none.
-pub fn row_of(rules: &[u8; 592], state: u32) -> usize
-    requires rules_value { rules.now ≡ rule_table }
-    requires state_lt_count_states { state < count_states }
+pub fn row_of(state: u32) -> usize
+    requires { state < count_states }
     ensures { result < 16 → state ≡ row_state result }
 {
-    rule(rules, STATE_ROWS, state as usize)
+    rule(STATE_ROWS, state as usize)
 }
 
 // What is known of an ASCII byte.
@@ -305,15 +305,9 @@ pub fn ascii_cell(cells: &[u8], a: u8) -> usize
 }
 
 // How many tokens are complete with four characters of ASCII at a place, after a row; ODD or more where they aren't ASCII, or it isn't known.
-pub fn four_steps<'a>(
-    cells: &'a [u8],
-    rules: &'a [u8; 592],
-    text: &'a [u8],
-    at: usize,
-    row: usize,
-) -> usize
+// Test by test: the hot loops were measured so, and a table in place of the tests took longer (docs/SPEED.md, "The loops that mark starts").
+pub fn four_steps<'a>(cells: &'a [u8], text: &'a [u8], at: usize, row: usize) -> usize
     requires small_cells { SmallCells cells.now }
-    requires rules_value { rules.now ≡ rule_table }
     requires row_bound { (row < 16) × (at + 4 ≤ length text.now) × (get_or text.now at 0 < 0x80) }
     ensures { result < 128 → FourSteps cells.now text.now at row result }
 {
@@ -334,10 +328,7 @@ pub fn four_steps<'a>(
     let second = ascii_cell(cells, b);
     let third = ascii_cell(cells, c);
     let fourth = ascii_cell(cells, d);
-    rule(rules, row, first)
-        + rule(rules, first, second)
-        + rule(rules, second, third)
-        + rule(rules, third, fourth)
+    rule(row, first) + rule(first, second) + rule(second, third) + rule(third, fourth)
 }
 
 // Counts on as far as what characters do is known from the one before. The row is the traits of the last character, or of one that leads to
@@ -346,13 +337,11 @@ fn run_count<'a>(
     image: &ClassImage,
     index: &'a [u8],
     cells: &'a [u8],
-    rules: &'a [u8; 592],
     text: &'a [u8],
     row: usize,
     run: Run,
 ) -> Run
     requires cached { Cached image.now index.now cells.now }
-    requires rules_value { rules.now ≡ rule_table }
     requires row_bound { (row < 16) × (run.state ≡ row_state row) }
     requires counting_as { CountingAs image.now text.now run }
     ensures { CountingAs image.now text.now result × (run.at ≤ result.at) × (result.rows ≡ run.rows) }
@@ -368,7 +357,7 @@ fn run_count<'a>(
     macro_rules! step {
         ($traits:expr, $len:expr) => {
             let traits = $traits;
-            let step = rule(rules, row, traits);
+            let step = rule(row, traits);
             if ODD <= step {
                 break;
             }
@@ -383,7 +372,7 @@ fn run_count<'a>(
     while at < end {
         let a = text[at];
         if a < 0x80 {
-            let four = four_steps(cells, rules, text, at, row);
+            let four = four_steps(cells, text, at, row);
             if four < ODD {
                 count += four;
                 last = at + 3;
@@ -407,14 +396,14 @@ fn run_count<'a>(
     }
     Run {
         at,
-        state: rule(rules, ROW_STATES, row) as u32,
+        state: rule(ROW_STATES, row) as u32,
         count,
         mid: last,
         ..run
     }
 }
 
-// The answer at the text's end.
+// The answer at the text's end. Two tests, each with its refusal: a `match` on the state would need the second as a guard.
 fn finish(text: &[u8], run: Run) -> Result<usize, Refusal>
     requires { (run.mid ≤ length text.now) × (run.count ≤ length text.now) }
     ensures { result ≡ finished_by text.now run }
@@ -433,12 +422,10 @@ pub fn count_on<'a>(
     image: &ClassImage,
     index: &mut [u8],
     cells: &mut [u8],
-    rules: &'a [u8; 592],
     text: &'a [u8],
     run: Run,
 ) -> Result<usize, Refusal>
     requires learning { Learning image.now index.old cells.old run.rows }
-    requires rules_value { rules.now ≡ rule_table }
     requires counting_as { CountingAs image.now text.now run }
     ensures value { result ≡ count_through image.now text.now }
     ensures learnt { Learnt image.now index.new cells.new }
@@ -447,17 +434,14 @@ pub fn count_on<'a>(
     let mut run = run;
     // `while`: each round goes on as far as characters are known, and by one that is not.
     while run.at < text.len() {
-        let row = row_of(rules, run.state);
+        let row = row_of(run.state);
         if row < NO_ROW {
-            run = run_count(image, index, cells, rules, text, row, run);
+            run = run_count(image, index, cells, text, row, run);
             if text.len() <= run.at {
                 break;
             }
         }
-        let next = match look(image, cells, rules, text, run) {
-            Err(r) => return Err(r),
-            Ok(next) => next,
-        };
+        let next = look(image, cells, text, run)?;
         let rows = blocks::learn_at(index, cells, run.rows, text, run.at, next.memo);
         run = Run { rows, ..next };
     }

@@ -10,13 +10,13 @@ use Rattle.std.specs.Prelude.{Ok, Err}
 use Rattle.lists.specs.Laid.{laid}
 use Rattle.lists.proofs.LaidLaws.{laid_none, laid_step, length-laid, lent}
 use Rattle.utf8.specs.Text.{characters_at, width_of, text_of, shift, Form}
-use Rattle.utf8.proofs.TextLaws.{shift_zero, end_here, characters_end}
+use Rattle.utf8.proofs.TextLaws.{shift_zero}
 use Rattle.line.specs.Line.{LineAt}
 use Rattle.line.proofs.LineLaws.{line_begins}
 use Rattle.grammar.specs.Record.{record_size, token_words}
 use Rattle.hashtag.specs.Find.{Span, run_of, hashtags_of}
 use Rattle.hashtag.specs.Listed.{hashtag_kind, span_words, spans_words, hashtags_through, counted_through, closed_by}
-use Rattle.hashtag.specs.Seek.{hashtags_at, Sought, SignFound, NoneFound}
+use Rattle.hashtag.specs.Seek.{hashtags_at, SignFound, NoneFound}
 use Rattle.hashtag.specs.declared.Sign.{Sign}
 
 -- the words of hashtags

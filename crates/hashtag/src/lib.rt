@@ -97,7 +97,8 @@ fn stop_at(b: usize, known: bool) -> u8
     }
 }
 
-// The table of bytes.
+// The table of bytes. Its fact, `StopsOf`, stands in the clauses of its users: a type with a `bool` parameter for `known` can have no ghost field yet
+// (tried), and two types, one for each, are no plainer.
 fn fill_stops(known: bool) -> [u8; 256]
     ensures { StopsOf known result }
 {
@@ -108,7 +109,7 @@ fn fill_stops(known: bool) -> [u8; 256]
     stops
 }
 
-// What the table has for a byte.
+// What the table has for a byte. The table goes with the text as an argument, and is no field of `Reader`: the two passes have one each.
 fn look(stops: &[u8; 256], b: u8) -> u8
     ensures { (known : Bool) → StopsOf known stops.now → result ≡ stop_for known b }
 {
@@ -130,7 +131,7 @@ fn skip<'a>(stops: &'a [u8; 256], text: &'a [u8], from: usize) -> usize
     text.len()
 }
 
-// The sum of what the table has for four bytes.
+// The sum of what the table has for four bytes. Written out: `map` and `sum` would be no shorter, and their sum would need its bound told.
 fn look_four<'a>(stops: &'a [u8; 256], s: &'a [u8]) -> u8
     requires stops_of { StopsOf true stops.now }
     requires in_bounds { 4 ≤ length s.now }
@@ -336,7 +337,11 @@ fn close(text: &[u8], at: usize, count: usize) -> Result<usize, Refusal>
 }
 
 // The number of hashtags.
-fn count_hashtags<'a>(image: &ClassImage, table: &'a [u8; 128], text: &'a [u8]) -> Result<usize, Refusal>
+fn count_hashtags<'a>(
+    image: &ClassImage,
+    table: &'a [u8; 128],
+    text: &'a [u8],
+) -> Result<usize, Refusal>
     requires table_of { TableOf image.now table.now }
     ensures { result ≡ counted_through image.now text.now }
 {

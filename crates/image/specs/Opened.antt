@@ -1,4 +1,3 @@
--- Inner: no public statement cites this file.
 -- What opening an image gives, by the refusal of its bytes, and what an accepted image tells at once.
 use Rattle.std.specs.Prelude.{ℕ, List, Result, Ok, Err}
 use Rattle.std.proofs.Math.Option.{Option, none, some}

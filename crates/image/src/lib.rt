@@ -92,7 +92,7 @@ const FIRST_SURROGATE: u32 = 0xD800;
 const LAST_SURROGATE: u32 = 0xDFFF;
 
 // Code points from `first` to `last` with one class.
-#[derive(Clone, Copy)]
+#[derive(Clone, Copy, Debug, PartialEq, Eq)]
 pub struct Range {
     pub first: u32,
     pub last: u32,
@@ -109,7 +109,7 @@ pub struct Profile {
 }
 
 // What the header of an accepted image tells.
-#[derive(Clone, Copy)]
+#[derive(Clone, Copy, Debug, PartialEq, Eq)]
 pub struct Summary {
     pub version: u32,
     pub ranges: usize,

@@ -90,7 +90,7 @@ impl Record for Range {
 }
 
 // A profile entry: a code point and its role.
-#[derive(Clone, Copy)]
+#[derive(Clone, Copy, Debug, PartialEq, Eq)]
 pub struct Entry {
     pub point: u32,
     pub role: u32,

@@ -22,7 +22,7 @@ pub const OTHER_ROLE: u32 = 4;
 pub const HASHTAG_ROLE: u32 = 5;
 
 // The two lists of records of an image.
-#[derive(Clone, Copy)]
+#[derive(Clone, Copy, Debug, PartialEq, Eq)]
 pub enum Section {
     Ranges,
     Entries,

@@ -63,6 +63,12 @@ module _ (point role : ℕ → ℕ) (m x : ℕ) where
   role_has r (named i l e) = held i l (omega arith) (omega arith)
   role_has r (no_entry f) = in_none (λ i l a b. f i l (omega arith))
 
+-- the same answer has the same count
+counts_same : (c k d l : ℕ) → found_with c k ≡ found_with d l → k ≡ l
+counts_same c k d l e =
+    let z : record { class = c; count = k } ≡ record { class = d; count = l } = cc in
+    ap (λ (p : Probe). p.count) z
+
 module _ (s : List ℕ) (x : ℕ) where
   abbrev steps : ℕ
   steps = (seek_of (range_at s) 0 (range_count s) x).count
@@ -100,7 +106,6 @@ module _ (s : List ℕ) (x : ℕ) where
       go : (f : Result Probe Refusal) → LookupMeans s x f → f ≡ found_with c k → k ≤ 13
       go f (image_refused r) e = impossible (cc)
       go f (not_scalar a h) e = impossible (cc)
-      go f (found_class {class} {role} a h t r) e =
-          let z : record { class = after_role role class; count = steps } ≡ record { class = c; count = k } = cc in
-          let y : steps ≡ k = ap (λ (p : Probe). p.count) z in
+      go f (found_class a h t r) e =
+          let y : steps ≡ k = counts_same _ _ _ _ e in
           omega (arith, seek_thirteen (range_at s) x (range_count s) (within_limits s (refused_none s a)).few_ranges)

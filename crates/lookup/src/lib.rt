@@ -13,7 +13,7 @@ use image::{ClassImage, UNASSIGNED};
 use refusal::Refusal;
 
 // What a lookup finds: a class, 0 where no range holds the code point; and how many ranges were looked at.
-#[derive(Clone, Copy)]
+#[derive(Clone, Copy, Debug, PartialEq, Eq)]
 pub struct Probe {
     pub class: u32,
     pub count: usize,

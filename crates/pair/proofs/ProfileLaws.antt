@@ -1,33 +1,36 @@
 -- Profile sections compared entry by entry. Assumes nothing.
-use Prim.Native.Nat.{ℕ, ◌+◌, ◌<◌}
-use mathlib.Core.Path.{◌≡◌, refl, sym}
+use Prim.Native.Nat.{ℕ, zero, suc, ◌+◌}
+use mathlib.Core.Path.{◌≡◌, sym}
 use mathlib.Core.List.{List}
-use mathlib.Core.Bool.{true, false, not}
+use mathlib.Core.Bool.{Bool, true, false, not, ◌&&◌, cond}
+use native.Mathlib.Numerals.{add-one}
 use native.Mathlib.Omega.{arith}
-use borrow.Author.Count.{below_more}
-use borrow.Author.Tests.{eq-eqb, ne_eqb, not-true, not-false}
-use Rattle.lists.proofs.FirstLaws.{first_is, first_none}
+use lib.Dec.{eqb}
+use borrow.Author.Tests.{eq-eqb, ne_eqb}
+use Rattle.std.specs.List.{list_all, range_with_len}
+use Rattle.lists.specs.First.{first_from, first_where}
 use Rattle.image.specs.Header.{entry_count}
 use Rattle.pair.specs.Pair.{differs_at, same_entries, same_profile}
 
--- the entries before i are the same
-abbrev pub SameTo : List ℕ → List ℕ → ℕ → Type 0
-SameTo older newer i = (k : ℕ) → k < i → differs_at older newer k ≡ false
+-- whether no test holds: asked of each, and of the first that does
+none_holds : (f : ℕ → Bool) (k i : ℕ) → list_all (λ j. not (f j)) (range_with_len i k) ≡ eqb (first_from f k i) (i + k)
+unfolding first_from
+none_holds f zero i = sym (eq-eqb _ _ (omega arith))
+none_holds f (suc k) i = go (f i) _ (none_holds f k (i + 1))
+  where
+    go : (t b : Bool) → b ≡ eqb (first_from f k (i + 1)) (i + 1 + k) → (not t && b) ≡ eqb (cond t i (first_from f k (suc i))) (i + suc k)
+    go true b h = sym (ne_eqb i (i + suc k) (λ z. omega arith))
+    go false b h = let z : i + suc k ≡ suc i + k = omega arith in rw z (rw add-one at h)
 
 module _ (older newer : List ℕ) where
   pub other_count : (entry_count newer ≡ entry_count older → ⊥) → false ≡ same_profile older newer
   unfolding same_profile
   other_count d = sym (simp (ne_eqb _ _ d))
 
-  module _ (e : entry_count newer ≡ entry_count older) where
-    pub all_same : SameTo older newer (entry_count older) → true ≡ same_profile older newer
-    unfolding same_profile same_entries
-    all_same s = sym (simp (eq-eqb _ _ e, first_none (differs_at older newer) (entry_count older) s, eq-eqb (entry_count older) _ refl))
-
-    pub here_differs : (i : ℕ) → i < entry_count older → SameTo older newer i → not (differs_at older newer i) ≡ false → false ≡ same_profile older newer
-    unfolding same_profile same_entries
-    here_differs i l s d =
-        sym (simp (eq-eqb _ _ e, first_is (differs_at older newer) (entry_count older) i l (not-false _ d) s, ne_eqb i (entry_count older) (λ z. omega arith)))
-
-  pub same_next : (i : ℕ) → SameTo older newer i → not (differs_at older newer i) ≡ true → SameTo older newer (i + 1)
-  same_next i s d = below_more _ _ s (not-true _ d)
+  pub same_count :
+      entry_count newer ≡ entry_count older
+      → list_all (λ i. not (differs_at older newer i)) (range_with_len 0 (entry_count older)) ≡ same_profile older newer
+  unfolding same_profile same_entries first_where
+  same_count e =
+      let z : 0 + entry_count older ≡ entry_count older = omega arith in
+      simp (eq-eqb _ _ e) (rw z at (none_holds (differs_at older newer) (entry_count older) 0))

@@ -16,8 +16,7 @@ use Rattle.image.specs.Records.{record_at, record_count, section_class}
 use Rattle.image.specs.Placed.{Rising}
 use Rattle.image.proofs.RisingLaws.{class_held, class_gap}
 use Rattle.image.proofs.SectionLaws.{records_rise}
-use Rattle.pair.specs.declared.walk.Ahead.{Ahead}
-use Rattle.pair.specs.Walk.{Walk, Stops, AheadOf, Ready}
+use Rattle.pair.specs.Walk.{Walk, Stops, AheadOf}
 
 module _ (s : List ℕ) (a : refusal_of s ≡ none) where
   -- no record goes past the last code point
@@ -141,17 +140,3 @@ module _ {s : List ℕ} {section : Section} {i x m : ℕ} (w : Walk s section i 
       -- in record i
       pub range_ahead : r.first ≤ x → AheadOf s section x (record { last = r.last; class = r.class; next = i + 1; records = m })
       range_ahead p = rw e (inside (rw e at p))
-
--- what is ahead stays so up to its last code point; then comes what follows it
-module _ {s : List ℕ} {section : Section} {x : ℕ} {r : Ahead} (w : Ready s section x r) where
-  pub still_ahead : x ≤ r.last → AheadOf s section x r
-  still_ahead l =
-      let f = w.ahead in
-      record { from = l; to = f.to; same = λ y p q. f.same y (omega arith) q; stops = stops section f.stops; next = f.next; counted = f.counted }
-    where
-      stops : (section : Section) → Stops s section w.begun r.last r.class → Stops s section x r.last r.class
-      stops Ranges g = g
-      stops Entries g = λ h. omega (arith, g h)
-
-  pub what_follows : r.last < x → Walk s section r.next x
-  what_follows l = let z : x ≡ r.last + 1 = omega arith in rw z w.ahead.next

@@ -82,16 +82,8 @@ fn has_same_profile(older: &ClassImage, newer: &ClassImage) -> bool
     ensures { result ≡ same_profile older.now newer.now }
 {
     let count = older.count_records(Section::Entries);
-    if newer.count_records(Section::Entries) != count {
-        return false;
-    }
-    // Tried: `(0..count).all(..)`; the proof didn't close.
-    for i in 0..count {
-        if !is_same_entry(older, newer, i) {
-            return false;
-        }
-    }
-    true
+    newer.count_records(Section::Entries) == count
+        && (0..count).all(|i| is_same_entry(older, newer, i))
 }
 
 // The pair check of two accepted images.

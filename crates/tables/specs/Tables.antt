@@ -64,7 +64,7 @@ use Rattle.image.specs.Profile.{
   is_hashtag,
 }
 use Rattle.image.specs.Image.{header_words, entry_words, bytes_of_all, image_of}
-use Rattle.image.specs.Check.{refusal_of, read_refusal, ranges_of, check_of}
+use Rattle.image.specs.Check.{accepted_with, refusal_of, read_refusal, ranges_of, check_of}
 use Rattle.image.specs.declared.records.Section.TheVariants.{Ranges, Entries}
 use Rattle.lookup.specs.Halving.{seek_of}
 use Rattle.lookup.specs.Lookup.{lookup_of, found_with}

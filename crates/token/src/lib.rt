@@ -10,7 +10,6 @@ ghost use Rattle.grammar.specs.Record.{room_of, listed_words};
 ghost use Rattle.grammar.specs.Before.{max_text, before_text};
 ghost use Rattle.grammar.specs.Reading.{tokens_of, count_of, list_of, list_words};
 ghost use Rattle.grammar.specs.Counted.{counted_by, count_through};
-ghost use Rattle.count.specs.Rules.{rule_table};
 ghost use Rattle.mark.specs.Marking.{Marking};
 ghost use Rattle.write.specs.Records.{Listing};
 ghost use Rattle.token.specs.Taken.{taken_of};
@@ -45,14 +44,18 @@ pub struct Token {
 }
 
 // The number of a text's tokens under a checked image. The index and the cells come blank.
-fn count_with<'a>(image: &ClassImage, index: &mut [u8], cells: &mut [u8], text: &'a [u8]) -> Result<usize, Refusal>
+fn count_with<'a>(
+    image: &ClassImage,
+    index: &mut [u8],
+    cells: &mut [u8],
+    text: &'a [u8],
+) -> Result<usize, Refusal>
     requires blank { Blank index.old × Blank cells.old × (128 ≤ length cells.old) }
     ensures { result ≡ count_through image.now text.now }
 {
-    let rules = count::RULES;
     let rows = blocks::begin(image, cells);
     let run = count::begin(text, rows);
-    count::count_on(image, index, cells, &rules, text, run)
+    count::count_on(image, index, cells, text, run)
 }
 
 // The number of a text's tokens, where nothing before it is refused.
@@ -96,13 +99,11 @@ fn is_room(words: usize, count: usize) -> bool
 // Marks the text's end, in a run that has come there, and a medial before it that waits. How many tokens start from number `done` on.
 fn end_starts<'a>(
     image: &ClassImage,
-    rules: &'a [u8; 592],
     text: &'a [u8],
     starts: &mut [u32],
     done: usize,
     run: Run,
 ) -> usize
-    requires rules_value { rules.now ≡ rule_table }
     requires text_len_bound { length text.now ≤ max_text }
     requires marking { Marking image.now text.now starts.old done run }
     requires text_len_bound_2 { length text.now ≤ run.at }
@@ -111,11 +112,11 @@ fn end_starts<'a>(
 {
     let n = run.count - done + 1;
     if run.state <= WAITING {
-        mark::put_start(rules, starts, n, text.len(), 0);
+        mark::put_start(starts, n, text.len(), 0);
         return n;
     }
-    mark::put_start(rules, starts, n, run.mid, run.state - WAITING);
-    mark::put_start(rules, starts, n + 1, text.len(), 0);
+    mark::put_start(starts, n, run.mid, run.state - WAITING);
+    mark::put_start(starts, n + 1, text.len(), 0);
     n + 1
 }
 
@@ -136,7 +137,6 @@ fn write_all<'a>(
     requires in_bounds { 8 ≤ length starts.old }
     ensures { out.new ≡ laid out.old 0 (listed_words text.now (tokens_of image.now text.now)) }
 {
-    let rules = count::RULES;
     let plain = write::are_plain(image, cells);
     let mut run = Run {
         rows: cells.len(),
@@ -149,12 +149,12 @@ fn write_all<'a>(
         from = write::put_records(image, text, starts, plain, out, total, n, from);
         starts[0] = starts[n];
         done = run.count;
-        let Ok(next) = mark::mark_on(image, index, cells, &rules, text, starts, done, run) else {
+        let Ok(next) = mark::mark_on(image, index, cells, text, starts, done, run) else {
             return; // the text is accepted
         };
         run = next;
     }
-    let n = end_starts(image, &rules, text, starts, done, run);
+    let n = end_starts(image, text, starts, done, run);
     let _last = write::put_records(image, text, starts, plain, out, total, n, from);
 }
 
@@ -178,10 +178,9 @@ fn list_with<'a>(
     if text.len() == 0 {
         return Ok(0);
     }
-    let rules = count::RULES;
     let rows = blocks::begin(image, cells);
-    let run = mark::mark_first(image, index, cells, &rules, text, starts, rows)?;
-    let count = count::count_on(image, index, cells, &rules, text, run)?;
+    let run = mark::mark_first(image, index, cells, text, starts, rows)?;
+    let count = count::count_on(image, index, cells, text, run)?;
     if !is_room(out.len(), count) {
         return Err(Refusal::Room(count));
     }
@@ -249,11 +248,7 @@ fn take_accepted(image: &ClassImage, text: &[u8], place: usize) -> Result<Option
 }
 
 // The token at a place, under an image that was accepted.
-pub fn take_checked(
-    image: &ClassImage,
-    text: &[u8],
-    place: usize,
-) -> Result<Option<Token>, Refusal>
+pub fn take_checked(image: &ClassImage, text: &[u8], place: usize) -> Result<Option<Token>, Refusal>
     ensures { result ≡ taken_of image.now text.now place }
 {
     grammar::judge_checked(image, text, MAX_TEXT)?;

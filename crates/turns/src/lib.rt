@@ -4,12 +4,14 @@
 
 ghost use Rattle.std.specs.Prelude.{◌≡◌, ◌<◌};
 ghost use Rattle.character.specs.Read.{TokenTableOf};
-ghost use Rattle.turns.specs.Turns.{states, waiting_of, turn_of, after_of, turn_table, after_table, waiting_table};
+ghost use Rattle.turns.specs.Turns.{states, waiting_of, turn_of, after_of};
 ghost use Rattle.turns.specs.First.{first_of, pending_first};
+
 use image::ClassImage;
 
 // The state of a reader: nothing yet; a token of this kind, 1 to 5; an identifier with a medial after it that waits for the next character:
-// WAITING, and the kind of token that the medial itself begins.
+// WAITING, and the kind of token that the medial itself begins. States and turns are numbers, no enums: they are rows of TURNS and what it
+// holds, as `find_turn` and `state_after` promise.
 const NOTHING: u32 = 0;
 
 const IDENTIFIER: u32 = 1;
@@ -19,7 +21,7 @@ pub const WAITING: u32 = 6;
 // What a character does, by the state and its traits. No token is complete, since the one under way goes on or the first begins: GOES_ON.
 // The one under way is complete, and another begins: 1. A medial waits: WAITS. The one that waits is settled, and the character has
 // another turn after that: SETTLES. No token begins: any other.
-pub const TURNS: [u8; 192] = *b"\
+static TURNS: [u8; 192] = *b"\
 \x04\x00\x04\x00\x00\x04\x00\x00\x04\x00\x04\x00\x00\x04\x00\x00\
 \x04\x00\x00\x01\x01\x04\x01\x01\x02\x00\x00\x02\x02\x02\x02\x02\
 \x04\x01\x04\x01\x01\x04\x01\x01\x04\x01\x04\x01\x01\x04\x01\x01\
@@ -41,10 +43,10 @@ pub const WAITS: usize = 2;
 pub const SETTLES: usize = 3;
 
 // The state after a character, by its traits, where a token goes on or begins.
-pub const AFTER: [u32; 16] = [0, 1, 1, 2, 3, 0, 4, 5, 0, 1, 1, 2, 3, 0, 4, 5];
+static AFTER: [u32; 16] = [0, 1, 1, 2, 3, 0, 4, 5, 0, 1, 1, 2, 3, 0, 4, 5];
 
 // The state after a medial that waits, by its traits.
-pub const WAITING_AFTER: [u32; 16] = [6, 7, 6, 8, 9, 6, 10, 11, 6, 7, 6, 8, 9, 6, 10, 11];
+static WAITING_AFTER: [u32; 16] = [6, 7, 6, 8, 9, 6, 10, 11, 6, 7, 6, 8, 9, 6, 10, 11];
 
 // What stands at the front of a text.
 #[derive(Clone, Copy, Debug, PartialEq, Eq)]
@@ -60,30 +62,27 @@ pub enum First {
 }
 
 // What a character of these traits does in a state.
-pub fn find_turn(turns: &[u8; 192], state: u32, traits: u32) -> usize
-    requires turns_value { turns.now ≡ turn_table }
-    requires state_lt_states { (state < states) × (traits < 16) }
+pub fn find_turn(state: u32, traits: u32) -> usize
+    requires { (state < states) × (traits < 16) }
     ensures { result ≡ turn_of state traits }
 {
-    turns[(state * 16 + traits) as usize] as usize
+    TURNS[(state * 16 + traits) as usize] as usize
 }
 
 // The state after a character, where a token goes on or begins.
-pub fn state_after(after: &[u32; 16], traits: u32) -> u32
-    requires after_value { after.now ≡ after_table }
-    requires traits_bound { traits < 16 }
+pub fn state_after(traits: u32) -> u32
+    requires { traits < 16 }
     ensures { result ≡ after_of traits }
 {
-    after[traits as usize]
+    AFTER[traits as usize]
 }
 
 // The state after a medial that waits.
-pub fn waiting_after(waiting: &[u32; 16], traits: u32) -> u32
-    requires waiting_value { waiting.now ≡ waiting_table }
-    requires traits_bound { traits < 16 }
+pub fn waiting_after(traits: u32) -> u32
+    requires { traits < 16 }
     ensures { result ≡ waiting_of traits }
 {
-    waiting[traits as usize]
+    WAITING_AFTER[traits as usize]
 }
 
 // The first token, where it is complete at a place.
@@ -109,9 +108,6 @@ pub fn first_token<'a>(image: &ClassImage, table: &'a [u8], text: &'a [u8]) -> F
     ensures { result ≡ first_of image.now text.now }
 {
     image.recall();
-    let turns = TURNS;
-    let after = AFTER;
-    let waiting = WAITING_AFTER;
     let mut memo = character::no_memo();
     let mut state = NOTHING;
     let mut mid = 0;
@@ -126,10 +122,10 @@ pub fn first_token<'a>(image: &ClassImage, table: &'a [u8], text: &'a [u8]) -> F
                 end_first(state, mid, at)
             };
         }
-        match find_turn(&turns, state, c.traits) {
-            GOES_ON => state = state_after(&after, c.traits),
+        match find_turn(state, c.traits) {
+            GOES_ON => state = state_after(c.traits),
             WAITS => {
-                state = waiting_after(&waiting, c.traits);
+                state = waiting_after(c.traits);
                 mid = at;
             }
             _ => return end_first(state, mid, at),

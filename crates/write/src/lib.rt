@@ -97,14 +97,13 @@ pub fn put_records<'a>(
     ensures wrote { Wrote image.now text.now out.old out.new (from.w / record_size) n total × (length out.new ≡ length out.old) }
 {
     image.recall();
-    let kinds = turns::AFTER;
     let mut w = from.w;
     let mut line = from.line;
     for k in 0..n {
         let code = starts[k] as usize;
         let start = code / 16;
         let end = starts[k + 1] as usize / 16;
-        let kind = kinds[code % 16];
+        let kind = turns::state_after((code % 16) as u32);
         grammar::put_record(&mut out[w..], kind, start, end, line);
         w += RECORD_WORDS;
         if may_end_lines(kind, plain) {

@@ -30,11 +30,16 @@ fn c_name(variant: impl Debug) -> String {
     name(variant).chars().flat_map(rises).skip(1).collect()
 }
 
-/// The function of Rattle has the line.
-fn in_rattle(function: &str, line: &str) {
-    let start = RATTLE.find(&format!("pub fn {function}(")).expect("it is there");
-    let body = RATTLE[start..].split("\n}").next().unwrap();
-    assert!(body.contains(line), "no {line} in {function} of Rattle");
+/// The method of Rattle has an arm with the variant, and the arm gives the value.
+fn in_rattle(method: &str, variant: &str, value: &str) {
+    let start = RATTLE.find(&format!("pub fn {method}(")).expect("it is there");
+    let body = RATTLE[start..].split("\n    }\n").next().unwrap();
+    let words: Vec<&str> = body.split_whitespace().collect();
+    let text = words.join(" ");
+    let after = text.split_once(&format!("{variant} ")).map(|(_, after)| after);
+    let given = after.and_then(|after| after.split_once("=> ")).map(|(_, given)| given);
+    let is_given = given.map_or(false, |given| given.starts_with(&format!("{value},")));
+    assert!(is_given, "no {variant} with {value} in {method} of Rattle");
 }
 
 /// The number of a public constant of a Rattle crate, or of a module of one, as `image::records`.
@@ -90,9 +95,10 @@ fn refusals() {
         assert_eq!(in_c(&format!("LUFFINARC_{}", c_name(refusal))), number);
         let count = refusal.carried().count();
         let held = ["", "(_)", " { .. }"][count];
-        in_rattle("number", &format!("Refusal::{}{held} => {number},", name(refusal)));
-        let held = [" => none()", "(n) => one(n)", " { place, len } => two(place, len)"][count];
-        in_rattle("carry", &format!("Refusal::{}{held},", name(refusal)));
+        in_rattle("number", &format!("Refusal::{}{held}", name(refusal)), &number.to_string());
+        let held = ["", "(n)", " { place, len }"][count];
+        let carried = ["[None, None]", "[Some(n), None]", "[Some(place), Some(len)]"][count];
+        in_rattle("carried", &format!("Refusal::{}{held}", name(refusal)), carried);
     }
     assert_eq!(luffinarc_reader::Refusal::named(15, [7, 2]), None);
 }

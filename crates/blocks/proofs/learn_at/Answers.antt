@@ -8,8 +8,7 @@ use Rattle.blocks.proofs.learn_at.Goals as goal
 pub learn-requires-clause-block_in_bounds : goal.learn-requires-clause-block_in_bounds
 learn-requires-clause-block_in_bounds c =
     let r = drop c.args.at c.args.text.now in
-    let e = (unpacked r _ c.decode_packed-packed.ensures (omega (arith, length-drop c.args.at c.args.text.now, c.requires.at_in_bounds))).some (omega arith) in
-    (
+    let e = (unpacked r _ c.decode_packed-packed.ensures (omega (arith, length-drop c.args.at c.args.text.now, c.requires.at_in_bounds))).some (omega arith) in (
       omega (arith, c.if-index-lt-BLOCKS.false),
       c.if-len-lt2.false,
       (step_bounds r _ _ e).short,

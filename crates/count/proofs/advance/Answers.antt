@@ -8,39 +8,39 @@ use Rattle.count.proofs.CountLaws.{counts_stop, counting_turn, counting_waits}
 use Rattle.count.proofs.LookLaws.{advanced_turn, advanced_waits, advanced_beside, advanced_few}
 use Rattle.count.proofs.advance.Goals as goal
 
-pub overflow_add-next-then-turn-le-BEGINS : goal.overflow_add-next-then-turn-le-BEGINS
-overflow_add-next-then-turn-le-BEGINS c = omega (arith, advanced_few (advanced_turn _ c.requires.counting_as.counting.less c.requires.count_look c.requires.memo_of.0 _ refl c.if-turn-le-BEGINS.true) c.requires.counting_as)
+pub overflow_add-result : goal.overflow_add-result
+overflow_add-result c = omega (arith, advanced_few (advanced_turn _ c.requires.counting_as.counting.less c.requires.count_look c.requires.memo_of.0 _ refl (omega arith)) c.requires.counting_as)
 
 pub rule-requires : goal.rule-requires
-rule-requires c = record { rules_value = c.requires.rules_value; row_lt_rule_rows = (omega arith, here_small c.requires.count_look.accepted c.requires.count_look.here) }
+rule-requires c = (omega arith, here_small c.requires.count_look.accepted c.requires.count_look.here)
 
-pub overflow_cast-next : goal.overflow_cast-next
-overflow_cast-next c = omega (arith, (counting_turn c.requires.counting_as.counting c.requires.count_look c.if-turn-le-BEGINS.true _ (c.rule.ensures ∙ rule_after _)).less)
+pub rule-requires-in-0-to-1 : goal.rule-requires-in-0-to-1
+rule-requires-in-0-to-1 c = (omega arith, here_small c.requires.count_look.accepted c.requires.count_look.here)
 
-pub returns-then-turn-le-BEGINS : goal.returns-then-turn-le-BEGINS
-returns-then-turn-le-BEGINS c = advanced_turn _ c.requires.counting_as.counting.less c.requires.count_look c.requires.memo_of.0 _ (c.rule.ensures ∙ rule_after _) c.if-turn-le-BEGINS.true
+pub overflow_cast-result : goal.overflow_cast-result
+overflow_cast-result c = omega (arith, (counting_waits c.requires.counting_as.counting c.requires.count_look c.in-2.is _ (c.rule.ensures ∙ rule_waits _)).less)
 
-pub rule-requires-then-turn-eq-WAITS : goal.rule-requires-then-turn-eq-WAITS
-rule-requires-then-turn-eq-WAITS c = record { rules_value = c.requires.rules_value; row_lt_rule_rows = (omega arith, here_small c.requires.count_look.accepted c.requires.count_look.here) }
+pub overflow_cast-result-in-0-to-1 : goal.overflow_cast-result-in-0-to-1
+overflow_cast-result-in-0-to-1 c = omega (arith, (counting_turn c.requires.counting_as.counting c.requires.count_look (omega arith) _ (c.rule-in-0-to-1.ensures ∙ rule_after _)).less)
 
-pub overflow_cast-next-then-turn-eq-WAITS : goal.overflow_cast-next-then-turn-eq-WAITS
-overflow_cast-next-then-turn-eq-WAITS c = omega (arith, (counting_waits c.requires.counting_as.counting c.requires.count_look c.if-turn-eq-WAITS.true _ (c.rule-then-turn-eq-WAITS.ensures ∙ rule_waits _)).less)
-
-pub returns-then-turn-eq-WAITS : goal.returns-then-turn-eq-WAITS
-returns-then-turn-eq-WAITS c = advanced_waits _ c.requires.counting_as.counting.less c.requires.count_look c.requires.memo_of.0 _ (c.rule-then-turn-eq-WAITS.ensures ∙ rule_waits _) c.if-turn-eq-WAITS.true
-
-pub returns-then-turn-gt-JOINS : goal.returns-then-turn-gt-JOINS
-returns-then-turn-gt-JOINS c = ap Err c.refuse_at.ensures ∙ counts_stop c.requires.counting_as.counting c.requires.count_look (omega (arith, c.if-turn-gt-JOINS.true))
-
-pub overflow_add-next-2 : goal.overflow_add-next-2
-overflow_add-next-2 c =
+pub overflow_add-result-in-3-to-7 : goal.overflow_add-result-in-3-to-7
+overflow_add-result-in-3-to-7 c =
     omega (
       arith,
       advanced_few (advanced_beside _ c.requires.counting_as.counting.less c.requires.count_look c.requires.memo_of.0 _ _ _ _ c.count_beside.ensures refl refl refl
-          (omega (arith, c.if-turn-le-BEGINS.false, c.if-turn-eq-WAITS.false, c.requires.memo_of.1)) c.if-turn-gt-JOINS.false) c.requires.counting_as,
+          (omega (arith, c.requires.memo_of.1)) (omega arith)) c.requires.counting_as,
     )
 
-pub returns : goal.returns
-returns c =
-    advanced_beside _ c.requires.counting_as.counting.less c.requires.count_look c.requires.memo_of.0 _ _ _ _ c.count_beside.ensures c.state_beside.ensures c.mark_beside.ensures c.refused_beside.ensures
-    (omega (arith, c.if-turn-le-BEGINS.false, c.if-turn-eq-WAITS.false, c.requires.memo_of.1)) c.if-turn-gt-JOINS.false
+pub returns-in-0-to-1 : goal.returns-in-0-to-1
+returns-in-0-to-1 c = advanced_turn _ c.requires.counting_as.counting.less c.requires.count_look c.requires.memo_of.0 _ (c.rule-in-0-to-1.ensures ∙ rule_after _) (omega arith)
+
+pub returns-in-2 : goal.returns-in-2
+returns-in-2 c = advanced_waits _ c.requires.counting_as.counting.less c.requires.count_look c.requires.memo_of.0 _ (c.rule.ensures ∙ rule_waits _) c.in-2.is
+
+pub returns-in-3-to-7 : goal.returns-in-3-to-7
+returns-in-3-to-7 c =
+    advanced_beside _ c.requires.counting_as.counting.less c.requires.count_look c.requires.memo_of.0 _ _ _ _ c.count_beside.ensures c.state_beside.ensures c.mark_beside-mark.ensures c.refused_beside.ensures
+    (omega (arith, c.requires.memo_of.1)) (omega arith)
+
+pub returns-in_default : goal.returns-in_default
+returns-in_default c = ap Err c.refuse_at.ensures ∙ counts_stop c.requires.counting_as.counting c.requires.count_look (omega arith)

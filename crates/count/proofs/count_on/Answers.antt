@@ -3,6 +3,7 @@ use Prim.Native.Nat.{◌≤◌, ◌<◌}
 use mathlib.Core.Path.{◌≡◌, refl, sym, subst, ◌∙◌}
 use native.Mathlib.Omega.{arith}
 use lib.ListN.{length}
+use Rattle.std.proofs.lemmas.Result.{err_from_is_err_and}
 use Rattle.blocks.specs.Blocks.{Learning}
 use Rattle.count.specs.Counting.{CountingAs}
 use Rattle.count.proofs.CountLaws.{counting_few, finishes}
@@ -35,34 +36,36 @@ pub loop-run-init : goal.loop-run-init
 loop-run-init c = (c.requires.counting_as, c.requires.learning, refl, refl)
 
 pub row_of-row-requires : goal.row_of-row-requires
-row_of-row-requires c = record { rules_value = c.requires.rules_value; state_lt_count_states = c.loop-run.invariant.0.counting.less }
+row_of-row-requires c = c.loop-run.invariant.0.counting.less
 
 pub run_count-run-requires : goal.run_count-run-requires
-run_count-run-requires c = record { cached = c.loop-run.invariant.1.cached; rules_value = c.requires.rules_value; row_bound = (c.if-row-lt-NO_ROW.true, c.row_of-row.ensures c.if-row-lt-NO_ROW.true); counting_as = c.loop-run.invariant.0 }
+run_count-run-requires c = record { cached = c.loop-run.invariant.1.cached; row_bound = (c.if-row-lt-NO_ROW.true, c.row_of-row.ensures c.if-row-lt-NO_ROW.true); counting_as = c.loop-run.invariant.0 }
 
 pub look-requires : goal.look-requires
-look-requires c = let g = goes_on c in record { token_table_of = c.loop-run.invariant.1.cached.ascii; rules_value = c.requires.rules_value; counting_as = g.0; at_in_bounds = g.2 }
+look-requires c = let g = goes_on c in record { token_table_of = c.loop-run.invariant.1.cached.ascii; counting_as = g.0; at_in_bounds = g.2 }
 
-pub shape_of-index-in-Err : goal.shape_of-index-in-Err
-shape_of-index-in-Err c = c.loop-run.invariant.2
+pub shape_of-index-in_err-next : goal.shape_of-index-in_err-next
+shape_of-index-in_err-next c = c.loop-run.invariant.2
 
-pub shape_of-cells-in-Err : goal.shape_of-cells-in-Err
-shape_of-cells-in-Err c = c.loop-run.invariant.3
+pub shape_of-cells-in_err-next : goal.shape_of-cells-in_err-next
+shape_of-cells-in_err-next c = c.loop-run.invariant.3
 
-pub returns-in-Err : goal.returns-in-Err
-returns-in-Err c = record { value = c.in-Err.ensures; learnt = record { rows = _; learning = c.loop-run.invariant.1 } }
+pub returns-in_err-next : goal.returns-in_err-next
+returns-in_err-next c =
+    let p = err_from_is_err_and c.from_residual.result c.from_residual.ensures.1 in
+    record { value = rw (p.1, p.2) c.in_err-next.ensures; learnt = record { rows = _; learning = c.loop-run.invariant.1 } }
 
 pub learn_at-rows-requires : goal.learn_at-rows-requires
 learn_at-rows-requires c = record { fits = c.loop-run.invariant.1.cached.fits; at_in_bounds = (goes_on (goal.at.learn_at-rows-requires c).Joined-row-lt-NO_ROW).2 }
 
 pub loop-run-smaller : goal.loop-run-smaller
-loop-run-smaller c = let g = goes_on (goal.at.loop-run-smaller c).Joined-row-lt-NO_ROW in omega (arith, g.1, g.2, c.in-Ok.ensures.on)
+loop-run-smaller c = let g = goes_on (goal.at.loop-run-smaller c).Joined-row-lt-NO_ROW in omega (arith, g.1, g.2, c.in_ok-next.ensures.on)
 
 pub loop-run-preserved : goal.loop-run-preserved
 loop-run-preserved c =
     let g = goes_on (goal.at.loop-run-preserved c).Joined-row-lt-NO_ROW in
-    let l = c.learn_at-rows.ensures.by_index _ c.recall.ensures c.in-Ok.ensures.memo (subst (Learning _ _ _) (sym g.3) c.loop-run.invariant.1) in
-    (looked_on _ _ _ _ _ c.in-Ok.ensures g.0, l, omega arith, omega arith)
+    let l = c.learn_at-rows.ensures.by_index _ c.recall.ensures c.in_ok-next.ensures.memo (subst (Learning _ _ _) (sym g.3) c.loop-run.invariant.1) in
+    (looked_on _ _ _ _ _ c.in_ok-next.ensures g.0, l, omega arith, omega arith)
 
 pub finish-requires : goal.finish-requires
 finish-requires c =

@@ -43,10 +43,10 @@ pub returns-then-c-eq0 : goal.returns-then-c-eq0
 returns-then-c-eq0 c = ap Err c.refuse_at.ensures ∙ counts_ill c.requires.counting_as.counting (c.read_for_tokens-c.ensures.none c.if-c-eq0.true)
 
 pub rule-turn-requires : goal.rule-turn-requires
-rule-turn-requires c = record { rules_value = c.requires.rules_value; row_lt_rule_rows = (omega (arith, c.requires.counting_as.counting.less), here_small c.recall.ensures (stands (goal.at.rule-turn-requires c).Else-c-eq0)) }
+rule-turn-requires c = (omega (arith, c.requires.counting_as.counting.less), here_small c.recall.ensures (stands (goal.at.rule-turn-requires c).Else-c-eq0))
 
 pub advance-requires : goal.advance-requires
-advance-requires c = record { rules_value = c.requires.rules_value; counting_as = c.requires.counting_as; count_look = looked (goal.at.advance-requires c).After-rule-turn (stands (goal.at.advance-requires c).Else-c-eq0); memo_of = (c.read_for_tokens-c.ensures.memo, c.if-turn-ne-SETTLES.true) }
+advance-requires c = record { counting_as = c.requires.counting_as; count_look = looked (goal.at.advance-requires c).After-rule-turn (stands (goal.at.advance-requires c).Else-c-eq0); memo_of = (c.read_for_tokens-c.ensures.memo, c.if-turn-ne-SETTLES.true) }
 
 pub returns-then-run-eq-WAITING : goal.returns-then-run-eq-WAITING
 returns-then-run-eq-WAITING c =
@@ -57,14 +57,13 @@ pub overflow_add-next : goal.overflow_add-next
 overflow_add-next c = omega (arith, counting_few (settled (goal.at.overflow_add-next c).Else-run-eq-WAITING (looked (goal.at.overflow_add-next c).After-rule-turn (stands (goal.at.overflow_add-next c).Else-c-eq0)) _ c.requires.counting_as.counting))
 
 pub rule-turn-requires-2 : goal.rule-turn-requires-2
-rule-turn-requires-2 c = record { rules_value = c.requires.rules_value; row_lt_rule_rows = (omega (arith, c.requires.counting_as.counting.less), here_small c.recall.ensures (stands (goal.at.rule-turn-requires-2 c).Else-c-eq0)) }
+rule-turn-requires-2 c = (omega (arith, c.requires.counting_as.counting.less), here_small c.recall.ensures (stands (goal.at.rule-turn-requires-2 c).Else-c-eq0))
 
 pub advance-requires-2 : goal.advance-requires-2
 advance-requires-2 c =
     let i = settled (goal.at.advance-requires-2 c).Else-run-eq-WAITING (looked (goal.at.advance-requires-2 c).After-rule-turn (stands (goal.at.advance-requires-2 c).Else-c-eq0)) _ c.requires.counting_as.counting in
     let l = looked_next (goal.at.advance-requires-2 c).After-rule-turn-2 (stands (goal.at.advance-requires-2 c).Else-c-eq0) in
     record {
-      rules_value = c.requires.rules_value;
       counting_as = record { start = _; counting = i; memo = c.requires.counting_as.memo };
       count_look = l;
       memo_of = (c.read_for_tokens-c.ensures.memo, λ z. absurd (omega (arith, (waits_here i l z).0, c.requires.counting_as.counting.less)));

@@ -10,4 +10,4 @@ use Rattle.count.proofs.row_of.Goals as goal
 pub returns : goal.returns
 returns c h =
     let e : c.rule.result ≡ get_or state_rows c.args.state 0 = c.rule.ensures ∙ rule_row _ in
-    row_at c.args.state c.requires.state_lt_count_states (omega (arith, e, h)) ∙ ap row_state (sym e)
+    row_at c.args.state c.requires (omega (arith, e, h)) ∙ ap row_state (sym e)

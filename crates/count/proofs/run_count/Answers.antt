@@ -34,7 +34,7 @@ took : (c : goal.Then-four-lt-ODD)
 took c = ran_four c.requires.cached.ascii c.recall.ensures c.loop-at.invariant (taken c) (four_bytes c.loop-at-test.true c.known_end-end.ensures)
 
 pub four_steps-four-requires : goal.four_steps-four-requires
-four_steps-four-requires c = record { small_cells = small_cells c.requires.cached.ascii c.recall.ensures; rules_value = c.requires.rules_value; row_bound = (c.loop-at.invariant.small, four_bytes c.loop-at-test.true c.known_end-end.ensures, c.if-a-lt128.true) }
+four_steps-four-requires c = record { small_cells = small_cells c.requires.cached.ascii c.recall.ensures; row_bound = (c.loop-at.invariant.small, four_bytes c.loop-at-test.true c.known_end-end.ensures, c.if-a-lt128.true) }
 
 pub overflow_add-count : goal.overflow_add-count
 overflow_add-count c = omega (arith, (took c).few)
@@ -65,7 +65,7 @@ pub rule-step-requires : goal.rule-step-requires
 rule-step-requires c =
     let b = four_bytes c.loop-at-test.true c.known_end-end.ensures in
     let h = here_ascii c.args.image.now c.args.text.now c.args.cells.now c.loop-at.at (cell_for c.args.cells.now c.args.text.now c.loop-at.at) c.requires.cached.ascii (omega arith) c.if-a-lt128.true refl in
-    record { rules_value = c.requires.rules_value; row_lt_rule_rows = (omega (arith, c.loop-at.invariant.small), here_small c.recall.ensures h) }
+    (omega (arith, c.loop-at.invariant.small), here_small c.recall.ensures h)
 
 once : (c : goal.Else-step-ge-ODD)
     → let a = c.args in
@@ -98,7 +98,7 @@ pub known-traits-requires : goal.known-traits-requires
 known-traits-requires c = record { fits = (c.requires.cached.fits, c.if-index-lt-BLOCKS.false); at_in_bounds = search rules }
 
 pub rule-step-requires-then-a-lt224 : goal.rule-step-requires-then-a-lt224
-rule-step-requires-then-a-lt224 c = record { rules_value = c.requires.rules_value; row_lt_rule_rows = (omega (arith, c.loop-at.invariant.small), c.known-traits.ensures.small) }
+rule-step-requires-then-a-lt224 c = (omega (arith, c.loop-at.invariant.small), c.known-traits.ensures.small)
 
 pub overflow_add-count-then-a-lt224 : goal.overflow_add-count-then-a-lt224
 overflow_add-count-then-a-lt224 c = omega (arith, (known (goal.at.overflow_add-count-then-a-lt224 c).In-loop-at c.known-traits.ensures c.rule-step-then-a-lt224.ensures c.if-step-ge-ODD-2.false).few)
@@ -116,7 +116,7 @@ pub known-traits-requires-then-a-lt240 : goal.known-traits-requires-then-a-lt240
 known-traits-requires-then-a-lt240 c = record { fits = (c.requires.cached.fits, c.if-index-lt-BLOCKS.false); at_in_bounds = search rules }
 
 pub rule-step-requires-then-a-lt240 : goal.rule-step-requires-then-a-lt240
-rule-step-requires-then-a-lt240 c = record { rules_value = c.requires.rules_value; row_lt_rule_rows = (omega (arith, c.loop-at.invariant.small), c.known-traits-then-a-lt240.ensures.small) }
+rule-step-requires-then-a-lt240 c = (omega (arith, c.loop-at.invariant.small), c.known-traits-then-a-lt240.ensures.small)
 
 pub overflow_add-count-then-a-lt240 : goal.overflow_add-count-then-a-lt240
 overflow_add-count-then-a-lt240 c = omega (arith, (known (goal.at.overflow_add-count-then-a-lt240 c).In-loop-at c.known-traits-then-a-lt240.ensures c.rule-step-then-a-lt240.ensures c.if-step-ge-ODD-3.false).few)
@@ -134,7 +134,7 @@ pub known-traits-requires-in-loop-at : goal.known-traits-requires-in-loop-at
 known-traits-requires-in-loop-at c = record { fits = (c.requires.cached.fits, c.if-index-lt-BLOCKS.false); at_in_bounds = search rules }
 
 pub rule-step-requires-in-loop-at : goal.rule-step-requires-in-loop-at
-rule-step-requires-in-loop-at c = record { rules_value = c.requires.rules_value; row_lt_rule_rows = (omega (arith, c.loop-at.invariant.small), c.known-traits-in-loop-at.ensures.small) }
+rule-step-requires-in-loop-at c = (omega (arith, c.loop-at.invariant.small), c.known-traits-in-loop-at.ensures.small)
 
 pub overflow_add-count-in-loop-at : goal.overflow_add-count-in-loop-at
 overflow_add-count-in-loop-at c = omega (arith, (known (goal.at.overflow_add-count-in-loop-at c).In-loop-at c.known-traits-in-loop-at.ensures c.rule-step-in-loop-at.ensures c.if-step-ge-ODD-4.false).few)
@@ -149,7 +149,7 @@ pub loop-at-preserved : goal.loop-at-preserved
 loop-at-preserved c = (known (goal.at.loop-at-preserved c).In-loop-at c.known-traits-in-loop-at.ensures c.rule-step-in-loop-at.ensures c.if-step-ge-ODD-4.false).next
 
 pub rule-requires : goal.rule-requires
-rule-requires c = record { rules_value = c.requires.rules_value; row_lt_rule_rows = (omega arith, c.loop-at.invariant.small) }
+rule-requires c = (omega arith, c.loop-at.invariant.small)
 
 pub overflow_cast-result : goal.overflow_cast-result
 overflow_cast-result c = omega (arith, c.rule.ensures ∙ rule_state _, c.loop-at.invariant.counting.less)

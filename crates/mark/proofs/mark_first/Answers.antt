@@ -7,7 +7,7 @@ use Rattle.mark.proofs.MarkLaws.{marks_first}
 use Rattle.mark.proofs.mark_first.Goals as goal
 
 pub look-requires : goal.look-requires
-look-requires c = record { token_table_of = c.requires.learning.cached.ascii; rules_value = c.requires.rules_value; counting_as = record { start = 0; counting = (c.begin-first.ensures.0 _).0; memo = (c.begin-first.ensures.0 _).1 }; at_in_bounds = omega (arith, c.begin-first.ensures.2, c.requires.text_nonzero.0) }
+look-requires c = record { token_table_of = c.requires.learning.cached.ascii; counting_as = record { start = 0; counting = (c.begin-first.ensures.0 _).0; memo = (c.begin-first.ensures.0 _).1 }; at_in_bounds = omega (arith, c.begin-first.ensures.2, c.requires.text_nonzero.0) }
 
 pub returns-in_err-next : goal.returns-in_err-next
 returns-in_err-next c =
@@ -15,7 +15,7 @@ returns-in_err-next c =
     rw (p.1, p.2) (record { marked = (c.in_err-next.ensures, refl); learning_on = tt })
 
 pub put_start-requires : goal.put_start-requires
-put_start-requires c = record { rules_value = c.requires.rules_value; i_in_bounds = (omega (arith, c.requires.margin_in_bounds), omega arith, (c.in_ok-next.ensures.counting 0 (c.begin-first.ensures.0 _).0).less) }
+put_start-requires c = (omega (arith, c.requires.margin_in_bounds), omega arith, (c.in_ok-next.ensures.counting 0 (c.begin-first.ensures.0 _).0).less)
 
 pub learn_at-rows-requires : goal.learn_at-rows-requires
 learn_at-rows-requires c = record { fits = c.requires.learning.cached.fits; at_in_bounds = c.requires.text_nonzero.0 }
@@ -24,7 +24,6 @@ pub mark_on-requires : goal.mark_on-requires
 mark_on-requires c =
     record {
       learning = c.learn_at-rows.ensures.by_index _ c.recall.ensures c.in_ok-next.ensures.memo c.requires.learning;
-      rules_value = c.requires.rules_value;
       text_len_bound = c.requires.text_nonzero.1;
       marking = marks_first c.args.starts.now _ (c.begin-first.ensures.0 _).0 c.begin-first.ensures.3 c.begin-first.ensures.4 c.in_ok-next.ensures c.requires.margin_in_bounds c.put_start.ensures;
     }

@@ -12,7 +12,7 @@ pub loop-run-init : goal.loop-run-init
 loop-run-init c = (c.requires.marking, c.requires.learning, refl, refl, refl)
 
 pub run_mark-run-requires : goal.run_mark-run-requires
-run_mark-run-requires c = record { cached = c.loop-run.invariant.1.cached; rules_value = c.requires.rules_value; text_len_bound = c.requires.text_len_bound; marking = c.loop-run.invariant.0 }
+run_mark-run-requires c = record { cached = c.loop-run.invariant.1.cached; text_len_bound = c.requires.text_len_bound; marking = c.loop-run.invariant.0 }
 
 pub overflow_sub-run : goal.overflow_sub-run
 overflow_sub-run c = omega (arith, c.run_mark-run.ensures.0.from)
@@ -21,7 +21,7 @@ pub overflow_add-run : goal.overflow_add-run
 overflow_add-run c = omega (arith, counting_few c.run_mark-run.ensures.0.counting.counting, c.requires.text_len_bound)
 
 pub look-requires : goal.look-requires
-look-requires c = record { token_table_of = c.loop-run.invariant.1.cached.ascii; rules_value = c.requires.rules_value; counting_as = c.run_mark-run.ensures.0.counting; at_in_bounds = c.if-text-run.false }
+look-requires c = record { token_table_of = c.loop-run.invariant.1.cached.ascii; counting_as = c.run_mark-run.ensures.0.counting; at_in_bounds = c.if-text-run.false }
 
 pub returns-in_err-next : goal.returns-in_err-next
 returns-in_err-next c =
@@ -29,7 +29,7 @@ returns-in_err-next c =
     rw (p.1, p.2) (record { marked = (c.in_err-next.ensures, c.run_mark-run.ensures.4 ∙ c.loop-run.invariant.4); learning_on = tt })
 
 pub put_starts-requires : goal.put_starts-requires
-put_starts-requires c = record { rules_value = c.requires.rules_value; putting = putting c.run_mark-run.ensures.0 c.in_ok-next.ensures c.requires.text_len_bound }
+put_starts-requires c = record { putting = putting c.run_mark-run.ensures.0 c.in_ok-next.ensures c.requires.text_len_bound }
 
 pub learn_at-rows-requires : goal.learn_at-rows-requires
 learn_at-rows-requires c = record { fits = c.loop-run.invariant.1.cached.fits; at_in_bounds = c.if-text-run.false }

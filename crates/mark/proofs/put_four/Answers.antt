@@ -42,7 +42,7 @@ pub ascii_cell-t3-requires : goal.ascii_cell-t3-requires
 ascii_cell-t3-requires c = (c.requires.small_cells, c.requires.four_at.steps.fourth)
 
 pub rule-requires : goal.rule-requires
-rule-requires c = record { rules_value = c.requires.rules_value; row_lt_rule_rows = (omega (arith, c.requires.row_bound.0), c.ascii_cell-t0.ensures.1) }
+rule-requires c = (omega (arith, c.requires.row_bound.0), c.ascii_cell-t0.ensures.1)
 
 pub overflow_add-k1 : goal.overflow_add-k1
 overflow_add-k1 c =
@@ -51,7 +51,7 @@ overflow_add-k1 c =
     omega (arith, n0, d.few0, c.requires.row_bound.3, c.requires.row_bound.4)
 
 pub rule-requires-2 : goal.rule-requires-2
-rule-requires-2 c = record { rules_value = c.requires.rules_value; row_lt_rule_rows = (omega (arith, c.ascii_cell-t0.ensures.1), c.ascii_cell-t1.ensures.1) }
+rule-requires-2 c = (omega (arith, c.ascii_cell-t0.ensures.1), c.ascii_cell-t1.ensures.1)
 
 pub overflow_add-k2 : goal.overflow_add-k2
 overflow_add-k2 c =
@@ -61,7 +61,7 @@ overflow_add-k2 c =
     omega (arith, n0, d.few0, n1, d.few1, c.requires.row_bound.3, c.requires.row_bound.4)
 
 pub rule-requires-3 : goal.rule-requires-3
-rule-requires-3 c = record { rules_value = c.requires.rules_value; row_lt_rule_rows = (omega (arith, c.ascii_cell-t1.ensures.1), c.ascii_cell-t2.ensures.1) }
+rule-requires-3 c = (omega (arith, c.ascii_cell-t1.ensures.1), c.ascii_cell-t2.ensures.1)
 
 pub overflow_add-k3 : goal.overflow_add-k3
 overflow_add-k3 c =
@@ -72,7 +72,7 @@ overflow_add-k3 c =
     omega (arith, n0, d.few0, n1, d.few1, n2, d.few2, c.requires.row_bound.3, c.requires.row_bound.4)
 
 pub rule-requires-4 : goal.rule-requires-4
-rule-requires-4 c = record { rules_value = c.requires.rules_value; row_lt_rule_rows = (omega (arith, c.ascii_cell-t2.ensures.1), c.ascii_cell-t3.ensures.1) }
+rule-requires-4 c = (omega (arith, c.ascii_cell-t2.ensures.1), c.ascii_cell-t3.ensures.1)
 
 pub overflow_add-k4 : goal.overflow_add-k4
 overflow_add-k4 c =

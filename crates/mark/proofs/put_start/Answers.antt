@@ -8,7 +8,7 @@ use Rattle.mark.proofs.MarkLaws.{traits_small}
 use Rattle.mark.proofs.put_start.Goals as goal
 
 pub start_at-requires : goal.start_at-requires
-start_at-requires c = (c.requires.i_in_bounds.1, omega (arith, c.rule-traits.ensures ∙ rule_traits _, traits_small _ c.requires.i_in_bounds.2))
+start_at-requires c = (c.requires.1, omega (arith, c.rule-traits.ensures ∙ rule_traits _, traits_small _ c.requires.2))
 
 pub returns : goal.returns
 returns c = ap (set c.args.starts.now c.args.i) (c.start_at.ensures ∙ ap (λ (t : ℕ). 16 * c.args.at + t) (c.rule-traits.ensures ∙ rule_traits _))

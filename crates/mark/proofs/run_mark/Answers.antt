@@ -2,7 +2,6 @@
 use Prim.Native.Nat.{◌+◌, ◌-◌}
 use mathlib.Core.Path.{refl, ◌∙◌}
 use native.Mathlib.Omega.{arith}
-use borrow.Author.Rules.{rules}
 use lib.ListN.{length}
 use Rattle.turns.proofs.ReachLaws.{here_small}
 use Rattle.blocks.specs.Blocks.{FoundAt}
@@ -16,7 +15,7 @@ use Rattle.mark.proofs.run_mark.Goals as goal
 use Rattle.mark.proofs.run_mark.Goals.{Else-step-ge-ODD, Else-step-ge-ODD-2, Joined-a-lt224, Then-four-lt-ODD, then-a-lt224, else-a-lt224+then-a-lt240, else-a-lt224+else-a-lt240}
 
 pub row_of-row-requires : goal.row_of-row-requires
-row_of-row-requires c = record { rules_value = c.requires.rules_value; state_lt_count_states = c.requires.marking.counting.counting.less }
+row_of-row-requires c = c.requires.marking.counting.counting.less
 
 pub returns-then-row-ge-NO_ROW : goal.returns-then-row-ge-NO_ROW
 returns-then-row-ge-NO_ROW c = (c.requires.marking, omega arith, omega arith, refl, refl)
@@ -66,10 +65,10 @@ taken : (c : goal.Then-four-lt-ODD) → FourSteps c.args.cells.now c.args.text.n
 taken c = c.four_steps-four.ensures c.if-four-lt-ODD.true
 
 pub four_steps-four-requires : goal.four_steps-four-requires
-four_steps-four-requires c = record { small_cells = small_cells c.requires.cached.ascii c.recall.ensures; rules_value = c.requires.rules_value; row_bound = (c.loop-at.invariant.small, four_bytes c.loop-at-test.true c.known_end-end.ensures, c.if-a-lt128.true) }
+four_steps-four-requires c = record { small_cells = small_cells c.requires.cached.ascii c.recall.ensures; row_bound = (c.loop-at.invariant.small, four_bytes c.loop-at-test.true c.known_end-end.ensures, c.if-a-lt128.true) }
 
 pub put_four-k-requires : goal.put_four-k-requires
-put_four-k-requires c = record { small_cells = small_cells c.requires.cached.ascii c.recall.ensures; rules_value = c.requires.rules_value; four_at = record { number = _; steps = taken (goal.at.put_four-k-requires c).Then-four-lt-ODD }; row_bound = (c.loop-at.invariant.small, four_bytes c.loop-at-test.true c.known_end-end.ensures, c.loop-at.invariant.fits, omega (arith, c.loop-at.invariant.fits, counting_few c.loop-at.invariant.counting), omega (arith, c.if-starts-k.false)) }
+put_four-k-requires c = record { small_cells = small_cells c.requires.cached.ascii c.recall.ensures; four_at = record { number = _; steps = taken (goal.at.put_four-k-requires c).Then-four-lt-ODD }; row_bound = (c.loop-at.invariant.small, four_bytes c.loop-at-test.true c.known_end-end.ensures, c.loop-at.invariant.fits, omega (arith, c.loop-at.invariant.fits, counting_few c.loop-at.invariant.counting), omega (arith, c.if-starts-k.false)) }
 
 pub overflow_add-last : goal.overflow_add-last
 overflow_add-last c = omega (arith, four_bytes c.loop-at-test.true c.known_end-end.ensures)
@@ -97,7 +96,7 @@ pub rule-step-requires : goal.rule-step-requires
 rule-step-requires c =
     let b = four_bytes c.loop-at-test.true c.known_end-end.ensures in
     let h = here_ascii c.args.image.now c.args.text.now c.args.cells.now c.loop-at.at (cell_for c.args.cells.now c.args.text.now c.loop-at.at) c.requires.cached.ascii (omega arith) c.if-a-lt128.true refl in
-    record { rules_value = c.requires.rules_value; row_lt_rule_rows = (omega (arith, c.loop-at.invariant.small), here_small c.recall.ensures h) }
+    (omega (arith, c.loop-at.invariant.small), here_small c.recall.ensures h)
 
 pub start_at-requires : goal.start_at-requires
 start_at-requires c = let r = ascii c in (omega arith, r.small)
@@ -122,7 +121,7 @@ loop-at-preserved-then-a-lt128 c = (ascii (goal.at.loop-at-preserved-then-a-lt12
 
 -- more
 pub rule-step-requires-in-loop-at : goal.rule-step-requires-in-loop-at
-rule-step-requires-in-loop-at c = record { rules_value = c.requires.rules_value; row_lt_rule_rows = (omega (arith, c.loop-at.invariant.small), (found c).small) }
+rule-step-requires-in-loop-at c = (omega (arith, c.loop-at.invariant.small), (found c).small)
 
 pub start_at-requires-in-loop-at : goal.start_at-requires-in-loop-at
 start_at-requires-in-loop-at c = let r = more c (found (goal.at.start_at-requires-in-loop-at c).Joined-a-lt224) in (omega arith, r.small)
@@ -149,7 +148,7 @@ pub loop-at-preserved : goal.loop-at-preserved
 loop-at-preserved c = (more (goal.at.loop-at-preserved c).Else-step-ge-ODD-2 (found (goal.at.loop-at-preserved c).Joined-a-lt224)).next _ c.start_at-in-loop-at.ensures
 
 pub rule-requires : goal.rule-requires
-rule-requires c = record { rules_value = c.requires.rules_value; row_lt_rule_rows = (omega arith, c.loop-at.invariant.small) }
+rule-requires c = (omega arith, c.loop-at.invariant.small)
 
 pub overflow_cast-result : goal.overflow_cast-result
 overflow_cast-result c = omega (arith, c.rule.ensures ∙ rule_state _, c.loop-at.invariant.counting.less)

@@ -1,6 +1,6 @@
 -- `token::count_with` meets its contract. Assumes nothing.
 use Prim.Native.Nat.{ℕ}
-use mathlib.Core.Path.{◌≡◌, refl, sym, subst}
+use mathlib.Core.Path.{◌≡◌, sym, subst}
 use mathlib.Core.List.{List}
 use Rattle.blocks.specs.Blocks.{Learning}
 use Rattle.token.proofs.count_with.Goals as goal
@@ -13,6 +13,5 @@ count_on-requires c =
     let counting = c.begin-run.ensures.0 c.args.image.now in
     record {
       learning = learning_from c.begin-run.ensures.1 (c.begin-rows.ensures.0 c.args.index.now c.requires.blank.0);
-      rules_value = refl;
       counting_as = record { start = 0; counting = counting.0; memo = counting.1 };
     }

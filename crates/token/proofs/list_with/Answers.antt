@@ -1,5 +1,5 @@
 -- `token::list_with` meets its contract. Assumes nothing.
-use mathlib.Core.Path.{refl, sym, ◌∙◌}
+use mathlib.Core.Path.{sym, ◌∙◌}
 use native.Mathlib.Omega.{arith}
 use lib.ListN.{length}
 use borrow.Author.Tests.{leb-true, leb-false}
@@ -14,10 +14,10 @@ returns-then-text-eq0 c =
     let g = list_given c.args.image.now c.args.text.now c.args.out.now c.recall.ensures c.requires.text_len_bound e (omega arith) in record { value = g.0; out_after = none_written c.args.image.now c.args.text.now c.args.out.now (sym e) ∙ g.1 }
 
 pub mark_first-requires : goal.mark_first-requires
-mark_first-requires c = record { learning = c.begin-rows.ensures.0 c.args.index.now c.requires.blank.0; rules_value = refl; text_nonzero = (not_zero _ c.if-text-eq0.false, c.requires.text_len_bound); margin_in_bounds = omega (arith, c.requires.in_bounds) }
+mark_first-requires c = record { learning = c.begin-rows.ensures.0 c.args.index.now c.requires.blank.0; text_nonzero = (not_zero _ c.if-text-eq0.false, c.requires.text_len_bound); margin_in_bounds = omega (arith, c.requires.in_bounds) }
 
 pub count_on-requires : goal.count_on-requires
-count_on-requires c = record { learning = c.in_ok-run.ensures.learning_on; rules_value = refl; counting_as = c.in_ok-run.ensures.marked.0.marking.counting }
+count_on-requires c = record { learning = c.in_ok-run.ensures.learning_on; counting_as = c.in_ok-run.ensures.marked.0.marking.counting }
 
 pub returns-then-not-is_room : goal.returns-then-not-is_room
 returns-then-not-is_room c = let t = list_no_room _ _ _ c.recall.ensures c.requires.text_len_bound (sym c.in_ok-count.was ∙ c.count_on.ensures.value) (leb-false _ _ (sym c.is_room.ensures ∙ c.if-not-is_room.true)) in record { value = t.0; out_after = t.1 }

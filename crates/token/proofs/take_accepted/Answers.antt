@@ -12,7 +12,6 @@ use Rattle.character.specs.Traits.{token_traits}
 use Rattle.character.specs.Read.{TokenTableOf}
 use Rattle.turns.specs.declared.First.{First}
 use Rattle.turns.specs.First.{first_of}
-use Rattle.grammar.proofs.BeforeLaws.{nothing_refused}
 use Rattle.token.specs.Taken.{taken_of}
 use Rattle.token.proofs.TakenLaws.{taken_by, stops_ill, taken_past, taken_first, first_within}
 use Rattle.token.proofs.take_accepted.Goals as goal

@@ -3,7 +3,7 @@ use Prim.Native.Nat.{◌-◌}
 use mathlib.Core.Path.{refl}
 use native.Mathlib.Omega.{arith}
 use lib.ListN.{get_or, length-set}
-use Rattle.token.proofs.FillLaws.{filling_begins, filling_listing, filling_piece, filling_written, filling_moved, filling_next, filling_last, filling_ends, left_less, never_refused}
+use Rattle.token.proofs.FillLaws.{filling_begins, filling_listing, filling_piece, filling_written, filling_moved, filling_next, filling_last, filling_ends, left_less}
 use Rattle.token.proofs.write_all.Goals as goal
 
 pub are_plain-plain-requires : goal.are_plain-plain-requires
@@ -28,7 +28,7 @@ pub bounds-starts-0 : goal.bounds-starts-0
 bounds-starts-0 c = omega (arith, c.loop-run.invariant.0.long)
 
 pub mark_on-requires : goal.mark_on-requires
-mark_on-requires c = record { learning = c.loop-run.invariant.0.learning; rules_value = refl; text_len_bound = c.requires.listing.short; marking = filling_moved c.loop-run.invariant.0 _ _ c.put_records-from.ensures.wrote.0 c.put_records-from.ensures.wrote.1 c.put_records-from.ensures.written_to_2 }
+mark_on-requires c = record { learning = c.loop-run.invariant.0.learning; text_len_bound = c.requires.listing.short; marking = filling_moved c.loop-run.invariant.0 _ _ c.put_records-from.ensures.wrote.0 c.put_records-from.ensures.wrote.1 c.put_records-from.ensures.written_to_2 }
 
 pub loop-run-smaller : goal.loop-run-smaller
 loop-run-smaller c =
@@ -43,7 +43,7 @@ loop-run-preserved c =
     (f, omega arith, omega arith, omega (arith, length-set c.loop-run.starts 0 (get_or c.loop-run.starts (c.loop-run.run.count - c.loop-run.done) 0)))
 
 pub end_starts-n-requires : goal.end_starts-n-requires
-end_starts-n-requires c = record { rules_value = refl; text_len_bound = c.requires.listing.short; marking = c.loop-run.invariant.0.marking; text_len_bound_2 = c.loop-run-test.false }
+end_starts-n-requires c = record { text_len_bound = c.requires.listing.short; marking = c.loop-run.invariant.0.marking; text_len_bound_2 = c.loop-run-test.false }
 
 pub put_records-last-requires : goal.put_records-last-requires
 put_records-last-requires c = record { listing = filling_listing c.loop-run.invariant.0 c.requires.listing; plain = c.are_plain-plain.ensures; piece = filling_last c.loop-run.invariant.0 _ _ c.end_starts-n.ensures.ended; n_in_bounds = c.end_starts-n.ensures.upper_bound.0; written_to = filling_written c.loop-run.invariant.0 }

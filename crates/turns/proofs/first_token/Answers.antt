@@ -1,5 +1,5 @@
 -- `turns::first_token` meets its contract. Assumes nothing.
-use mathlib.Core.Path.{◌≡◌, refl, ◌∙◌}
+use mathlib.Core.Path.{◌≡◌, ◌∙◌}
 use native.Mathlib.Omega.{arith}
 use Rattle.turns.proofs.ReachLaws.{Here, here, here_small, Look, at_ill, at_end}
 use Rattle.turns.proofs.FirstTokenLaws.{searching_begins, searching_less, first_ill, first_nothing, first_last, searching_on, searching_waits, first_ends}
@@ -32,13 +32,13 @@ returns-else-at-eq0 c =
     c.end_first.ensures ∙ first_last c.loop-at.invariant.0 e c.if-at-eq0.false
 
 pub find_turn-requires : goal.find_turn-requires
-find_turn-requires c = record { turns_value = refl; state_lt_states = (searching_less c.loop-at.invariant.0, here_small c.recall.ensures (stands (goal.at.find_turn-requires c).Else-c-eq0)) }
+find_turn-requires c = (searching_less c.loop-at.invariant.0, here_small c.recall.ensures (stands (goal.at.find_turn-requires c).Else-c-eq0))
 
 pub state_after-state-requires : goal.state_after-state-requires
-state_after-state-requires c = record { after_value = refl; traits_bound = here_small c.recall.ensures (stands (goal.at.state_after-state-requires c).Else-c-eq0) }
+state_after-state-requires c = here_small c.recall.ensures (stands (goal.at.state_after-state-requires c).Else-c-eq0)
 
 pub waiting_after-state-requires : goal.waiting_after-state-requires
-waiting_after-state-requires c = record { waiting_value = refl; traits_bound = here_small c.recall.ensures (stands (goal.at.waiting_after-state-requires c).Else-c-eq0) }
+waiting_after-state-requires c = here_small c.recall.ensures (stands (goal.at.waiting_after-state-requires c).Else-c-eq0)
 
 pub returns-in_default : goal.returns-in_default
 returns-in_default c =

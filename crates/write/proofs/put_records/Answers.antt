@@ -3,7 +3,6 @@ use Prim.Native.Nat.{◌<◌}
 use mathlib.Core.Path.{sym, ◌∙◌}
 use native.Mathlib.Omega.{arith}
 use lib.ListN.{length-take, length-drop}
-use Rattle.turns.proofs.TableLaws.{after_at}
 use Rattle.write.proofs.WriteLaws.{going_next, turn_lined, turn_spans, turn_short, turn_room, turn_stays}
 use Rattle.write.proofs.put_records.Goals as goal
 use Rattle.write.proofs.put_records.Goals.{then-may_end_lines, else-may_end_lines}
@@ -18,8 +17,8 @@ pub loop-k-preserved : goal.loop-k-preserved
 loop-k-preserved c =
     let t : c.loop-k.k < c.args.n = c.loop-k-test.true in
     elim c.if-may_end_lines.branch [
-      | then-may_end_lines w ↦ rw w.line-is (going_next c.requires.listing c.requires.piece c.loop-k.invariant t (after_at _ (omega arith)) w.line_after-line.ensures _ c.put_record.ensures)
+      | then-may_end_lines w ↦ rw w.line-is (going_next c.requires.listing c.requires.piece c.loop-k.invariant t c.state_after-kind.ensures w.line_after-line.ensures _ c.put_record.ensures)
       | else-may_end_lines w ↦
-          let l = turn_stays c.requires.listing c.requires.piece c.loop-k.invariant t c.recall.ensures c.requires.plain (after_at _ (omega arith)) (sym c.may_end_lines.ensures ∙ w.if-may_end_lines.false) in
-          rw w.line-is (going_next c.requires.listing c.requires.piece c.loop-k.invariant t (after_at _ (omega arith)) l _ c.put_record.ensures)
+          let l = turn_stays c.requires.listing c.requires.piece c.loop-k.invariant t c.recall.ensures c.requires.plain c.state_after-kind.ensures (sym c.may_end_lines.ensures ∙ w.if-may_end_lines.false) in
+          rw w.line-is (going_next c.requires.listing c.requires.piece c.loop-k.invariant t c.state_after-kind.ensures l _ c.put_record.ensures)
     ]

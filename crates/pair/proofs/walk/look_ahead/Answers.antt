@@ -6,9 +6,6 @@ use Rattle.pair.proofs.walk.look_ahead.Goals as goal
 pub returns-then-n-i : goal.returns-then-n-i
 returns-then-n-i c = ends_ahead c.requires.walk c.requires.n_value c.requires.x_le_last_code_point (omega (arith, c.requires.n_value, c.if-n-i.true))
 
-pub record_at-r-requires : goal.record_at-r-requires
-record_at-r-requires c = omega (arith, c.requires.n_value, c.if-n-i.false)
-
 pub returns-then-x-r : goal.returns-then-x-r
 returns-then-x-r c = gap_ahead c.requires.walk c.requires.n_value c.requires.x_le_last_code_point (omega (arith, c.requires.n_value, c.if-n-i.false)) c.record_at-r.ensures c.if-x-r.true
 
