@@ -271,7 +271,6 @@ module _ {s text starts : List ℕ} {done : ℕ} {run next : Run} (m : Marking s
       let c = m.counting.counting in
       record {
         from = m.from;
-        least = l.least;
         room = m.room;
         fits = omega (arith, counting_few c);
         place = omega (arith, c.reached.place.within);
