@@ -33,9 +33,9 @@ fn comes_back(x: u32) -> bool
     requires { x ≤ 0x10FFFF }
 {
     let mut buffer = [0; 4];
-    let bytes = encode(x, &mut buffer);
+    let encoded = encode(x, &mut buffer).len();
     utf8::is_scalar(x)
-        && matches!(utf8::decode(bytes), Step::Scalar { code, len } if code == x && len == bytes.len())
+        && matches!(utf8::decode(&buffer), Step::Scalar { code, len } if code == x && len == encoded)
 }
 
 pub fn run(rt: &impl Print) -> io::Result<()> {

@@ -39,7 +39,6 @@ LearningOn s index cells r = IfOk r (λ run. Learning s index cells run.rows)
 -- the starts of what began between two runs are put: there is room, and the numbers are small
 pub record Putting (starts : List ℕ) (done : ℕ) (run next : Run) : Type 0 where
   pub from : done ≤ run.count
-  pub least : run.count ≤ next.count
   pub room : run.count - done + 2 < length starts
   pub fits : run.count ≤ max_text
   pub place : run.at ≤ max_text

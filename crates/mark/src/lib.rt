@@ -153,16 +153,21 @@ fn put_starts(starts: &mut [u32], done: usize, run: Run, next: Run)
     requires putting { Putting starts.old done run next }
     ensures { ((s text : List ℕ) → Marking s text starts.old done run → LookedOn s text run next → Started s text starts.new done (next.count - done + 1)) × (length starts.new ≡ length starts.old) }
 {
-    let k = run.count - done;
-    match next.count - run.count {
-        0 => {}
-        _ if run.state < WAITING => put_start(starts, k + 1, run.at, next.state),
-        1 => put_start(starts, k + 1, run.mid, next.state),
-        _ => {
-            put_start(starts, k + 1, run.mid, run.state - WAITING);
-            put_start(starts, k + 2, run.at, next.state);
-        }
+    // Tests in a row: which of the three it is depends on the state between two tests of the number.
+    if next.count == run.count {
+        return;
     }
+    let k = run.count - done;
+    if run.state < WAITING {
+        put_start(starts, k + 1, run.at, next.state);
+        return;
+    }
+    if next.count == run.count + 1 {
+        put_start(starts, k + 1, run.mid, next.state);
+        return;
+    }
+    put_start(starts, k + 1, run.mid, run.state - WAITING);
+    put_start(starts, k + 2, run.at, next.state);
 }
 
 // Marks on, to the text's end or until starts run out.

@@ -2,7 +2,7 @@
 #![tactic(auto)]
 
 ghost use Rattle.std.specs.Prelude.{◌≡◌};
-ghost use Rattle.part.specs.Part.{part_of, outcome_by};
+ghost use Rattle.part.specs.Part.{part_of, part_bytes, outcome_by};
 
 use refusal::Refusal;
 
@@ -11,4 +11,14 @@ pub fn part_of(text: &[u8], start: usize, end: usize) -> Result<&[u8], Refusal>
     ensures { outcome_by result ≡ part_of text.now start end }
 {
     text.get(start..end).ok_or(Refusal::Shape)
+}
+
+// The part; the empty part where that is refused.
+pub fn bytes(text: &[u8], start: usize, end: usize) -> &[u8]
+    ensures { result.now ≡ part_bytes text.now start end }
+{
+    match part_of(text, start, end) {
+        Ok(part) => part,
+        Err(_) => &[],
+    }
 }

@@ -36,7 +36,7 @@ const STARTS: usize = 1152;
 const CELLS: usize = 3840;
 
 // A token: its kind, its first byte, and one past its last.
-#[derive(Clone, Copy)]
+#[derive(Clone, Copy, Debug, PartialEq, Eq)]
 pub struct Token {
     pub kind: u32,
     pub start: usize,
