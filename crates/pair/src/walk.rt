@@ -86,7 +86,8 @@ pub struct Overlaps<'a> {
 }
 
 impl<'a> Overlaps<'a> {
-    // What begins at code point x in both images, where `a` and `b` began at x or before it. It ends where the first of the two does.
+    // What begins at code point x in both images, where `a` and `b` began at x or before it.
+    // It ends where the first of the two does.
     fn at(self, a: Ahead, b: Ahead, x: u32) -> Overlap
         requires ready { Ready self.older.now self.section x a }
         requires ready_2 { Ready self.newer.now self.section x b }
