@@ -63,6 +63,7 @@ fn list_section(overlaps: Overlaps, room: usize, out: &mut [u32]) -> usize
     let mut count: usize = 0;
     let mut at: usize = 0;
     let mut next = Some(overlaps.first());
+    // `while let`: an overlap tells the next. An iterator would need the list of them, which no definition has.
     while let Some(t) = next {
         if t.older.class != t.newer.class {
             if count < room {

@@ -50,7 +50,7 @@ pub struct Character {
     pub memo: Memo,
 }
 
-// A memo of no code point.
+// A memo of no code point, from 1 to 0: `MemoOf` holds of it under every image.
 pub fn no_memo() -> Memo
     ensures { (s : List ℕ) → MemoOf s result }
 {

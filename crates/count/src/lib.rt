@@ -53,10 +53,10 @@ const LINKS: usize = 6;
 
 const JOINS: usize = 7;
 
-// A step from here on is none.
+// A step from here on is none. A number, since four steps are added and tested at once (`four_steps`).
 pub const ODD: usize = 128;
 
-// States that have no row are told by this number.
+// States that have no row are told by this number: a row of RULES tells it, as the definitions have it.
 pub const NO_ROW: usize = 16;
 
 // The rules as rows of sixteen numbers, one for each of a character's traits, or for each state:
@@ -174,7 +174,7 @@ fn count_pending(state: u32) -> usize
 }
 
 // How far a count has come: the place, the state, the tokens that are complete, where the medial stands that waits, where the last mark
-// began that may be refused, the first that is, or the text's length, the first free row of the blocks, and the memo.
+// began that may be refused, the first that is, or the text's length (`CountingFrom` says it so), the first free row of the blocks, and the memo.
 #[derive(Clone, Copy, Debug, PartialEq, Eq)]
 pub struct Run {
     pub at: usize,

@@ -23,7 +23,7 @@ use grammar::{MAX_TEXT, RECORD_WORDS};
 use image::ClassImage;
 use refusal::Refusal;
 
-// The kind of a hashtag in its record.
+// The kind of a hashtag in its record: a word, as `hashtag_kind` has it.
 pub const HASHTAG_KIND: u32 = 6;
 
 // The signs that begin a hashtag.

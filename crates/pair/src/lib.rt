@@ -57,6 +57,7 @@ fn first_forbidden(older: &ClassImage, newer: &ClassImage) -> Option<u32>
         section: Section::Ranges,
     };
     let mut next = Some(overlaps.first());
+    // `while let`: an overlap tells the next. An iterator would need the list of them, which no definition has.
     while let Some(t) = next {
         if !is_permitted(t.older.class, t.newer.class) {
             return Some(t.first);

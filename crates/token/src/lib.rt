@@ -35,7 +35,7 @@ const STARTS: usize = 1152;
 // The cells of 60 rows.
 const CELLS: usize = 3840;
 
-// A token: its kind, its first byte, and one past its last.
+// A token: its kind as a record has it (`kind_number`), its first byte, and one past its last.
 #[derive(Clone, Copy, Debug, PartialEq, Eq)]
 pub struct Token {
     pub kind: u32,
@@ -144,6 +144,7 @@ fn write_all<'a>(
     };
     let mut done = 0;
     let mut from = Written { w: 0, line: 1 };
+    // `while`: each round goes on to where the starts run out.
     while run.at < text.len() {
         let n = run.count - done;
         from = write::put_records(image, text, starts, plain, out, total, n, from);
@@ -175,7 +176,7 @@ fn list_with<'a>(
     ensures out_after { out.new ≡ list_words image.now text.now out.old }
 {
     image.recall();
-    if text.len() == 0 {
+    if text.is_empty() {
         return Ok(0);
     }
     let rows = blocks::begin(image, cells);

@@ -48,7 +48,7 @@ static AFTER: [u32; 16] = [0, 1, 1, 2, 3, 0, 4, 5, 0, 1, 1, 2, 3, 0, 4, 5];
 // The state after a medial that waits, by its traits.
 static WAITING_AFTER: [u32; 16] = [6, 7, 6, 8, 9, 6, 10, 11, 6, 7, 6, 8, 9, 6, 10, 11];
 
-// What stands at the front of a text.
+// What stands at the front of a text. An enum of its own, since there are four answers.
 #[derive(Clone, Copy, Debug, PartialEq, Eq)]
 pub enum First {
     // Nothing: the text is empty.

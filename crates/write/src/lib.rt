@@ -11,7 +11,7 @@ ghost use Rattle.write.specs.Records.{Apart, Plain, Spans, Listing, Piece, Writt
 use grammar::RECORD_WORDS;
 use image::ClassImage;
 
-// The kind of line ends.
+// The kind of line ends, as a record has it.
 const LINE_ENDS: u32 = 4;
 
 const LINE_FEED: u8 = 0x0A;
