@@ -176,7 +176,7 @@ fn list_with<'a>(
     ensures out_after { out.new ≡ list_words image.now text.now out.old }
 {
     image.recall();
-    if text.is_empty() {
+    if text.len() == 0 {
         return Ok(0);
     }
     let rows = blocks::begin(image, cells);
