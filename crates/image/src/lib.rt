@@ -1,13 +1,13 @@
 // Class images: checking an image, and reading its ranges and its profile.
 #![tactic(auto)]
 
-ghost use Rattle.std.specs.Prelude.{◌≡◌, true, not, ◌&&◌, ◌||◌, ℕ, ◌+◌, ◌*◌, ◌≤◌, ltb, eqb, length};
+ghost use Rattle.std.specs.Prelude.{◌≡◌, true, not, ◌&&◌, ℕ, ◌+◌, ◌*◌, ◌≤◌, eqb, length};
 ghost use Rattle.std.proofs.Math.Option.{none};
 ghost use Rattle.lists.specs.Laid.{laid};
 ghost use Rattle.lists.specs.Each.{each};
 ghost use Rattle.image.specs.Word.{word_at};
-ghost use Rattle.image.specs.Limits.{max_ranges, max_entries, word_bytes, header_bytes, range_bytes, entry_bytes, words_per_range, first_surrogate, last_surrogate};
-ghost use Rattle.image.specs.Header.{version_of, total_of, range_count, range_offset, entry_offset, entries_at, image_end, length_right, header_right};
+ghost use Rattle.image.specs.Limits.{max_ranges, max_entries, word_bytes, header_bytes, range_bytes, words_per_range};
+ghost use Rattle.image.specs.Header.{total_of, range_offset, entry_offset, entries_at, image_end, length_right, header_right};
 ghost use Rattle.image.specs.Ranges.{range_at, range_words};
 ghost use Rattle.image.specs.Profile.{profile_of};
 ghost use Rattle.image.specs.Check.{refusal_of, accepted_of, refused_by, check_of, read_of, words_after};
@@ -174,7 +174,15 @@ impl<'a> ClassImage<'a> {
         ensures points_after { points.new ≡ (profile_of self.now).points }
         ensures roles_after { roles.new ≡ (profile_of self.now).roles }
     {
-        put_profile(self.bytes, points, roles)
+        let entries = ImageEntries::of(self.bytes);
+        *points = [0u32; MAX_ENTRIES];
+        *roles = [0u32; MAX_ENTRIES];
+        for i in 0..entries.count {
+            let entry = entries.get(i);
+            points[i] = entry.point;
+            roles[i] = entry.role;
+        }
+        entries.count
     }
 
     // Tells a proof that the image is accepted. It does nothing.
@@ -251,28 +259,6 @@ fn is_header_right(image: &[u8]) -> bool
         && n <= MAX_RANGES
         && m <= MAX_ENTRIES
         && are_offsets_right(image, n, m)
-}
-
-// Writes the profile of an accepted image into two arrays, with zeros past its entries, and gives their number.
-fn put_profile(
-    image: &[u8],
-    points: &mut [u32; MAX_ENTRIES],
-    roles: &mut [u32; MAX_ENTRIES],
-) -> usize
-    requires { refusal_of image.now ≡ none }
-    ensures value { result ≡ (profile_of image.now).used }
-    ensures points_after { points.new ≡ (profile_of image.now).points }
-    ensures roles_after { roles.new ≡ (profile_of image.now).roles }
-{
-    let entries = ImageEntries::of(image);
-    *points = [0u32; MAX_ENTRIES];
-    *roles = [0u32; MAX_ENTRIES];
-    for i in 0..entries.count {
-        let entry = entries.get(i);
-        points[i] = entry.point;
-        roles[i] = entry.role;
-    }
-    entries.count
 }
 
 // The answer of a refusal, with an empty profile.

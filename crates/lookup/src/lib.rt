@@ -2,8 +2,6 @@
 #![tactic(auto)]
 
 ghost use Rattle.std.specs.Prelude.{◌≡◌, ◌≤◌};
-ghost use Rattle.std.proofs.Math.Option.{none};
-ghost use Rattle.image.specs.Check.{refusal_of};
 ghost use Rattle.image.specs.Records.{record_at, record_count};
 ghost use Rattle.lookup.specs.Halving.{more, seek_of};
 ghost use Rattle.lookup.specs.Lookup.{lookup_of};

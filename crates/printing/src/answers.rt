@@ -1,5 +1,4 @@
 // What the two listers print: the lines of an answer, by the words that it comes with.
-ghost use Rattle.std.specs.Prelude.{◌≡◌, length};
 ghost use Rattle.printing.specs.Fits.{TokensFit, ChangesFit};
 
 use changes::{ENTRY_WORDS, Lists, RUN_WORDS};

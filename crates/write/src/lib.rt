@@ -1,7 +1,7 @@
 // Writing the records of a text's tokens from where they start, token by token, once the text is known to be accepted.
 #![tactic(auto)]
 
-ghost use Rattle.std.specs.Prelude.{◌≡◌, true, not, ◌||◌, ◌+◌, ◌*◌, ◌/◌, ◌≤◌, ◌<◌, eqb, length, EachIndex, slice_index};
+ghost use Rattle.std.specs.Prelude.{◌≡◌, true, not, ◌||◌, ◌+◌, ◌/◌, ◌≤◌, ◌<◌, eqb, length, EachIndex, slice_index};
 ghost use Rattle.line.specs.Line.{LineAt};
 ghost use Rattle.character.specs.Read.{TokenTableOf};
 ghost use Rattle.grammar.specs.Before.{max_text};

@@ -1,11 +1,11 @@
 // Writing a class image.
 #![tactic(auto)]
 
-ghost use Rattle.std.specs.Prelude.{◌≡◌, [], ◌∷◌, ◌+◌, ◌*◌, ◌%◌, ◌≤◌, ◌<◌, length};
+ghost use Rattle.std.specs.Prelude.{◌≡◌, ◌+◌, ◌*◌, ◌%◌, ◌≤◌, ◌<◌, length};
 ghost use Rattle.lists.specs.Laid.{laid};
 ghost use Rattle.lists.specs.Each.{each};
 ghost use Rattle.image.specs.Word.{bytes_of};
-ghost use Rattle.image.specs.Limits.{max_ranges, max_entries, word_bytes, entry_bytes, words_per_range};
+ghost use Rattle.image.specs.Limits.{max_ranges, word_bytes, entry_bytes, words_per_range};
 ghost use Rattle.image.specs.Ranges.{range_in};
 ghost use Rattle.image.specs.Profile.{profile_by};
 ghost use Rattle.image.specs.Header.{image_end};
