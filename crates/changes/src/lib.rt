@@ -54,6 +54,8 @@ fn put_change(out: &mut [u32], section: Section, t: Overlap)
 }
 
 // The number of changes in a section of two accepted images. The first `room` of them are written at the front of a buffer.
+// In line at each call, where the section is known, so that it isn't tested at each record (docs/SPEED.md, "Two images").
+#[inline(always)]
 fn list_section(overlaps: Overlaps, room: usize, out: &mut [u32]) -> usize
     requires { change_size overlaps.section * room ≤ length out.old }
     ensures value { result ≡ length (changes_of overlaps.entry.section overlaps.entry.older.now overlaps.entry.newer.now) }
@@ -79,6 +81,7 @@ fn list_section(overlaps: Overlaps, room: usize, out: &mut [u32]) -> usize
 
 // Judges the room for the changes in a section. Room for one less than twice the records is always enough: then the changes
 // are not counted.
+#[inline(always)]
 fn judge_room(overlaps: Overlaps, room: usize) -> Result<(), PairRefusal>
     ensures { result ≡ room_by room (length (changes_of overlaps.entry.section overlaps.entry.older.now overlaps.entry.newer.now)) }
 {

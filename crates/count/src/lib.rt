@@ -64,7 +64,7 @@ pub const NO_ROW: usize = 16;
 // 16 to 31, its turn, by the state;
 // then the state after a character with which a token goes on or begins and no mark is beside it, after a medial that waits, and after a
 // character that a step was told of; of each state a row of the steps, and traits of the token under way.
-static RULES: [u8; 592] = *b"\
+pub static RULES: [u8; 592] = *b"\
 \xff\x00\xff\x00\x00\xff\x00\x00\xff\x00\xff\xff\xff\xff\xff\xff\
 \xff\x00\x00\x01\x01\xff\x01\xff\x00\x00\x00\x00\x00\x00\x00\x00\
 \xff\x00\x00\x01\x01\xff\x01\xff\x00\x00\x00\x00\x00\x00\x00\x00\

@@ -19,6 +19,6 @@ pub fn bytes(text: &[u8], start: usize, end: usize) -> &[u8]
 {
     match part_of(text, start, end) {
         Ok(part) => part,
-        Err(_) => &[],
+        Err(_) => &text[..0],
     }
 }

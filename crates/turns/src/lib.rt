@@ -21,7 +21,7 @@ pub const WAITING: u32 = 6;
 // What a character does, by the state and its traits. No token is complete, since the one under way goes on or the first begins: GOES_ON.
 // The one under way is complete, and another begins: 1. A medial waits: WAITS. The one that waits is settled, and the character has
 // another turn after that: SETTLES. No token begins: any other.
-static TURNS: [u8; 192] = *b"\
+pub static TURNS: [u8; 192] = *b"\
 \x04\x00\x04\x00\x00\x04\x00\x00\x04\x00\x04\x00\x00\x04\x00\x00\
 \x04\x00\x00\x01\x01\x04\x01\x01\x02\x00\x00\x02\x02\x02\x02\x02\
 \x04\x01\x04\x01\x01\x04\x01\x01\x04\x01\x04\x01\x01\x04\x01\x01\
@@ -43,10 +43,10 @@ pub const WAITS: usize = 2;
 pub const SETTLES: usize = 3;
 
 // The state after a character, by its traits, where a token goes on or begins.
-static AFTER: [u32; 16] = [0, 1, 1, 2, 3, 0, 4, 5, 0, 1, 1, 2, 3, 0, 4, 5];
+pub static AFTER: [u32; 16] = [0, 1, 1, 2, 3, 0, 4, 5, 0, 1, 1, 2, 3, 0, 4, 5];
 
 // The state after a medial that waits, by its traits.
-static WAITING_AFTER: [u32; 16] = [6, 7, 6, 8, 9, 6, 10, 11, 6, 7, 6, 8, 9, 6, 10, 11];
+pub static WAITING_AFTER: [u32; 16] = [6, 7, 6, 8, 9, 6, 10, 11, 6, 7, 6, 8, 9, 6, 10, 11];
 
 // What stands at the front of a text. An enum of its own, since there are four answers.
 #[derive(Clone, Copy, Debug, PartialEq, Eq)]
