@@ -51,6 +51,8 @@ fn is_good<L: Records>(list: &L, i: usize) -> bool
 }
 
 // The index of the first bad record of a list.
+// Not in line: within `judge` its loops took up to twice the time (docs/SPEED.md, "Checking an image").
+#[inline(never)]
 pub fn first_bad<L: Records>(list: &L) -> Option<usize>
     ensures { result ≡ first_bad L.Item.good L.Item.after (L.item list.now) (L.size list.now) }
 {
