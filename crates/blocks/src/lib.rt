@@ -60,8 +60,7 @@ fn held(index: &[u8], cells: &[u8], block: usize, last: u8, len: usize) -> usize
 }
 
 // What is held of the sequence of LEN bytes at a place, 2, 3 or 4; 0: nothing. Of four, no block is held but of those that begin with F0.
-// The bytes that follow are tested before the first of four, as in the arm of three: so both arms share the tests.
-// No Option: 0 is what no cell of a sequence has, and the hot loops look it up as they do any other, with no test more.
+// No Option: 0 is what no cell of a sequence has. `mark` looks it up as it does any other, with no test more, and `count` stops at it.
 pub fn known<const LEN: usize>(index: &[u8], cells: &[u8], text: &[u8], at: usize) -> usize
     requires fits { Fits index.now cells.now × (block_count ≤ length index.now) }
     requires at_in_bounds { at + LEN ≤ length text.now }
@@ -76,11 +75,10 @@ pub fn known<const LEN: usize>(index: &[u8], cells: &[u8], text: &[u8], at: usiz
             let block = a as usize * BLOCK + b as usize - THREE_BYTES;
             held(index, cells, block, c, 3)
         }
-        &[a, b, c, d] if utf8::is_trail(b) && utf8::is_trail(c) && a == 0xF0 && utf8::is_trail(d) =>
-            {
-                let block = b as usize * BLOCK + c as usize - FOUR_BYTES;
-                held(index, cells, block, d, 4)
-            }
+        &[0xF0, b, c, d] if utf8::is_trail(b) && utf8::is_trail(c) && utf8::is_trail(d) => {
+            let block = b as usize * BLOCK + c as usize - FOUR_BYTES;
+            held(index, cells, block, d, 4)
+        }
         _ => 0,
     }
 }

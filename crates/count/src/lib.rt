@@ -353,10 +353,14 @@ fn run_count<'a>(
     let mut count = run.count;
     let mut last = run.mid;
     // A step over a character. Each length has its own: with one for all, where the length is a variable, counting Adlam takes 1.45 of the
-    // time and misses the goal of docs/SPEED.md.
+    // time and misses the goal of docs/SPEED.md. Traits of 0, which every row stops at, end the loop before the rule is looked up: so what
+    // isn't known has no part in the path of what is (docs/SPEED.md, "Letters of four bytes").
     macro_rules! step {
         ($traits:expr, $len:expr) => {
             let traits = $traits;
+            if traits == 0 {
+                break;
+            }
             let step = rule(row, traits);
             if ODD <= step {
                 break;

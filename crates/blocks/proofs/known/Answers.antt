@@ -24,12 +24,12 @@ returns-in-224-to-239 g c =
     let u = trail_at c.args.text.now c.args.at e 2 (omega arith) c.if-is_trail-3.ensures in
     found 2 l c.held-in-224-to-239.ensures (omega arith) (omega arith) (omega arith) refl (omega arith) (encodes_3 _ _ _ (omega arith, omega arith) (omega arith, omega arith) (omega arith, omega arith))
 
-pub returns-in-len4 : goal.returns-in-len4
-returns-in-len4 g c =
+pub returns-in-240 : goal.returns-in-240
+returns-in-240 g c =
     let e = c.args.at + g.row.LEN in
-    let l : g.row.LEN ≡ 4 = omega (arith, length-between c.args.text.now c.args.at e c.requires.at_in_bounds, c.in-len4.len_at_least, c.in-len4.len_below) in
+    let l : g.row.LEN ≡ 4 = omega (arith, length-between c.args.text.now c.args.at e c.requires.at_in_bounds, c.in-240.len_at_least, c.in-240.len_below) in
     let p = first_at c.args.text.now c.args.at e (omega arith) in
     let w = trail_at c.args.text.now c.args.at e 1 (omega arith) c.if-is_trail-4.ensures in
     let x = trail_at c.args.text.now c.args.at e 2 (omega arith) c.if-is_trail-5.ensures in
     let y = trail_at c.args.text.now c.args.at e 3 (omega arith) c.if-is_trail-6.ensures in
-    found 3 l c.held-in-len4.ensures (omega arith) (omega arith) (omega arith) refl (omega arith) (encodes_4 _ _ _ _ (omega arith, omega arith) (omega arith, omega arith) (omega arith, omega arith) (omega arith, omega arith))
+    found 3 l c.held-in-240.ensures (omega arith) (omega arith) (omega arith) refl (omega arith) (encodes_4 _ _ _ _ (omega arith, omega arith) (omega arith, omega arith) (omega arith, omega arith) (omega arith, omega arith))
